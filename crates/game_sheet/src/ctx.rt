@@ -1,0 +1,28 @@
+//! The context of a match: what the flow of turns and phases has come to.
+
+use crate::act::Outcome;
+use crate::ids::{PhaseId, Seat, StageId};
+use crate::list::List;
+
+/// What every viewer sees of a match besides the game's own state.
+#[derive(Drop)]
+pub struct Ctx {
+    /// How many seats the match has, 1 to 8.
+    pub seats: u8,
+    /// Which turn it is, counted over the whole match.
+    pub turn: u32,
+    /// The seat whose turn it is.
+    pub current: Seat,
+    /// The play order in force.
+    pub order: List<Seat>,
+    /// The place of the current seat in the play order.
+    pub pos: u8,
+    /// The phase, if any.
+    pub phase: Option<PhaseId>,
+    /// The active seats in rising order with their stages; none where the current seat alone may act.
+    pub active: Option<List<(Seat, Option<StageId>)>>,
+    /// How many counted moves the turn has had.
+    pub moves: u32,
+    /// How the match ended, if it has.
+    pub over: Option<Outcome>,
+}

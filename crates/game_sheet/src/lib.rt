@@ -1,0 +1,28 @@
+//! The vocabulary of a match: small types over memory, sheets, acts and the context that every player sees.
+#![tactic(auto)]
+
+mod act;
+mod args;
+mod bytes;
+mod ctx;
+mod event_queue;
+mod ids;
+mod key;
+mod list;
+mod match_name;
+mod memory;
+mod sheet;
+mod text;
+
+pub use act::{Act, Bye, Event, EventKind, Outcome};
+pub use args::Args;
+pub use bytes::Bytes;
+pub use ctx::Ctx;
+pub use event_queue::{Crowded, EventQueue};
+pub use ids::{MoveId, Number, PhaseId, Seat, SpecId, StageId};
+pub use key::Key;
+pub use list::List;
+pub use match_name::MatchName;
+pub use memory::NoMemory;
+pub use sheet::{MoveRow, Order, PhaseRow, Place, Sheet, SpecRow, StageRow, TurnRow};
+pub use text::Text;
