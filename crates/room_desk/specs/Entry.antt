@@ -1,0 +1,7 @@
+-- An entry of a history: which pass made a call, the call, and whether it was refused for want of memory.
+use Rattle.std.specs.Prelude.{ℕ, Bool}
+
+pub record Entry (C : Type 0) : Type 0 where
+  pub pass : ℕ
+  pub call : C
+  pub starved : Bool
