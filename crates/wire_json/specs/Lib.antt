@@ -1,0 +1,3 @@
+pub mod MatchText
+pub mod ReasonText
+pub mod ServerText

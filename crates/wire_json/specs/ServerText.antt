@@ -1,0 +1,32 @@
+-- The one text of each message to a client: the compact text of its object, members in byte order, and a newline.
+use Rattle.std.specs.Prelude.{ℕ, List, [], ◌∷◌, ◌++◌, Option, None, Some, codes}
+use Rattle.serde_json.specs.Data.{Data, null, number, string, object, unsigned, Members, member, no_members}
+use Rattle.serde_json.specs.Written.{compact_text}
+use Rattle.wire_json.specs.declared.server.ServerMsg.{ServerMsg}
+use Rattle.wire_json.specs.declared.server.ServerMsg.TheVariants.{Sync, Update, Ok, No}
+use Rattle.wire_json.specs.MatchText.{match_text}
+use Rattle.wire_json.specs.ReasonText.{reason_text}
+
+abbrev pub natural : ℕ → Data
+natural n = number (unsigned n)
+
+abbrev pub seat_or_null : Option ℕ → Data
+seat_or_null None = null
+seat_or_null (Some seat) = natural seat
+
+abbrev pub of_type : List ℕ → Members
+of_type name = member (codes "type") (string name) no_members
+
+-- the members of a message's object
+abbrev pub server_members : ServerMsg → Members
+server_members (Sync name seat snapshot) =
+    member (codes "match") (string (match_text name)) (member (codes "seat") (seat_or_null seat) (member (codes "snapshot") snapshot (of_type (codes "sync"))))
+server_members (Update ctx entry g at) =
+    member (codes "ctx") ctx (member (codes "entry") entry (member (codes "g") g (member (codes "number") (natural at) (of_type (codes "update")))))
+server_members (Ok at ticket) = member (codes "number") (natural at) (member (codes "ticket") (natural ticket) (of_type (codes "ok")))
+server_members (No at reason ticket) =
+    member (codes "number") (natural at) (member (codes "reason") (string (reason_text reason)) (member (codes "ticket") (natural ticket) (of_type (codes "no"))))
+
+-- the line of a message, newline included
+unfoldable pub text : ServerMsg → List ℕ
+text message = compact_text (object (server_members message)) ++ 10 ∷ []

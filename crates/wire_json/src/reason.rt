@@ -1,0 +1,38 @@
+//! Why an action is refused.
+
+/// The sixteen rules that an action may break, in the order in which they are tested.
+#[derive(Clone, Copy, PartialEq, Eq, Debug)]
+pub enum Reason {
+    /// The line names another match than the one that stands in the session's room.
+    NoMatch,
+    /// The session has no seat, or the line's key isn't the key of its seat.
+    Unauthorized,
+    /// The match has ended.
+    GameOver,
+    /// The match has taken as many actions as it may.
+    MatchFull,
+    /// An undo or redo by a seat that isn't the only one that may act.
+    CannotUndoNow,
+    /// The seat may not act.
+    NotActive,
+    /// The seat has no such move, the players no such event, or the sheet no such name.
+    UnknownMove,
+    /// The line was made for another state number.
+    WrongNumber,
+    /// No action of this turn is done.
+    NothingToUndo,
+    /// No action is undone.
+    NothingToRedo,
+    /// The action to be moved is another seat's.
+    NotYours,
+    /// The action may not be undone.
+    NotUndoable,
+    /// The game refuses the move, or the event has nothing to act on.
+    InvalidMove,
+    /// The least count of moves isn't reached.
+    TooEarly,
+    /// The action asks for too many random words.
+    TooManyWords,
+    /// The action leads to too many events.
+    TooManyEvents,
+}
