@@ -1,0 +1,4 @@
+pub mod Newlines
+pub mod Canonicals
+pub mod Rows
+pub mod LineLaws

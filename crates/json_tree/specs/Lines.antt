@@ -1,0 +1,52 @@
+-- When a line holds an object of the wire, and else which fault comes first.
+use Rattle.std.specs.Prelude.{◌≡◌, ◌≤◌, ℕ, List, [], ◌∷◌, length, false, nat_lt, if◌then◌else◌, Option, Some, None, Result, Ok, Err, IsUtf8}
+use Rattle.std.specs.Str.{is_utf8}
+use Rattle.serde_json.specs.Data.{Data, null, boolean, number, string, array, object, Members}
+use Rattle.serde_json.specs.Read.{read}
+use Rattle.serde_json.specs.View.{view}
+use Rattle.serde_json.specs.Written.{members_have_float}
+use Rattle.serde_json.specs.declared.value.Value.{Value}
+use Rattle.json_tree.specs.declared.lines.LineFault.{LineFault}
+use Rattle.json_tree.specs.declared.lines.LineFault.TheVariants.{TooLong, NotJson, NotObject, Float, NoMemory}
+
+abbrev pub newline : List ℕ
+newline = 10 ∷ []
+
+-- the line is within the bound, and `serde_json` reads it as this object, in which no number is a float
+pub record IsLineOf (bound : ℕ) (line : List ℕ) (ms : Members) : Type 0 where
+  pub short : length line ≤ bound
+  pub utf8 : IsUtf8 line
+  pub is : read line ≡ Some (object ms)
+  pub no_float : members_have_float ms ≡ false
+
+-- the same, of the data
+abbrev pub IsLine : ℕ → List ℕ → Data → Type 0
+IsLine bound line d = (ms : Members) × (d ≡ object ms) × IsLineOf bound line ms
+
+abbrev pub object_in : Data → Result Members LineFault
+object_in null = Err NotObject
+object_in (boolean b) = Err NotObject
+object_in (number n) = Err NotObject
+object_in (string s) = Err NotObject
+object_in (array ds) = Err NotObject
+object_in (object ms) = if members_have_float ms then Err Float else Ok ms
+
+abbrev pub object_read : Option Data → Result Members LineFault
+object_read None = Err NotJson
+object_read (Some d) = object_in d
+
+-- the members of the object that a line holds, or its first fault
+unfoldable pub line_read : ℕ → List ℕ → Result Members LineFault
+line_read bound line = if nat_lt bound (length line) then Err TooLong else (if is_utf8 line then object_read (read line) else Err NotJson)
+
+abbrev pub IsFaultOf : LineFault → Result Members LineFault → Type 0
+IsFaultOf TooLong read = read ≡ Err TooLong
+IsFaultOf NotJson read = read ≡ Err NotJson
+IsFaultOf NotObject read = read ≡ Err NotObject
+IsFaultOf Float read = read ≡ Err Float
+IsFaultOf NoMemory read = Unit {0}
+
+-- the answer is the members or the fault that was read, but for want of memory
+abbrev pub IsReadAs : Result Value LineFault → Result Members LineFault → Type 0
+IsReadAs (Ok v) read = (ms : Members) × (view v ≡ object ms) × (read ≡ Ok ms)
+IsReadAs (Err fault) read = IsFaultOf fault read
