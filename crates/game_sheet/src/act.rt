@@ -1,5 +1,7 @@
 //! What a player or a game may do, and how a match or a stream ends.
 
+ghost use Rattle.std.specs.Prelude.{◌≡◌};
+
 use crate::args::Args;
 use crate::ids::{MoveId, PhaseId, Seat, SpecId, StageId};
 
@@ -19,6 +21,23 @@ pub enum Act {
     Undo,
     /// Does the first undone action again.
     Redo,
+}
+
+impl Act {
+    /// An equal action.
+    pub fn copy(&self) -> Self
+        ensures { result ≡ self.now }
+    {
+        match self {
+            Act::Move { id, args } => Act::Move {
+                id: *id,
+                args: args.copy(),
+            },
+            Act::Event(event) => Act::Event(*event),
+            Act::Undo => Act::Undo,
+            Act::Redo => Act::Redo,
+        }
+    }
 }
 
 /// A change of turn, phase, stage or end that a game queues or a player asks for.

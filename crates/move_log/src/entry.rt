@@ -1,0 +1,106 @@
+//! One entry of the log, whole and as a viewer sees it.
+
+ghost use Rattle.std.specs.Prelude.{◌≡◌, IfOk};
+
+use game_sheet::{Act, Args, NoMemory, Number, PhaseId, Seat, Sheet};
+use std::alloc::Global;
+
+/// An accepted action of a match, with the state that it was made on.
+#[derive(Drop)]
+pub struct Entry {
+    /// Who acted.
+    pub seat: Seat,
+    /// What was done. The arguments are empty where they are hidden.
+    pub act: Act,
+    /// Whether the arguments are shown as null.
+    pub hidden: bool,
+    /// The state number before the action.
+    pub number: Number,
+    /// The turn before the action.
+    pub turn: u32,
+    /// The phase before the action, if any.
+    pub phase: Option<PhaseId>,
+    /// How many random words the action drew; 0 in what a viewer sees.
+    pub words: u32,
+}
+
+impl Entry {
+    ghost use Rattle.move_log.specs.Redact.{conceals, without_args, redact};
+
+    /// An equal entry.
+    pub fn copy(&self, _alloc: Global) -> Result<Entry, NoMemory>
+        ensures { IfOk result (λ e. e ≡ self.now) }
+    {
+        Ok(Entry {
+            seat: self.seat,
+            act: self.act.copy(),
+            hidden: self.hidden,
+            number: self.number,
+            turn: self.turn,
+            phase: self.phase,
+            words: self.words,
+        })
+    }
+
+    /// The entry as a viewer sees it: a seat, or a spectator where there is none.
+    ///
+    /// The count of words is 0. Another seat's move shows no arguments where its row on the sheet says `redact`.
+    pub fn redacted(
+        &self,
+        _alloc: Global,
+        sheet: &Sheet,
+        viewer: Option<Seat>,
+    ) -> Result<Entry, NoMemory>
+        ensures { IfOk result (λ e. e ≡ redact sheet.now viewer self.now) }
+    {
+        let concealed = self.is_concealed(sheet, viewer);
+        let act = if concealed {
+            self.bare_act()
+        } else {
+            self.act.copy()
+        };
+        Ok(Entry {
+            seat: self.seat,
+            act,
+            hidden: self.hidden || concealed,
+            number: self.number,
+            turn: self.turn,
+            phase: self.phase,
+            words: 0,
+        })
+    }
+
+    fn is_concealed(&self, sheet: &Sheet, viewer: Option<Seat>) -> bool
+        ensures { result ≡ conceals sheet.now viewer self.now }
+    {
+        if viewer == Some(self.seat) {
+            return false;
+        }
+        match &self.act {
+            Act::Move { id, .. } => match sheet.moves.get(id.place() as usize) {
+                Some(row) => row.redact,
+                None => false,
+            },
+            Act::Event(_) => false,
+            Act::Undo => false,
+            Act::Redo => false,
+        }
+    }
+
+    fn bare_act(&self) -> Act
+        ensures { result ≡ without_args self.now.act }
+    {
+        match &self.act {
+            Act::Move { id, .. } => Act::Move {
+                id: *id,
+                args: Args::new(),
+            },
+            Act::Event(event) => Act::Event(*event),
+            Act::Undo => Act::Undo,
+            Act::Redo => Act::Redo,
+        }
+    }
+}
+
+#[cfg(test)]
+mod tests;
