@@ -11,6 +11,7 @@ mod key;
 mod list;
 mod match_name;
 mod memory;
+mod refusal;
 mod sheet;
 mod text;
 
@@ -24,5 +25,6 @@ pub use key::Key;
 pub use list::List;
 pub use match_name::MatchName;
 pub use memory::NoMemory;
+pub use refusal::{GameNo, GameRule};
 pub use sheet::{MoveRow, Order, PhaseRow, Place, Sheet, SpecRow, StageRow, TurnRow};
 pub use text::Text;

@@ -1,0 +1,4 @@
+pub mod Gives
+pub mod InSheet
+pub mod Rules
+pub mod SheetFits

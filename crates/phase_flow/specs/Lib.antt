@@ -1,0 +1,4 @@
+pub mod Action
+pub mod Placed
+pub mod Settle
+pub mod Tells

@@ -1,0 +1,7 @@
+pub mod Accepted
+pub mod Fold
+pub mod Refuses
+pub mod Sound
+pub mod Standing
+pub mod Starts
+pub mod Steps

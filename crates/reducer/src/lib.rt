@@ -1,0 +1,8 @@
+//! The state of a match as the fold of its accepted actions: its start, and one action more.
+#![tactic(auto)]
+
+mod fold;
+mod state;
+
+pub use fold::{StartNo, start, step};
+pub use state::State;

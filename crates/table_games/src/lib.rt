@@ -1,0 +1,8 @@
+//! Games without secrets: their sheets, states and moves.
+#![tactic(auto)]
+
+mod board;
+mod tic_tac_toe;
+
+pub use board::Board;
+pub use tic_tac_toe::TicTacToe;

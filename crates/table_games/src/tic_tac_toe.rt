@@ -1,0 +1,109 @@
+//! Tic-tac-toe for two seats.
+
+ghost use Rattle.std.specs.Prelude.{◌≡◌, IfOk};
+ghost use Rattle.table_games.specs.Board.{clicks};
+ghost use Rattle.table_games.specs.TicTacToe.{fixed_sheet, tic_tac_toe};
+
+use crate::board::Board;
+use game_sheet::{
+    Args, Ctx, List, MoveId, MoveRow, NoMemory, Order, Outcome, Seat, Sheet, Text, TurnRow,
+};
+use game_trait::{Game, Halt};
+use serde_json::Value;
+use std::alloc::Global;
+
+/// The game, which holds its sheet.
+#[derive(Drop)]
+pub struct TicTacToe {
+    sheet: Sheet,
+    ghost fixed: { sheet ≡ fixed_sheet },
+}
+
+impl TicTacToe {
+    /// The game.
+    pub fn new(alloc: Global) -> Result<Self, NoMemory> {
+        let sheet = make_sheet(alloc)?;
+        Ok(TicTacToe { sheet })
+    }
+}
+
+impl Game for TicTacToe {
+    type G = Board;
+
+    ghost rules = { λ _. tic_tac_toe };
+
+    fn sheet(&self) -> &Sheet {
+        &self.sheet
+    }
+
+    fn setup(&self, alloc: Global, seats: u8) -> Result<Board, NoMemory> {
+        let _ = (alloc, seats);
+        Ok(Board::new())
+    }
+
+    fn play(
+        &self,
+        alloc: Global,
+        g: &Board,
+        ctx: &Ctx,
+        seat: Seat,
+        id: MoveId,
+        args: &Args,
+    ) -> Result<Board, Halt> {
+        clicks(g, seat, args.as_slice()).ok_or(Halt::Invalid)
+    }
+
+    fn end_if(&self, g: &Board, ctx: &Ctx) -> Option<Outcome> {
+        g.outcome()
+    }
+
+    fn to_value(&self, alloc: Global, g: &Board) -> Result<Value, NoMemory> {
+        let value = g.to_value(alloc)?;
+        Ok(value)
+    }
+
+    fn copy(&self, alloc: Global, g: &Board) -> Result<Board, NoMemory> {
+        Ok(g.copy())
+    }
+}
+
+/// The board after a click with these arguments; none where they aren't the place of one free cell.
+fn clicks(board: &Board, seat: Seat, args: &[i32]) -> Option<Board>
+    ensures { result ≡ clicks board.now seat args.now }
+{
+    match args {
+        [place] if *place >= 0 => board.click(seat, *place as usize),
+        _ => None,
+    }
+}
+
+/// The sheet: one move, which ends the turn.
+fn make_sheet(alloc: Global) -> Result<Sheet, NoMemory>
+    ensures { IfOk result (λ made. made ≡ fixed_sheet) }
+{
+    let mut moves = List::new(alloc);
+    moves.push(MoveRow {
+        name: Text::from_str(alloc, "clickCell")?,
+        redact: false,
+        client: true,
+        no_limit: false,
+        ignore_stale: false,
+    })?;
+    Ok(Sheet {
+        name: Text::from_str(alloc, "tic-tac-toe")?,
+        min_seats: 2,
+        max_seats: 2,
+        moves,
+        base: List::from_slice(alloc, &[MoveId::at(0)])?,
+        turn: TurnRow {
+            order: Order::Default,
+            min_moves: 1,
+            max_moves: Some(1),
+            active: None,
+        },
+        phases: List::new(alloc),
+        stages: List::new(alloc),
+        specs: List::new(alloc),
+        events: List::new(alloc),
+    })
+}
