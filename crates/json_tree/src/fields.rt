@@ -2,11 +2,11 @@
 ghost use Rattle.std.specs.Prelude.{◌≡◌, map};
 ghost use Rattle.std.specs.Result.{result_map_both};
 ghost use Rattle.serde_json.specs.Find.{get};
-ghost use Rattle.serde_json.specs.View.{view, items_view, members_view};
-ghost use Rattle.json_tree.specs.Fields.{text_in, whole_in, natural_in, list_in};
+ghost use Rattle.serde_json.specs.View.{view, number_view, items_view, members_view};
+ghost use Rattle.json_tree.specs.Fields.{text_in, list_in, number_in, whole_in, natural_in};
 ghost use Rattle.json_tree.specs.Names.{extra_in, has_extra, is_known as name_is_known};
 
-use serde_json::{Map, Value};
+use serde_json::{Map, Number, Value};
 
 /// Why a member couldn't be read.
 #[derive(Clone, Copy, Debug, PartialEq, Eq, Drop)]
@@ -32,20 +32,24 @@ pub fn text_of<'v>(value: &'v Value, name: &str) -> Result<&'v str, FieldFault>
     }
 }
 
-/// The whole number that the member holds, from `lo` to `hi`.
-pub fn whole_of(value: &Value, name: &str, lo: i64, hi: i64) -> Result<i64, FieldFault>
-    ensures { result ≡ whole_in lo hi (get name.now (view value.now)) }
+// The number that the member holds, where it is no float.
+fn whole_number_of<'v>(value: &'v Value, name: &str) -> Result<&'v Number, FieldFault>
+    ensures { result_map_both (λ number. number_view number.now) (λ fault. fault) result ≡ number_in (get name.now (view value.now)) }
 {
     let Some(member) = value.get(name) else {
         return Err(FieldFault::Missing);
     };
-    let Some(number) = member.as_number() else {
-        return Err(FieldFault::WrongKind);
-    };
-    if number.is_f64() {
-        return Err(FieldFault::WrongKind);
+    match member.as_number() {
+        Some(number) if !number.is_f64() => Ok(number),
+        _ => Err(FieldFault::WrongKind),
     }
-    match number.as_i64() {
+}
+
+/// The whole number that the member holds, from `lo` to `hi`.
+pub fn whole_of(value: &Value, name: &str, lo: i64, hi: i64) -> Result<i64, FieldFault>
+    ensures { result ≡ whole_in lo hi (get name.now (view value.now)) }
+{
+    match whole_number_of(value, name)?.as_i64() {
         Some(n) if lo <= n && n <= hi => Ok(n),
         _ => Err(FieldFault::OutOfRange),
     }
@@ -55,16 +59,7 @@ pub fn whole_of(value: &Value, name: &str, lo: i64, hi: i64) -> Result<i64, Fiel
 pub fn natural_of(value: &Value, name: &str, most: u64) -> Result<u64, FieldFault>
     ensures { result ≡ natural_in most (get name.now (view value.now)) }
 {
-    let Some(member) = value.get(name) else {
-        return Err(FieldFault::Missing);
-    };
-    let Some(number) = member.as_number() else {
-        return Err(FieldFault::WrongKind);
-    };
-    if number.is_f64() {
-        return Err(FieldFault::WrongKind);
-    }
-    match number.as_u64() {
+    match whole_number_of(value, name)?.as_u64() {
         Some(n) if n <= most => Ok(n),
         _ => Err(FieldFault::OutOfRange),
     }
