@@ -1,3 +1,4 @@
 pub mod MatchText
 pub mod ReasonText
 pub mod ServerText
+pub mod Resolve

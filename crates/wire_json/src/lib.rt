@@ -2,11 +2,15 @@
 #![tactic(auto)]
 
 mod asked;
+mod match_text;
 mod reason;
 mod server;
+mod server_write;
 mod verdict;
 
 pub use asked::{Asked, AskedTo};
+pub use match_text::text_of_match;
 pub use reason::Reason;
 pub use server::ServerMsg;
+pub use server_write::write_server;
 pub use verdict::Verdict;

@@ -36,3 +36,32 @@ pub enum Reason {
     /// The action leads to too many events.
     TooManyEvents,
 }
+
+impl Reason {
+    ghost use Rattle.std.specs.Prelude.{◌≡◌, codes};
+    ghost use Rattle.wire_json.specs.ReasonText.{reason_text};
+
+    /// The word that stands for it on the wire.
+    pub fn name(self) -> &'static str
+        ensures { result.now ≡ reason_text self }
+    {
+        match self {
+            Reason::NoMatch => "no-match",
+            Reason::Unauthorized => "unauthorized",
+            Reason::GameOver => "game-over",
+            Reason::MatchFull => "match-full",
+            Reason::CannotUndoNow => "cannot-undo-now",
+            Reason::NotActive => "not-active",
+            Reason::UnknownMove => "unknown-move",
+            Reason::WrongNumber => "wrong-number",
+            Reason::NothingToUndo => "nothing-to-undo",
+            Reason::NothingToRedo => "nothing-to-redo",
+            Reason::NotYours => "not-yours",
+            Reason::NotUndoable => "not-undoable",
+            Reason::InvalidMove => "invalid-move",
+            Reason::TooEarly => "too-early",
+            Reason::TooManyWords => "too-many-words",
+            Reason::TooManyEvents => "too-many-events",
+        }
+    }
+}

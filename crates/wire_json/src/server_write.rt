@@ -1,0 +1,111 @@
+//! Writes the messages to clients, one function for each row.
+
+ghost use Rattle.std.specs.Prelude.{◌≡◌, ◌≤◌, false, IfOk, Some, Option};
+ghost use Rattle.serde_json.specs.Data.{object};
+ghost use Rattle.serde_json.specs.View.{view};
+ghost use Rattle.serde_json.specs.Written.{has_float};
+ghost use Rattle.wire_json.specs.ReasonText.{reason_text};
+ghost use Rattle.wire_json.specs.ServerText.{text as server_text, server_members, seat_or_null};
+
+use crate::match_text::text_of_match;
+use crate::reason::Reason;
+use crate::server::ServerMsg;
+use game_sheet::{MatchName, NoMemory, Number, Seat};
+use json_tree::{Tree, line_of};
+use serde_json::{Value, json};
+use std::alloc::Global;
+
+/// The line of a message, with its newline.
+#[tactic(auto, unfolding(crate::specs::ServerText::text))]
+pub fn write_server(alloc: Global, message: &ServerMsg) -> Result<Vec<u8>, NoMemory>
+    ensures text { IfOk result (λ line. line.items ≡ server_text message.now) }
+{
+    let value = value_of(alloc, message)?;
+    match line_of(alloc, &value) {
+        Ok(line) => Ok(line),
+        Err(_) => Err(NoMemory),
+    }
+}
+
+fn value_of(alloc: Global, message: &ServerMsg) -> Result<Value, NoMemory>
+    ensures value { IfOk result (λ v. view v ≡ object (server_members message.now)) }
+    ensures no_float { IfOk result (λ v. has_float (view v) ≡ false) }
+{
+    match message {
+        ServerMsg::Sync {
+            name,
+            seat,
+            snapshot,
+        } => sync(alloc, name, *seat, snapshot),
+        ServerMsg::Update {
+            ctx,
+            entry,
+            g,
+            number,
+        } => update(alloc, ctx, entry, g, *number),
+        ServerMsg::Ok { number, ticket } => ok(alloc, *number, *ticket),
+        ServerMsg::No {
+            number,
+            reason,
+            ticket,
+        } => no(alloc, *number, *reason, *ticket),
+    }
+}
+
+fn sync(
+    alloc: Global,
+    name: &MatchName,
+    seat: Option<Seat>,
+    snapshot: &Tree,
+) -> Result<Value, NoMemory>
+    ensures value { IfOk result (λ v. view v ≡ object (server_members (ServerMsg.Sync name.now seat snapshot.now))) }
+    ensures no_float { IfOk result (λ v. has_float (view v) ≡ false) }
+{
+    let name = text_of_match(alloc, name)?;
+    let seat = seat_value(seat);
+    let value =
+        json!(in alloc; {"match": name.as_str(), "seat": seat, "snapshot": snapshot.value(), "type": "sync"})?;
+    Ok(value)
+}
+
+fn seat_value(seat: Option<Seat>) -> Value
+    ensures value { view result ≡ seat_or_null seat }
+    ensures no_float { has_float (seat_or_null seat) ≡ false }
+{
+    match seat {
+        None => Value::Null,
+        Some(seat) => Value::from(seat),
+    }
+}
+
+fn update(
+    alloc: Global,
+    ctx: &Tree,
+    entry: &Tree,
+    g: &Tree,
+    number: Number,
+) -> Result<Value, NoMemory>
+    ensures value { IfOk result (λ v. view v ≡ object (server_members (ServerMsg.Update ctx.now entry.now g.now number))) }
+    ensures no_float { IfOk result (λ v. has_float (view v) ≡ false) }
+{
+    let value =
+        json!(in alloc; {"ctx": ctx.value(), "entry": entry.value(), "g": g.value(), "number": number, "type": "update"})?;
+    Ok(value)
+}
+
+fn ok(alloc: Global, number: Number, ticket: u32) -> Result<Value, NoMemory>
+    ensures value { IfOk result (λ v. view v ≡ object (server_members (ServerMsg.Ok number ticket))) }
+    ensures no_float { IfOk result (λ v. has_float (view v) ≡ false) }
+{
+    let value = json!(in alloc; {"number": number, "ticket": ticket, "type": "ok"})?;
+    Ok(value)
+}
+
+fn no(alloc: Global, number: Number, reason: Reason, ticket: u32) -> Result<Value, NoMemory>
+    ensures value { IfOk result (λ v. view v ≡ object (server_members (ServerMsg.No number reason ticket))) }
+    ensures no_float { IfOk result (λ v. has_float (view v) ≡ false) }
+{
+    let value =
+        json!(in alloc; {"number": number, "reason": reason.name(), "ticket": ticket, "type": "no"})?;
+    Ok(value)
+}
