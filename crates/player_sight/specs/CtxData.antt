@@ -1,0 +1,45 @@
+-- The JSON value of a match's context. The active players are an object from each seat, in decimal, to its stage; of two
+-- rows of one seat the later counts.
+use Rattle.std.specs.Prelude.{ℕ, List, true, Option, Some, None, fold, codes, decimal}
+use Rattle.serde_json.specs.Data.{Data, null, boolean, object, Members, member, no_members, put}
+use Rattle.game_sheet.specs.declared.act.Outcome.{Outcome}
+use Rattle.game_sheet.specs.declared.act.Outcome.TheVariants.{Winner, Draw, Ended}
+use Rattle.game_sheet.specs.declared.ctx.Ctx.{Ctx}
+use Rattle.game_sheet.specs.declared.sheet.Sheet.{Sheet}
+use Rattle.player_sight.specs.Parts.{natural, naturals, phase_or_null, stage_or_null}
+
+abbrev pub with_row : Sheet → Members → ℕ × Option ℕ → Members
+with_row sheet ms row = put (decimal row.0) (stage_or_null sheet row.1) ms
+
+abbrev pub rows_members : Sheet → List (ℕ × Option ℕ) → Members
+rows_members sheet rows = fold (with_row sheet) no_members rows
+
+abbrev pub active_data : Sheet → Option (List (ℕ × Option ℕ)) → Data
+active_data sheet None = null
+active_data sheet (Some rows) = object (rows_members sheet rows)
+
+abbrev pub outcome_data : Outcome → Data
+outcome_data (Winner seat) = object (member (codes "winner") (natural seat) no_members)
+outcome_data Draw = object (member (codes "draw") (boolean true) no_members)
+outcome_data Ended = object (member (codes "ended") (boolean true) no_members)
+
+abbrev pub over_data : Option Outcome → Data
+over_data None = null
+over_data (Some outcome) = outcome_data outcome
+
+-- the value of a context, given those of its active players, end, phase and play order
+abbrev pub ctx_object : Data → Data → Data → Data → Ctx → Data
+ctx_object active over phase order ctx = object
+    (member (codes "activePlayers") active
+    (member (codes "currentPlayer") (natural ctx.current)
+    (member (codes "gameover") over
+    (member (codes "numMoves") (natural ctx.moves)
+    (member (codes "numPlayers") (natural ctx.seats)
+    (member (codes "phase") phase
+    (member (codes "playOrder") order
+    (member (codes "playOrderPos") (natural ctx.pos)
+    (member (codes "turn") (natural ctx.turn) no_members)))))))))
+
+abbrev pub ctx_data : Sheet → Ctx → Data
+ctx_data sheet ctx =
+    ctx_object (active_data sheet ctx.active) (over_data ctx.over) (phase_or_null sheet ctx.phase) (naturals ctx.order) ctx

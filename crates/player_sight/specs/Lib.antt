@@ -1,0 +1,4 @@
+pub mod Parts
+pub mod EntryData
+pub mod CtxData
+pub mod SnapshotData

@@ -1,0 +1,43 @@
+-- The small parts of the JSON values that a player is sent. A name that isn't on the sheet shows as null.
+use Rattle.std.specs.Prelude.{ℕ, ℤ, List, map, Option, Some, None, option_map, slice_get}
+use Rattle.serde_json.specs.Data.{Data, null, number, string, array, unsigned}
+use Rattle.serde_json.specs.Find.{of_integer}
+use Rattle.serde_json.specs.View.{items_of}
+use Rattle.game_sheet.specs.declared.sheet.Sheet.{Sheet}
+
+abbrev pub natural : ℕ → Data
+natural n = number (unsigned n)
+
+abbrev pub integer : ℤ → Data
+integer z = number (of_integer z)
+
+abbrev pub naturals : List ℕ → Data
+naturals ns = array (items_of (map natural ns))
+
+abbrev pub integers : List ℤ → Data
+integers zs = array (items_of (map integer zs))
+
+abbrev pub text_or_null : Option (List ℕ) → Data
+text_or_null None = null
+text_or_null (Some text) = string text
+
+abbrev pub natural_or_null : Option ℕ → Data
+natural_or_null None = null
+natural_or_null (Some n) = natural n
+
+abbrev pub move_name : Sheet → ℕ → Data
+move_name sheet id = text_or_null (option_map (λ row. row.name) (slice_get sheet.moves id))
+
+abbrev pub phase_name : Sheet → ℕ → Data
+phase_name sheet id = text_or_null (option_map (λ row. row.name) (slice_get sheet.phases id))
+
+abbrev pub stage_name : Sheet → ℕ → Data
+stage_name sheet id = text_or_null (option_map (λ row. row.name) (slice_get sheet.stages id))
+
+abbrev pub phase_or_null : Sheet → Option ℕ → Data
+phase_or_null sheet None = null
+phase_or_null sheet (Some id) = phase_name sheet id
+
+abbrev pub stage_or_null : Sheet → Option ℕ → Data
+stage_or_null sheet None = null
+stage_or_null sheet (Some id) = stage_name sheet id

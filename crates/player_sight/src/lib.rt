@@ -1,0 +1,12 @@
+//! What a player is shown of a match, and the JSON values that show it.
+#![tactic(auto)]
+
+mod context;
+mod entries;
+mod parts;
+
+pub use context::ctx_value;
+pub use entries::{entry_value, log_value};
+
+#[cfg(test)]
+mod tests;
