@@ -1,0 +1,9 @@
+pub mod Totals
+pub mod Seats
+pub mod Histories
+pub mod Draw
+pub mod Turn
+pub mod PassOn
+pub mod Parts
+pub mod Ends
+pub mod Closing
