@@ -62,3 +62,11 @@ module _ {C O : Type 0} where
   -- a seat between two calls of the pass of this number: without ticket, turn or slot
   abbrev pub Rests : ℕ → Me (Option O) (View C) → Type 0
   Rests number m = m ≡ (view (Some (noted m.0.object)) (past number (seen_in m.0.pasts) ∷ []) None false, [])
+
+  -- a seat of one pass, with this ticket
+  abbrev pub Waits : ℕ → Me (Option O) (View C) → Type 0
+  Waits ticket m = (t : ℕ) × (ticket ≡ t % 2 ^ 64) × (m ≡ (view (Some (noted m.0.object)) (past (number_in m.0.pasts) (seen_in m.0.pasts) ∷ []) (Some t) false, []))
+
+  -- A seat of one pass, which holds the turn. The object is out with it, and stands for the whole history with this entry on top, which is to be told.
+  abbrev pub Tells : (O → ℕ) → (O → List (Entry C) → Type 0) → Entry C → Me (Option O) (View C) → Type 0
+  Tells number stands_for e m = (o : O) × (m.0.object ≡ Some (number o)) × (number_in m.0.pasts ≡ e.pass) × (m.0.turn ≡ true) × (m.1 ≡ (0, Some o) ∷ []) × stands_for o (e ∷ seen_in m.0.pasts)

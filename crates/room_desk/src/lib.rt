@@ -4,6 +4,7 @@
 mod desk;
 mod object;
 mod pass;
+mod turn;
 mod turns;
 mod view;
 
