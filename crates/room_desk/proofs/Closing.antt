@@ -1,5 +1,5 @@
 -- What the rule gives where a desk is closed with all its passes.
-use Rattle.std.proofs.Common.{◌≡◌, ◌≢◌, ℕ, zero, suc, ◌+◌, ◌<◌, ◌≤◌, ◌⊎◌, Bool, true, false, cond, List, [], ◌∷◌, ◌++◌, map, length, get_or, filter, All, Any, Option, Some, None, refl, ap, sym, ◌∙◌, subst, inl, inr, ⊎_elim, arith, eqb, eq-eqb}
+use Rattle.std.proofs.Common.{◌≡◌, ◌≢◌, ℕ, zero, suc, ◌+◌, ◌-◌, ◌<◌, ◌≤◌, ◌⊎◌, Bool, true, false, cond, List, [], ◌∷◌, ◌++◌, map, take, length, get_or, append-nil, filter, All, Any, Option, Some, None, refl, ap, sym, ◌∙◌, subst, inl, inr, ⊎_elim, arith, eqb, eq-eqb}
 use mathlib.Core.Logic.{dite}
 use mathlib.Core.Option.{some, none, some-injective}
 use mathlib.Core.Option as maybe
@@ -7,9 +7,10 @@ use native.Mathlib.Decide.{ℕ_discrete}
 use lib.ListN.{get_elem?}
 use Rattle.atomic_table.specs.Table.{State, Final, Seen}
 use Rattle.room_desk.specs.Entry.{Entry}
-use Rattle.room_desk.specs.History.{Held, Unites, of_pass, Begins}
+use Rattle.room_desk.specs.History.{DeskId, Held, held, dealt, Unites, of_pass, Begins}
 use Rattle.room_desk.specs.Turns.{Past, View, Turns, Desked, Holder, Has, total, pasts_of, tickets_of, how_many, past, view}
-use Rattle.room_desk.proofs.Totals.{total_two, has_some}
+use Rattle.room_desk.specs.Plays.{United, past_of}
+use Rattle.room_desk.proofs.Totals.{total_two, has_some, has_first, has_second, has_either}
 use Rattle.room_desk.proofs.Seats.{at_once}
 use Rattle.room_desk.proofs.Draw.{opened}
 
@@ -40,6 +41,20 @@ module _ {A : Type 0} where
   has_map f [] y has = absurd has
   has_map f (x ∷ xs) y has = ⊎_elim (λ is. (x, inl refl, is)) (λ t. let h = has_map f xs y t in (h.0, inr h.1, h.2)) has
 
+  pub all_first : (P : A → Type 0) (l : List A) (x : A) → All P (l ++ x ∷ []) → All P l
+  all_first P l x all = all_has P l (λ y has. has_all P (l ++ x ∷ []) y all (has_first l (x ∷ []) y has))
+
+  pub all_last : (P : A → Type 0) (l : List A) (x : A) → All P (l ++ x ∷ []) → P x
+  all_last P l x all = has_all P (l ++ x ∷ []) x all (has_second l (x ∷ []) x (inl refl))
+
+  pub emptied : (l m : List A) (n : ℕ) → l ≡ m ++ [] → m ≡ take (n - 1) l → n ≡ 0 → l ≡ []
+  emptied l m n all rest_ none_ = let zero_is : n - 1 ≡ 0 = omega arith in all ∙ ap (λ k. k ++ []) (rest_ ∙ ap (λ k. take k l) zero_is)
+
+  -- the last of one list goes to the front of the next
+  pub moved_over : {B : Type 0} (f : A → B) (l : List A) (x : A) (ys : List B) → map f (l ++ x ∷ []) ++ ys ≡ map f l ++ (f x ∷ ys)
+  moved_over f [] x ys = refl
+  moved_over f (y ∷ l) x ys = ap (λ zs. f y ∷ zs) (moved_over f l x ys)
+
 module _ {C : Type 0} where
   either_way : (b : Bool) (x : Entry C) (l : List (Entry C)) → 0 < length l → 0 < length (cond b (x ∷ l) l)
   either_way true x l lt = omega arith
@@ -53,13 +68,13 @@ module _ {C : Type 0} where
         subst (λ b. 0 < length (cond b (x ∷ of_pass e.pass xs) (of_pass e.pass xs))) (sym same) (omega arith))
       (λ t. let more = own_there xs e t in either_way (eqb x.pass e.pass) x (of_pass e.pass xs) more) has
 
-  -- the history that these pasts have together
-  pub record United (pasts : List (Past C)) (h : List (Entry C)) : Type 0 where
-    pub each : (x : Past C) → Has pasts x → Begins h x.seen × (of_pass x.number h ≡ of_pass x.number x.seen)
-    pub no_others : (e : Entry C) → Has h e → (x : Past C) × Has pasts x × (x.number ≡ e.pass)
+  -- each pass that is dealt is of the desk
+  dealt_desk : (d : DeskId) (n : ℕ) (p : Held C) → Has (dealt {C = C} d n) p → p.desk ≡ d
+  dealt_desk d zero p has = absurd has
+  dealt_desk d (suc n) p has = ⊎_elim (dealt_desk d n p) (λ t. ⊎_elim (λ is. sym (ap (λ (q : Held C). q.desk) is)) (λ f. absurd f) t) (has_either (dealt d n) (held d n [] ∷ []) p has)
 
-  abbrev pub past_of : Held C → Past C
-  past_of p = past p.number p.seen
+  pub all_dealt : (d : DeskId) (n : ℕ) (l : List (Held C)) → l ≡ dealt d n → All (λ (p : Held C). p.desk ≡ d) l
+  all_dealt d n l is = subst (λ (m : List (Held C)). All (λ (p : Held C). p.desk ≡ d) m) (sym is) (all_has (λ (p : Held C). p.desk ≡ d) (dealt d n) (dealt_desk d n))
 
   pub unites : (passes : List (Held C)) (h : List (Entry C)) → United (map past_of passes) h → Unites passes h
   unites passes h u = record {

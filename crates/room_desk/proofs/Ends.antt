@@ -1,5 +1,5 @@
 -- Opening a desk keeps the rule; and what the rule gives where a desk is closed with all its passes.
-use Rattle.std.proofs.Common.{◌≡◌, ◌≢◌, ℕ, zero, suc, ◌+◌, ◌%◌, ◌^◌, ◌<◌, ◌≤◌, ◌⊎◌, Bool, true, false, List, [], ◌∷◌, ◌++◌, length, set, get_or, Option, Some, None, refl, ap, sym, ◌∙◌, subst, inl, inr, ⊎_elim, arith}
+use Rattle.std.proofs.Common.{◌≡◌, ◌≢◌, ℕ, zero, suc, ◌+◌, ◌-◌, ◌%◌, ◌^◌, ◌<◌, ◌≤◌, ◌⊎◌, Bool, true, false, List, [], ◌∷◌, ◌++◌, length, set, get_or, Option, Some, None, refl, ap, sym, ◌∙◌, subst, inl, inr, ⊎_elim, arith}
 use mathlib.Core.Logic.{dite}
 use mathlib.Core.Option.{some, none, some-injective}
 use mathlib.Core.Option as maybe
@@ -7,7 +7,7 @@ use native.Mathlib.Decide.{ℕ_discrete}
 use lib.ListN.{get_elem?}
 use Rattle.atomic_table.specs.Table.{State, Me, Allows, Final, Seen, step, stepped, takes, gives, put_back}
 use Rattle.room_desk.specs.Entry.{Entry}
-use Rattle.room_desk.specs.History.{of_pass, Begins}
+use Rattle.room_desk.specs.History.{DeskId, Held, held, dealt, of_pass, Begins}
 use Rattle.room_desk.specs.Turns.{Past, View, Fits, Turns, Desked, Unopened, Holder, Has, total, pasts_of, tickets_of, how_many, past, view, fresh, untold}
 use Rattle.room_desk.specs.Plays.{Reaches, Opens}
 use Rattle.room_desk.proofs.Totals.{only_one, only_place, total_two, total_part, has_some}
@@ -26,6 +26,15 @@ module _ {C : Type 0} where
   pub fresh_above : (k n : ℕ) (x : Past C) → Has (fresh {C = C} k n) x → k ≤ x.number
   fresh_above k zero x has = absurd has
   fresh_above k (suc n) x has = ⊎_elim (λ is. let same = ap (λ (y : Past C). y.number) is in omega arith) (λ t. let more = fresh_above (k + 1) n x t in omega arith) has
+
+  pub fresh_next : (k n : ℕ) → k < n → fresh {C = C} k (n - k) ≡ past k [] ∷ fresh (k + 1) (n - (k + 1))
+  fresh_next k n lt = let next : n - k ≡ suc (n - (k + 1)) = omega arith in ap (λ m. fresh {C = C} k m) next
+
+  pub fresh_apart : (k n : ℕ) (x : Past C) → Has (fresh {C = C} (k + 1) n) x → x.number ≢ k
+  fresh_apart k n x has is = let above = fresh_above (k + 1) n x has in omega arith
+
+  pub dealt_next : (d : DeskId) (k : ℕ) → dealt {C = C} d (k + 1) ≡ dealt d k ++ held d k [] ∷ []
+  dealt_next d k = let next : k + 1 ≡ suc k = omega arith in ap (λ m. dealt {C = C} d m) next
 
 module _ {C O : Type 0} (number : O → ℕ) (stands_for : O → List (Entry C) → Type 0) where
   -- no seat of an open desk has passes and no number of the object
@@ -89,3 +98,15 @@ module _ {C O : Type 0} (number : O → ℕ) (stands_for : O → List (Entry C) 
             (w, gives, tt, inr after, (o, refl, refl))))
         (λ g. absurd (unnamed count s id v g at refl (omega arith)))
         rule
+
+  -- the same, where the key and the seat are known to be these
+  pub reaches_at : (key count slots id : ℕ) (m : Me (Option O) (View C)) → key ≡ count → m ≡ (untold count, []) → 0 < count → Allows (Desked number stands_for key) slots id m 1 (λ n. n) (Reaches (step slots 1 0 0 none) m)
+  reaches_at key count slots id m key_is is some_pass =
+      subst (λ k. Allows (Desked number stands_for k) slots id m 1 (λ n. n) (Reaches (step slots 1 0 0 none) m)) (sym key_is)
+        (subst (λ (x : Me (Option O) (View C)). Allows (Desked number stands_for count) slots id x 1 (λ n. n) (Reaches (step slots 1 0 0 none) x)) (sym is) (reaches count slots id some_pass))
+
+  pub opens_at : (key count slots id : ℕ) (m : Me (Option O) (View C)) (o : O) → key ≡ count → m ≡ (view None (fresh 0 count) None true, (0, Some o) ∷ []) → 0 < count → stands_for o []
+      → Allows (Desked number stands_for key) slots id m 1 (λ n. (n + 0) % 2 ^ 64) (Opens number (step slots 1 0 0 none) m)
+  opens_at key count slots id m o key_is is some_pass stands =
+      subst (λ k. Allows (Desked number stands_for k) slots id m 1 (λ n. (n + 0) % 2 ^ 64) (Opens number (step slots 1 0 0 none) m)) (sym key_is)
+        (subst (λ (x : Me (Option O) (View C)). Allows (Desked number stands_for count) slots id x 1 (λ n. (n + 0) % 2 ^ 64) (Opens number (step slots 1 0 0 none) x)) (sym is) (opens count slots id o some_pass stands))

@@ -2,8 +2,8 @@
 use Rattle.std.specs.Prelude.{ℕ, ◌≡◌, ◌%◌, ◌^◌, ◌==◌, Bool, true, false, List, [], ◌∷◌, ◌++◌, Option, Some, None, MatchBool}
 use Rattle.atomic_table.specs.Table.{Me, Step}
 use Rattle.room_desk.specs.Entry.{Entry}
-use Rattle.room_desk.specs.History.{of_pass}
-use Rattle.room_desk.specs.Turns.{Past, View, past, view, number_in, seen_in}
+use Rattle.room_desk.specs.History.{Held, of_pass, Begins}
+use Rattle.room_desk.specs.Turns.{Past, View, Has, past, view, number_in, seen_in}
 
 -- the number that a seat noted
 abbrev pub noted : Option ℕ → ℕ
@@ -32,6 +32,15 @@ module _ {C : Type 0} where
 
   abbrev pub spent : View C
   spent = view None [] None false
+
+  -- what a pass is among the pasts of a seat
+  abbrev pub past_of : Held C → Past C
+  past_of p = past p.number p.seen
+
+  -- the history that these pasts have together
+  pub record United (pasts : List (Past C)) (h : List (Entry C)) : Type 0 where
+    pub each : (x : Past C) → Has pasts x → Begins h x.seen × (of_pass x.number h ≡ of_pass x.number x.seen)
+    pub no_others : (e : Entry C) → Has h e → (x : Past C) × Has pasts x × (x.number ≡ e.pass)
 
 module _ {C O : Type 0} where
   -- the empty slot is taken, to put the object in
