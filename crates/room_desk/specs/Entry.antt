@@ -5,3 +5,6 @@ pub record Entry (C : Type 0) : Type 0 where
   pub pass : ℕ
   pub call : C
   pub starved : Bool
+
+abbrev pub entry : {C : Type 0} → ℕ → C → Bool → Entry C
+entry pass call starved = record { pass = pass; call = call; starved = starved }

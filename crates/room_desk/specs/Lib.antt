@@ -1,1 +1,4 @@
 pub mod Entry
+pub mod History
+pub mod Turns
+pub mod Plays

@@ -1,0 +1,10 @@
+pub mod Totals
+pub mod Seats
+pub mod Histories
+pub mod Draw
+pub mod Trying
+pub mod PassOn
+pub mod Parts
+pub mod Ends
+pub mod Closing
+pub mod Calling

@@ -1,0 +1,52 @@
+-- One history for all passes of a desk: what a pass has seen of it, what a call adds to it, and what the passes have together.
+-- A history is the list of its entries, the latest first.
+use Rattle.std.specs.Prelude.{ℕ, ◌≡◌, ◌==◌, ◌+◌, zero, suc, List, [], ◌∷◌, ◌++◌, filter, All, Any}
+use Rattle.atomic_table.specs.Seated.{TableId}
+use Rattle.room_desk.specs.Entry.{Entry}
+
+-- which desk it is, and the number of its object
+pub record DeskId : Type 0 where
+  pub table : TableId
+  pub object : ℕ
+
+-- a desk: which it is, and how many passes it was set up with
+pub record SetUp : Type 0 where
+  pub desk : DeskId
+  pub passes : ℕ
+
+-- a pass: its desk, its number, and the history that it has seen
+pub record Held (C : Type 0) : Type 0 where
+  pub desk : DeskId
+  pub number : ℕ
+  pub seen : List (Entry C)
+
+abbrev pub held : {C : Type 0} → DeskId → ℕ → List (Entry C) → Held C
+held desk number seen = record { desk = desk; number = number; seen = seen }
+
+-- the passes of a new desk, numbered from 0, which have seen nothing
+abbrev pub dealt : {C : Type 0} → DeskId → ℕ → List (Held C)
+dealt desk zero = []
+dealt desk (suc n) = dealt desk n ++ held desk n [] ∷ []
+
+module _ {C : Type 0} where
+  -- the entries of one pass
+  abbrev pub of_pass : ℕ → List (Entry C) → List (Entry C)
+  of_pass number h = filter (λ e. e.pass == number) h
+
+  -- the history began as what was seen, and later entries came on top
+  abbrev pub Begins : List (Entry C) → List (Entry C) → Type 0
+  Begins h seen = (later : List (Entry C)) × (h ≡ later ++ seen)
+
+  -- A call, as an entry, by a pass that had seen this much. Entries came in between, none of them the pass's own, and then the call, which is the latest.
+  -- The reply is that of the object at this point.
+  pub record Called {R : Type 0} (reply : List (Entry C) → Entry C → R) (seen : List (Entry C)) (call : Entry C) (replied : R) (after : List (Entry C)) : Type 0 where
+    pub between : List (Entry C)
+    pub others : of_pass call.pass between ≡ []
+    pub ends : after ≡ call ∷ (between ++ seen)
+    pub answered : replied ≡ reply (between ++ seen) call
+
+  -- the history begins with what each pass had seen, has of each pass the calls that it made, each once, and has no others
+  pub record Unites (passes : List (Held C)) (h : List (Entry C)) : Type 0 where
+    pub begins : All (λ p. Begins h p.seen) passes
+    pub own : All (λ p. of_pass p.number h ≡ of_pass p.number p.seen) passes
+    pub no_others : All (λ e. Any (λ p. p.number ≡ e.pass) passes) h

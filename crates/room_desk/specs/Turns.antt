@@ -1,0 +1,110 @@
+-- What a desk's table keeps between any two steps: one history, the tickets that are out, and who may add to the history.
+use Rattle.std.specs.Prelude.{ℕ, zero, suc, ◌≡◌, ◌+◌, ◌%◌, ◌^◌, ◌<◌, ◌≤◌, ◌⊎◌, Bool, true, false, List, [], ◌∷◌, ◌++◌, length, Option, Some, None}
+use mathlib.Core.Option.{some, none}
+use mathlib.Core.Option as maybe
+use lib.ListN.{get_elem?}
+use Rattle.atomic_table.specs.Table.{State}
+use Rattle.room_desk.specs.Entry.{Entry}
+use Rattle.room_desk.specs.History.{of_pass, Begins}
+
+-- the number of a pass, and the history that was seen under it
+pub record Past (C : Type 0) : Type 0 where
+  pub number : ℕ
+  pub seen : List (Entry C)
+
+-- What a seat knows: the number of the object, once the desk is open; the pasts of the passes that it stands for;
+-- its ticket, if it has drawn one; and whether it holds the turn, so that the object's slot is out with it.
+pub record View (C : Type 0) : Type 0 where
+  pub object : Option ℕ
+  pub pasts : List (Past C)
+  pub ticket : Option ℕ
+  pub turn : Bool
+
+-- x is one of the list
+abbrev pub Has : {A : Type 0} → List A → A → Type 0
+Has [] x = ⊥
+Has (y ∷ ys) x = (y ≡ x) ⊎ Has ys x
+
+abbrev pub total : {A : Type 0} → (A → ℕ) → List A → ℕ
+total f [] = 0
+total f (x ∷ xs) = f x + total f xs
+
+abbrev pub how_many : Option ℕ → ℕ
+how_many None = 0
+how_many (Some ticket) = 1
+
+module _ {C : Type 0} where
+  abbrev pub past : ℕ → List (Entry C) → Past C
+  past number seen = record { number = number; seen = seen }
+
+  abbrev pub view : Option ℕ → List (Past C) → Option ℕ → Bool → View C
+  view object pasts ticket turn = record { object = object; pasts = pasts; ticket = ticket; turn = turn }
+
+  -- n passes that have seen nothing, numbered from k
+  abbrev pub fresh : ℕ → ℕ → List (Past C)
+  fresh k zero = []
+  fresh k (suc n) = past k [] ∷ fresh (k + 1) n
+
+  -- the first seat, before the desk is open
+  abbrev pub untold : ℕ → View C
+  untold count = view None (fresh 0 count) None false
+
+  abbrev pub pasts_of : View C → ℕ
+  pasts_of v = length v.pasts
+
+  abbrev pub tickets_of : View C → ℕ
+  tickets_of v = how_many v.ticket
+
+  -- of a seat that stands for one pass: its number, and what was seen under it
+  abbrev pub number_in : List (Past C) → ℕ
+  number_in [] = 0
+  number_in (x ∷ xs) = x.number
+
+  abbrev pub seen_in : List (Past C) → List (Entry C)
+  seen_in [] = []
+  seen_in (x ∷ xs) = x.seen
+
+  -- The seat j fits the history. The object's number is noted; each of its passes is at this seat alone, has seen a beginning of the history, and all of the pass's
+  -- entries are in what it has seen; a ticket is one that is out; and who holds the turn has the ticket that is next, and has seen the whole history.
+  pub record Fits (name : ℕ) (log : List (Entry C)) (drawn : ℕ) (seat_of : ℕ → ℕ) (j : ℕ) (v : View C) : Type 0 where
+    pub named : 0 < pasts_of v → v.object ≡ Some name
+    pub own : (x : Past C) → Has v.pasts x → (seat_of x.number ≡ j) × Begins log x.seen × (of_pass x.number log ≡ of_pass x.number x.seen)
+    pub ticket : (t : ℕ) → v.ticket ≡ Some t → (length log ≤ t) × (t < drawn)
+    pub owned : tickets_of v ≤ pasts_of v
+    pub turn : v.turn ≡ true → (v.ticket ≡ Some (length log)) × (v.pasts ≡ past (number_in v.pasts) log ∷ [])
+
+  -- the seat j has the pass number
+  abbrev pub Holder : List (View C) → ℕ → ℕ → Type 0
+  Holder views j number = (v : View C) × (get_elem? views j ≡ some v) × ((x : Past C) × Has v.pasts x × (x.number ≡ number))
+
+module _ {C O : Type 0} (number : O → ℕ) (stands_for : O → List (Entry C) → Type 0) where
+  -- nobody holds the turn: the slot is at home, and its object stands for the whole history
+  abbrev pub AtHome : ℕ → List (Entry C) → List (maybe.Option (Option O)) → List (View C) → Type 0
+  AtHome name log homes views = (o : O) × (homes ≡ some (Some o) ∷ []) × (number o ≡ name) × stands_for o log × ((j : ℕ) (v : View C) → get_elem? views j ≡ some v → v.turn ≡ false)
+
+  -- some seat holds the turn, and the slot is out with it
+  abbrev pub IsOut : List (maybe.Option (Option O)) → List (View C) → Type 0
+  IsOut homes views = (homes ≡ none ∷ []) × ((j : ℕ) × (v : View C) × (get_elem? views j ≡ some v) × (v.turn ≡ true))
+
+  -- An open desk of so many passes. Word 0 counts the tickets drawn, and word 1 the turns passed on, as many as the history has entries.
+  pub record Turns (count : ℕ) (s : State (Option O) (View C)) : Type 0 where
+    pub name : ℕ
+    pub log : List (Entry C)
+    pub drawn : ℕ
+    pub seat_of : ℕ → ℕ
+    pub words : s.words ≡ (drawn % 2 ^ 64) ∷ (length log % 2 ^ 64) ∷ []
+    pub pasts : total pasts_of s.views ≡ count
+    pub small : count ≤ 32
+    pub tickets : total tickets_of s.views + length log ≡ drawn
+    pub fits : (j : ℕ) (v : View C) → get_elem? s.views j ≡ some v → Fits name log drawn seat_of j v
+    pub apart : (i j : ℕ) (v w : View C) (t : ℕ) → get_elem? s.views i ≡ some v → get_elem? s.views j ≡ some w → v.ticket ≡ Some t → w.ticket ≡ Some t → i ≡ j
+    pub known : (p : ℕ) → (of_pass p log ≡ []) ⊎ Holder s.views (seat_of p) p
+    pub slot : AtHome name log s.homes s.views ⊎ IsOut s.homes s.views
+
+  -- a desk whose object isn't in its slot yet: there is one seat, and both words are 0
+  abbrev pub Unopened : ℕ → Bool → maybe.Option (Option O) → State (Option O) (View C) → Type 0
+  Unopened count taken home s = (s.words ≡ 0 ∷ 0 ∷ []) × (s.views ≡ view None (fresh 0 count) None taken ∷ []) × (s.homes ≡ home ∷ []) × (0 < count) × (count ≤ 32)
+
+  -- the rule: the desk isn't open, its slot being at home or taken to put the object in, or it is open
+  abbrev pub Desked : ℕ → State (Option O) (View C) → Type 0
+  Desked count s = (Unopened count false (some None) s ⊎ Unopened count true none s) ⊎ Turns count s

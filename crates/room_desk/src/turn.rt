@@ -1,0 +1,106 @@
+//! A call on a desk: a ticket, the turn, the call on the object, and the turn passed on.
+//!
+//! A thread whose turn hasn't come parks on the word that counts the turns passed on, and tries again when that word has changed. It runs for no
+//! time while it waits, so a program may have more threads than processors. Who passes the turn on wakes all that wait, since only one of them is next
+//! and a single wake could meet another; and it wakes nobody where no further ticket was drawn, so that a call that meets no other makes no system call.
+
+ghost use Rattle.std.specs.Prelude.{◌≡◌, ℕ, ◌∷◌, ◌++◌, ◌%◌, ◌^◌, [], Some, None, true, false};
+ghost use Rattle.room_desk.specs.Entry.{entry};
+ghost use Rattle.room_desk.specs.History.{Called, held};
+ghost use Rattle.room_desk.specs.Turns.{past, view, number_in, seen_in};
+ghost use Rattle.room_desk.specs.Plays.{noted, Rests, Takes, Waits, Tells};
+
+use crate::desk::Desk;
+use crate::object::Object;
+use crate::pass::Pass;
+use crate::turns::{Asked, Draw, PassOn, Said, Try};
+use crate::view::View;
+use atomic_table::Seat;
+use std::marker::Brand;
+use std::sync::Wait;
+
+impl<O: Object> Desk<O> {
+    /// Makes a call on the object, in this pass's turn. It may wait for other calls on this desk, and takes no memory of its own.
+    pub fn call<R: Wait>(&self, rt: &R, pass: &mut Pass<O>, call: O::Call) -> O::Reply
+        requires desk { pass.old.desk ≡ self.now.desk }
+        ensures pass { pass.new ≡ held pass.old.desk pass.old.number pass.new.seen }
+        ensures called { Called (O.reply pass.old.desk.object) pass.old.seen (entry pass.old.number call (O.is_starved result)) result pass.new.seen }
+        ensures fed { O.is_starved result ≡ true → O.may_starve call ≡ true }
+    {
+        let number = pass.number;
+        self.turn::<Brand, R>(rt, &mut pass.seat, number, call)
+    }
+
+    fn turn<J: Asked<O::Call>, R: Wait>(
+        &self,
+        rt: &R,
+        seat: &mut Seat<Option<O>, View<O::Call>>,
+        number: u32,
+        call: O::Call,
+    ) -> O::Reply
+        requires asked { J.asked ≡ call ∷ [] }
+        requires table { seat.old.table_id ≡ self.now.desk.table }
+        requires rests { Rests number seat.old.me }
+        ensures table { seat.new.table_id ≡ seat.old.table_id }
+        ensures rests { Rests number seat.new.me }
+        ensures object { noted seat.new.me.0.object ≡ noted seat.old.me.0.object }
+        ensures called { Called (O.reply (noted seat.old.me.0.object)) (seen_in seat.old.me.0.pasts) (entry number call (O.is_starved result)) result (seen_in seat.new.me.0.pasts) }
+        ensures fed { O.is_starved result ≡ true → O.may_starve call ≡ true }
+    {
+        let ticket = self.draw(seat, number);
+        self.wait(rt, seat, ticket);
+        let shared = &self.table.shared;
+        let mut object = shared.exchange(seat, 0, None).unwrap();
+        let reply = object.apply(number, call);
+        drop(shared.exchange(seat, 0, Some(object)));
+        self.pass_on::<Brand>(seat, number, &reply);
+        reply
+    }
+
+    /// Draws the next ticket.
+    fn draw(&self, seat: &mut Seat<Option<O>, View<O::Call>>, number: u32) -> u64
+        requires table { seat.old.table_id ≡ self.now.desk.table }
+        requires rests { Rests number seat.old.me }
+        ensures table { seat.new.table_id ≡ seat.old.table_id }
+        ensures drawn { (t : ℕ) × (result ≡ t % 2 ^ 64) × (seat.new.me ≡ (view (Some (noted seat.old.me.0.object)) (past number (seen_in seat.old.me.0.pasts) ∷ []) (Some t) false, [])) }
+    {
+        self.table.shared.fetch_add::<Draw>(seat, 0, 1)
+    }
+
+    /// Waits until the ticket is next, and takes the turn.
+    fn wait<R: Wait>(&self, rt: &R, seat: &mut Seat<Option<O>, View<O::Call>>, ticket: u64)
+        requires table { seat.old.table_id ≡ self.now.desk.table }
+        requires waits { Waits ticket seat.old.me }
+        ensures table { seat.new.table_id ≡ seat.old.table_id }
+        ensures taken { Takes O.number O.stands_for seat.old.me seat.new.me }
+    {
+        let shared = &self.table.shared;
+        for _ in rt.forever() {
+            let found = shared.compare_exchange::<Try>(seat, 1, ticket, ticket);
+            if found == ticket {
+                return;
+            }
+            shared.park(rt, 1, (found & 0xffff_ffff) as u32);
+        }
+        unreachable!()
+    }
+
+    /// Passes the turn on, and wakes who waits for it.
+    fn pass_on<J: Said<O::Call>>(
+        &self,
+        seat: &mut Seat<Option<O>, View<O::Call>>,
+        number: u32,
+        reply: &O::Reply,
+    )
+        requires table { seat.old.table_id ≡ self.now.desk.table }
+        requires tells { (c : O.Call) × (J.said ≡ entry number c (O.is_starved reply.now) ∷ []) × Tells O.number O.stands_for (entry number c (O.is_starved reply.now)) seat.old.me }
+        ensures table { seat.new.table_id ≡ seat.old.table_id }
+        ensures passed { seat.new.me ≡ (view seat.old.me.0.object (past number (J.said ++ seen_in seat.old.me.0.pasts) ∷ []) None false, []) }
+    {
+        let shared = &self.table.shared;
+        let turn = shared.fetch_add::<PassOn<J>>(seat, 1, 1);
+        if shared.peek(0) != turn.wrapping_add(1) {
+            shared.wake_all(1);
+        }
+    }
+}
