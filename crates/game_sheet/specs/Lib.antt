@@ -1,1 +1,2 @@
 pub mod MatchName
+pub mod SheetFits

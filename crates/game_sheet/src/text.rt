@@ -1,6 +1,7 @@
 //! A text of its own, which contracts see as its bytes.
 
 ghost use Rattle.std.specs.Prelude.{◌≡◌, ◌==◌, ◌↔◌, IsTrue, IfOk, string_bytes};
+ghost use Rattle.std.specs.Str.{bytes_eq};
 
 use crate::memory::NoMemory;
 use std::alloc::Global;
@@ -45,7 +46,8 @@ impl Text {
 
     /// Whether the text has exactly these bytes.
     pub fn is(&self, other: &str) -> bool
-        ensures { IsTrue result ↔ (self.now ≡ other.now) }
+        ensures same { IsTrue result ↔ (self.now ≡ other.now) }
+        ensures test { result ≡ bytes_eq self.now other.now }
     {
         self.text.as_str() == other
     }

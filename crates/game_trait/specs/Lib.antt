@@ -1,4 +1,3 @@
 pub mod Gives
 pub mod InSheet
 pub mod Rules
-pub mod SheetFits

@@ -5,7 +5,7 @@ ghost use Rattle.serde_json.specs.View.{view};
 ghost use Rattle.serde_json.specs.Written.{has_float};
 ghost use Rattle.game_trait.specs.Gives.{Gives};
 ghost use Rattle.game_trait.specs.Rules.{Rules};
-ghost use Rattle.game_trait.specs.SheetFits.{SheetFits};
+ghost use Rattle.game_sheet.specs.SheetFits.{SheetFits};
 
 use game_sheet::{Args, Ctx, MoveId, NoMemory, Outcome, Seat, Sheet};
 use serde_json::Value;

@@ -3,7 +3,7 @@ use Rattle.std.proofs.Common.{◌≡◌, ℕ, zero, suc, ◌+◌, ◌<◌, ◌�
 use Rattle.std.specs.List.{range_with_len}
 use Rattle.std.proofs.lemmas.List.FromFn.{length-range_with_len, get_or-range_with_len}
 use Rattle.game_sheet.specs.declared.sheet.Sheet.{Sheet}
-use Rattle.game_trait.specs.SheetFits.{SheetFits}
+use Rattle.game_sheet.specs.SheetFits.{SheetFits}
 use Rattle.phase_flow.specs.Action.{opening}
 use Rattle.phase_flow.specs.Placed.{IsPlaced}
 

@@ -2,7 +2,7 @@
 
 ghost use Rattle.std.specs.Prelude.{◌≡◌, ◌≤◌, IfOk};
 ghost use Rattle.std.specs.List.{range_with_len};
-ghost use Rattle.game_trait.specs.SheetFits.{SheetFits};
+ghost use Rattle.game_sheet.specs.SheetFits.{SheetFits};
 ghost use Rattle.phase_flow.specs.Action.{opening};
 ghost use Rattle.phase_flow.specs.Placed.{IsPlaced};
 

@@ -17,13 +17,13 @@ use Rattle.wire_json.specs.declared.asked.Asked.TheVariants as asked
 use Rattle.wire_json.specs.declared.asked.AskedTo.{AskedTo}
 use Rattle.wire_json.specs.declared.asked.AskedTo.TheVariants as to
 
-abbrev pub move_of : Sheet → List ℕ → Option ℕ
+unfoldable pub move_of : Sheet → List ℕ → Option ℕ
 move_of sheet name = position (λ (row : MoveRow). bytes_eq row.name name) sheet.moves
 
-abbrev pub phase_of : Sheet → List ℕ → Option ℕ
+unfoldable pub phase_of : Sheet → List ℕ → Option ℕ
 phase_of sheet name = position (λ (row : PhaseRow). bytes_eq row.name name) sheet.phases
 
-abbrev pub stage_of : Sheet → List ℕ → Option ℕ
+unfoldable pub stage_of : Sheet → List ℕ → Option ℕ
 stage_of sheet name = position (λ (row : StageRow). bytes_eq row.name name) sheet.stages
 
 -- the event of a kind that is aimed at this; none where the sheet has no such phase or stage
