@@ -1,4 +1,10 @@
 pub mod MatchText
+pub mod KeyText
 pub mod ReasonText
 pub mod ServerText
+pub mod Asking
+pub mod ClientText
+pub mod Refusals
+pub mod Acts
+pub mod ClientReading
 pub mod Resolve

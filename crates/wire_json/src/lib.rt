@@ -1,18 +1,28 @@
 //! The lines between clients and rooms: what each message is, and its one text.
 #![tactic(auto)]
 
+mod acts;
 mod asked;
+mod client;
+mod client_read;
+mod key_text;
 mod match_text;
+mod members;
 mod reason;
 mod names;
 mod server;
 mod server_write;
 mod verdict;
+mod wire_no;
 
 pub use asked::{Asked, AskedTo};
-pub use match_text::text_of_match;
+pub use client::ClientMsg;
+pub use client_read::{CLIENT_LINE, read_client};
+pub use key_text::{key_of, text_of_key};
+pub use match_text::{match_of, text_of_match};
 pub use reason::Reason;
 pub use names::resolve;
 pub use server::ServerMsg;
 pub use server_write::write_server;
 pub use verdict::Verdict;
+pub use wire_no::WireNo;

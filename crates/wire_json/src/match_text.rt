@@ -1,7 +1,9 @@
 //! The texts of match names.
 
 ghost use Rattle.std.specs.Prelude.{IfOk, ◌≡◌, string_bytes};
-ghost use Rattle.wire_json.specs.MatchText.{match_text};
+ghost use Rattle.std.specs.Char.{is_ascii_digit};
+ghost use Rattle.std.specs.List.{list_all};
+ghost use Rattle.wire_json.specs.MatchText.{match_text, match_from, number_from, begins_well as has_good_start, is_decimal as is_number};
 
 use game_sheet::{MatchName, NoMemory};
 use std::alloc::Global;
@@ -13,4 +15,55 @@ pub fn text_of_match(alloc: Global, name: &MatchName) -> Result<String, NoMemory
     let room = name.room();
     let serial = name.serial();
     Ok(format!(in alloc; "{room}-{serial}")?)
+}
+
+/// The match that a text names, where it is such a text.
+#[tactic(auto, unfolding(crate::specs::MatchText::match_from))]
+pub fn match_of(text: &str) -> Option<MatchName>
+    ensures { result ≡ match_from text.now }
+{
+    let Some((room, serial)) = text.split_once('-') else {
+        return None;
+    };
+    let room = number_of(room)?;
+    let serial = number_of(serial)?;
+    if room <= 63 && 1 <= serial {
+        Some(MatchName::new(room as u8, serial))
+    } else {
+        None
+    }
+}
+
+// The number that the text writes in decimal, without a sign or a leading zero.
+#[tactic(auto, using(crate::proofs::MatchTexts::number_parsed), unfolding(crate::specs::MatchText::number_from))]
+fn number_of(text: &str) -> Option<u64>
+    ensures { result ≡ number_from text.now }
+{
+    if is_decimal(text.as_bytes()) {
+        text.parse::<u64>().ok()
+    } else {
+        None
+    }
+}
+
+fn is_decimal(digits: &[u8]) -> bool
+    ensures { result ≡ is_number digits.now }
+{
+    begins_well(digits) && are_digits(digits)
+}
+
+fn are_digits(digits: &[u8]) -> bool
+    ensures { result ≡ list_all is_ascii_digit digits.now }
+{
+    digits.iter().all(|c| c.is_ascii_digit())
+}
+
+fn begins_well(digits: &[u8]) -> bool
+    ensures { result ≡ has_good_start digits.now }
+{
+    match digits {
+        [] => false,
+        [_] => true,
+        [first, ..] => *first != b'0',
+    }
 }

@@ -1,0 +1,3 @@
+pub mod MatchTexts
+pub mod KeyTexts
+pub mod Counting

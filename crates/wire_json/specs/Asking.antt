@@ -1,0 +1,71 @@
+-- The member `act` of a client's line: a move, an event, an undo or a redo, by names.
+use Rattle.std.specs.Prelude.{◌≡◌, ◌≤◌, ℕ, ℤ, pos, negsuc, List, [], ◌∷◌, length, map, Bool, true, ◌&&◌, int_le, codes}
+use Rattle.std.specs.List.{AllByRecursion}
+use Rattle.serde_json.specs.Data.{Data, null, number, string, array, object, unsigned, Items, no_items, item, Members, no_members, member}
+use Rattle.serde_json.specs.Find.{of_integer}
+use Rattle.game_sheet.specs.declared.act.EventKind.{EventKind}
+use Rattle.game_sheet.specs.declared.act.EventKind.TheVariants.{EndTurn, EndPhase, SetPhase, EndStage, SetStage, EndGame}
+use Rattle.wire_json.specs.declared.asked.Asked.{Asked}
+use Rattle.wire_json.specs.declared.asked.Asked.TheVariants.{Move, Event, Undo, Redo}
+use Rattle.wire_json.specs.declared.asked.AskedTo.{AskedTo}
+use Rattle.wire_json.specs.declared.asked.AskedTo.TheVariants.{Nothing, Seat, Name}
+
+abbrev pub integers : List ℤ → Items
+integers [] = no_items
+integers (z ∷ zs) = item (number (of_integer z)) (integers zs)
+
+abbrev pub event_text : EventKind → List ℕ
+event_text EndTurn = codes "endTurn"
+event_text EndPhase = codes "endPhase"
+event_text SetPhase = codes "setPhase"
+event_text EndStage = codes "endStage"
+event_text SetStage = codes "setStage"
+event_text EndGame = codes "endGame"
+
+abbrev pub aim : AskedTo → Data
+aim Nothing = null
+aim (Seat seat) = number (unsigned seat)
+aim (Name name) = string name
+
+abbrev pub asked_members : Asked → Members
+asked_members (Move name args) = member (codes "args") (array (integers args)) (member (codes "kind") (string (codes "move")) (member (codes "move") (string name) no_members))
+asked_members (Event kind to) = member (codes "event") (string (event_text kind)) (member (codes "kind") (string (codes "event")) (member (codes "to") (aim to) no_members))
+asked_members Undo = member (codes "kind") (string (codes "undo")) no_members
+asked_members Redo = member (codes "kind") (string (codes "redo")) no_members
+
+-- a whole number of 32 bits with sign
+abbrev pub is_argument : ℤ → Bool
+is_argument z = int_le (negsuc 2147483647) z && int_le z (pos 2147483647)
+
+abbrev pub AreArguments : List ℤ → Type 0
+AreArguments args = (length args ≤ 8) × AllByRecursion (λ z. is_argument z ≡ true) args
+
+abbrev pub IsWord : List ℕ → Type 0
+IsWord name = (1 ≤ length name) × (length name ≤ 32)
+
+-- what an event of a kind may be aimed at
+abbrev pub MayAim : EventKind → AskedTo → Type 0
+MayAim EndTurn Nothing = Unit {0}
+MayAim EndTurn (Seat seat) = seat ≤ 255
+MayAim EndTurn (Name name) = ⊥
+MayAim EndPhase Nothing = Unit {0}
+MayAim EndPhase (Seat seat) = ⊥
+MayAim EndPhase (Name name) = ⊥
+MayAim SetPhase Nothing = ⊥
+MayAim SetPhase (Seat seat) = ⊥
+MayAim SetPhase (Name name) = IsWord name
+MayAim EndStage Nothing = Unit {0}
+MayAim EndStage (Seat seat) = ⊥
+MayAim EndStage (Name name) = ⊥
+MayAim SetStage Nothing = ⊥
+MayAim SetStage (Seat seat) = ⊥
+MayAim SetStage (Name name) = IsWord name
+MayAim EndGame Nothing = Unit {0}
+MayAim EndGame (Seat seat) = ⊥
+MayAim EndGame (Name name) = ⊥
+
+abbrev pub AskedFits : Asked → Type 0
+AskedFits (Move name args) = IsWord name × AreArguments args
+AskedFits (Event kind to) = MayAim kind to
+AskedFits Undo = Unit {0}
+AskedFits Redo = Unit {0}

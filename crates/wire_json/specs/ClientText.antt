@@ -1,0 +1,44 @@
+-- The lines from clients: which object each message is, and when a line is a form of it.
+use Rattle.std.specs.Prelude.{◌≤◌, ◌<◌, ◌^◌, ℕ, List, ◌++◌, Option, Some, None, codes}
+use Rattle.serde_json.specs.Data.{Data, null, number, string, object, unsigned, Members, no_members, member}
+use Rattle.serde_json.specs.Written.{compact_text}
+use Rattle.hex.specs.Hex.{encode_lower}
+use Rattle.json_tree.specs.Lines.{IsLineOf, newline}
+use Rattle.wire_json.specs.MatchText.{match_text, IsName}
+use Rattle.wire_json.specs.KeyText.{IsKey}
+use Rattle.wire_json.specs.Asking.{asked_members, AskedFits}
+use Rattle.wire_json.specs.declared.client.ClientMsg.{ClientMsg}
+use Rattle.wire_json.specs.declared.client.ClientMsg.TheVariants.{Sync, Act}
+
+-- a spectator has neither key nor seat
+abbrev pub key_or_null : Option (ℕ × List ℕ) → Data
+key_or_null None = null
+key_or_null (Some viewer) = string (encode_lower viewer.1)
+
+abbrev pub viewer_seat : Option (ℕ × List ℕ) → Data
+viewer_seat None = null
+viewer_seat (Some viewer) = number (unsigned viewer.0)
+
+abbrev pub client_members : ClientMsg → Members
+client_members (Sync name viewer) =
+    member (codes "key") (key_or_null viewer) (member (codes "match") (string (match_text name)) (member (codes "seat") (viewer_seat viewer) (member (codes "type") (string (codes "sync")) no_members)))
+client_members (Act act key name at ticket) =
+    member (codes "act") (object (asked_members act)) (member (codes "key") (string (encode_lower key)) (member (codes "match") (string (match_text name))
+    (member (codes "number") (number (unsigned at)) (member (codes "ticket") (number (unsigned ticket)) (member (codes "type") (string (codes "act")) no_members)))))
+
+abbrev pub ViewerFits : Option (ℕ × List ℕ) → Type 0
+ViewerFits None = Unit {0}
+ViewerFits (Some viewer) = (viewer.0 ≤ 255) × IsKey viewer.1
+
+-- the members are in their forms
+abbrev pub ClientFits : ClientMsg → Type 0
+ClientFits (Sync name viewer) = IsName name × ViewerFits viewer
+ClientFits (Act act key name at ticket) = AskedFits act × IsKey key × IsName name × (at ≤ 4294967295) × (ticket ≤ 4294967295)
+
+-- the line is within the bound, and reads as the message's object
+abbrev pub IsForm : List ℕ → ClientMsg → Type 0
+IsForm line message = IsLineOf 65536 line (client_members message) × ClientFits message
+
+-- the line of a message, newline included
+unfoldable pub client_text : ClientMsg → List ℕ
+client_text message = compact_text (object (client_members message)) ++ newline

@@ -1,0 +1,34 @@
+-- Why a line is no message, the first fault in order: the line itself, its type, a further member, and then the members in byte order of their names.
+use Rattle.std.specs.Prelude.{◌≡◌, ℕ, List, Result, Ok, Err}
+use Rattle.serde_json.specs.Data.{Members}
+use Rattle.json_tree.specs.declared.lines.LineFault.{LineFault}
+use Rattle.json_tree.specs.declared.fields.FieldFault.{FieldFault}
+use Rattle.wire_json.specs.declared.wire_no.WireNo.{WireNo}
+use Rattle.wire_json.specs.declared.wire_no.WireNo.TheVariants as no
+
+pub data Refusal : Type 0 where
+  Line : LineFault → Refusal
+  UnknownMessage : Refusal
+  ExtraField : Refusal
+  Field : List ℕ → FieldFault → Refusal
+
+-- the refusal is the one that was read; want of memory may stand in place of any answer
+abbrev pub Refuses : {A : Type 0} → WireNo → Result A Refusal → Type 0
+Refuses (no.Line fault) read = read ≡ Err (Line fault)
+Refuses no.UnknownMessage read = read ≡ Err UnknownMessage
+Refuses no.ExtraField read = read ≡ Err ExtraField
+Refuses (no.Field name fault) read = read ≡ Err (Field name.now fault)
+Refuses no.NoMemory read = Unit {0}
+
+-- the answer is the one that was read
+abbrev pub Gives : {A : Type 0} → Result A WireNo → Result A Refusal → Type 0
+Gives (Ok x) read = read ≡ Ok x
+Gives (Err e) read = Refuses e read
+
+abbrev pub at_field : {A : Type 0} → List ℕ → Result A FieldFault → Result A Refusal
+at_field name (Ok x) = Ok x
+at_field name (Err fault) = Err (Field name fault)
+
+abbrev pub of_line : {A : Type 0} → Result A LineFault → Result A Refusal
+of_line (Ok x) = Ok x
+of_line (Err fault) = Err (Line fault)

@@ -1,0 +1,202 @@
+//! Reads the member `act` of a client's line.
+
+ghost use Rattle.std.specs.Prelude.{◌≡◌, IfOk, Some, codes, option_map, option_and_then};
+ghost use Rattle.std.specs.Result.{result_ok};
+ghost use Rattle.serde_json.specs.Find.{get};
+ghost use Rattle.serde_json.specs.View.{view, items_view};
+ghost use Rattle.json_tree.specs.Fields.{list_in, text_in};
+ghost use Rattle.wire_json.specs.Acts.{argument_in, arguments_in, word_in, move_in, kind_from, aim_in, nothing_in, seat_or_nothing_in, event_in, asked_in, act_in};
+ghost use Rattle.wire_json.specs.Refusals.{Gives, at_field};
+
+use crate::asked::{Asked, AskedTo};
+use crate::members::{is_null, short_text_of};
+use crate::wire_no::WireNo;
+use game_sheet::{Args, EventKind, NoMemory, Text};
+use json_tree::{FieldFault, extra_field, list_of, natural_of, text_of};
+use serde_json::Value;
+use std::alloc::Global;
+
+/// The act that the member holds, or the fault of the member.
+pub fn act_member_of(alloc: Global, value: &Value, name: &'static str) -> Result<Asked, WireNo>
+    ensures { Gives result (at_field name.now (act_in (get name.now (view value.now)))) }
+{
+    let Some(act) = value.get(name) else {
+        return Err(WireNo::Field {
+            name,
+            fault: FieldFault::Missing,
+        });
+    };
+    if !act.is_object() {
+        return Err(WireNo::Field {
+            name,
+            fault: FieldFault::WrongKind,
+        });
+    }
+    match asked_of(alloc, act) {
+        Ok(Some(asked)) => Ok(asked),
+        Ok(None) => Err(WireNo::Field {
+            name,
+            fault: FieldFault::OutOfRange,
+        }),
+        Err(_) => Err(WireNo::NoMemory),
+    }
+}
+
+#[tactic(auto, unfolding(crate::specs::Acts::asked_in))]
+fn asked_of(alloc: Global, act: &Value) -> Result<Option<Asked>, NoMemory>
+    ensures { IfOk result (λ asked. asked ≡ asked_in (view act.now)) }
+{
+    let Ok(kind) = text_of(act, "kind") else {
+        return Ok(None);
+    };
+    match kind {
+        "move" => move_of(alloc, act),
+        "event" => event_of(alloc, act),
+        "undo" => Ok(if extra_field(act, &["kind"]) {
+            None
+        } else {
+            Some(Asked::Undo)
+        }),
+        "redo" => Ok(if extra_field(act, &["kind"]) {
+            None
+        } else {
+            Some(Asked::Redo)
+        }),
+        _ => Ok(None),
+    }
+}
+
+#[tactic(auto, unfolding(crate::specs::Acts::move_in))]
+fn move_of(alloc: Global, act: &Value) -> Result<Option<Asked>, NoMemory>
+    ensures { IfOk result (λ asked. asked ≡ move_in (view act.now)) }
+{
+    if extra_field(act, &["args", "kind", "move"]) {
+        return Ok(None);
+    }
+    let Some(args) = args_of(act) else {
+        return Ok(None);
+    };
+    let Some(name) = word_of(act, "move") else {
+        return Ok(None);
+    };
+    let name = Text::from_str(alloc, name)?;
+    Ok(Some(Asked::Move { name, args }))
+}
+
+// A name of 1 to 32 bytes.
+fn word_of<'v>(act: &'v Value, name: &str) -> Option<&'v str>
+    ensures { option_map (λ word. word.now) result ≡ word_in (get name.now (view act.now)) }
+{
+    match short_text_of(act, name, 1, 32) {
+        Ok(word) => Some(word),
+        Err(_) => None,
+    }
+}
+
+fn args_of(act: &Value) -> Option<Args>
+    ensures { result ≡ arguments_in (result_ok (list_in (get (codes "args") (view act.now)))) }
+{
+    match list_of(act, "args") {
+        Ok(items) => arguments_of(items),
+        Err(_) => None,
+    }
+}
+
+fn arguments_of(items: &[Value]) -> Option<Args>
+    ensures { result ≡ arguments_in (Some (items_view items.now)) }
+{
+    if items.len() > Args::MOST {
+        return None;
+    }
+    let mut args = Args::new();
+    for item in items {
+        let Some(argument) = argument_of(item) else {
+            return None;
+        };
+        args.push(argument);
+    }
+    Some(args)
+}
+
+fn argument_of(item: &Value) -> Option<i32>
+    ensures { result ≡ argument_in (view item.now) }
+{
+    match item.as_i64() {
+        Some(n) if -2147483648 <= n && n <= 2147483647 => Some(n as i32),
+        _ => None,
+    }
+}
+
+#[tactic(auto, unfolding(crate::specs::Acts::event_in))]
+fn event_of(alloc: Global, act: &Value) -> Result<Option<Asked>, NoMemory>
+    ensures { IfOk result (λ asked. asked ≡ event_in (view act.now)) }
+{
+    if extra_field(act, &["event", "kind", "to"]) {
+        return Ok(None);
+    }
+    let Some(kind) = kind_of(act) else {
+        return Ok(None);
+    };
+    match aim_of(alloc, act, kind)? {
+        Some(to) => Ok(Some(Asked::Event { kind, to })),
+        None => Ok(None),
+    }
+}
+
+fn kind_of(act: &Value) -> Option<EventKind>
+    ensures { result ≡ option_and_then kind_from (result_ok (text_in (get (codes "event") (view act.now)))) }
+{
+    let Ok(name) = text_of(act, "event") else {
+        return None;
+    };
+    match name {
+        "endTurn" => Some(EventKind::EndTurn),
+        "endPhase" => Some(EventKind::EndPhase),
+        "setPhase" => Some(EventKind::SetPhase),
+        "endStage" => Some(EventKind::EndStage),
+        "setStage" => Some(EventKind::SetStage),
+        "endGame" => Some(EventKind::EndGame),
+        _ => None,
+    }
+}
+
+fn aim_of(alloc: Global, act: &Value, kind: EventKind) -> Result<Option<AskedTo>, NoMemory>
+    ensures { IfOk result (λ to. to ≡ aim_in kind (get (codes "to") (view act.now))) }
+{
+    match kind {
+        EventKind::EndTurn => Ok(seat_or_nothing(act)),
+        EventKind::EndPhase | EventKind::EndStage | EventKind::EndGame => Ok(nothing(act)),
+        EventKind::SetPhase | EventKind::SetStage => named(alloc, act),
+    }
+}
+
+fn nothing(act: &Value) -> Option<AskedTo>
+    ensures { result ≡ nothing_in (get (codes "to") (view act.now)) }
+{
+    if is_null(act, "to") {
+        Some(AskedTo::Nothing)
+    } else {
+        None
+    }
+}
+
+fn seat_or_nothing(act: &Value) -> Option<AskedTo>
+    ensures { result ≡ seat_or_nothing_in (get (codes "to") (view act.now)) }
+{
+    if is_null(act, "to") {
+        return Some(AskedTo::Nothing);
+    }
+    match natural_of(act, "to", 255) {
+        Ok(seat) => Some(AskedTo::Seat(seat as u8)),
+        Err(_) => None,
+    }
+}
+
+fn named(alloc: Global, act: &Value) -> Result<Option<AskedTo>, NoMemory>
+    ensures { IfOk result (λ to. to ≡ option_map AskedTo.Name (word_in (get (codes "to") (view act.now)))) }
+{
+    match word_of(act, "to") {
+        Some(name) => Ok(Some(AskedTo::Name(Text::from_str(alloc, name)?))),
+        None => Ok(None),
+    }
+}
