@@ -1,7 +1,8 @@
 //! The reducer at a small game: two seats take stones from a pile, one a turn, and the match is drawn when none is left.
 
-ghost use Rattle.std.specs.Prelude.{◌≡◌, IfOk, length};
+ghost use Rattle.std.specs.Prelude.{◌≡◌, ◌+◌, ◌<◌, IfOk, length};
 ghost use Rattle.game_trait.specs.SheetFits.{SheetFits};
+ghost use Rattle.reducer.specs.Sound.{IsSound};
 
 use crate::{StartNo, State, start, step};
 use game_sheet::{
@@ -104,30 +105,58 @@ fn make_pile(alloc: Global) -> Result<Pile, NoMemory>
     })
 }
 
-/// What a viewer sees of the turn: turn, current seat, its place, moves made, and stones left.
-fn turn(state: &State<u32>) -> (u32, Seat, u8, u32, u32) {
+/// A match of two seats, through the trait's bound.
+fn opened<X: Game>(alloc: Global, game: &X) -> Result<State<X::G>, StartNo>
+    ensures sound { IfOk result (IsSound (X.rules game.now)) }
+    ensures number { IfOk result (λ s. s.number ≡ 0) }
+{
+    start(alloc, game, 2, &[0; 32])
+}
+
+/// The state after a seat took a stone, through the trait's bound.
+fn taken<X: Game>(
+    alloc: Global,
+    game: &X,
+    state: &State<X::G>,
+    seat: Seat,
+) -> Result<State<X::G>, GameNo>
+    requires room { state.now.number < 4096 }
+    requires sound { IsSound (X.rules game.now) state.now }
+    requires moves { 0 < length (X.rules game.now).sheet.moves }
+    ensures sound { IfOk result (IsSound (X.rules game.now)) }
+    ensures number { IfOk result (λ s. s.number ≡ state.now.number + 1) }
+{
+    let take = Act::Move {
+        id: MoveId::at(0),
+        args: Args::new(),
+    };
+    step(alloc, game, state, seat, &take)
+}
+
+/// Whether the state shows this turn, current seat, place and count of moves, and so many stones.
+fn shows(state: &State<u32>, turn: u32, current: Seat, pos: u8, moves: u32, stones: u32) -> bool {
     let ctx = state.ctx();
-    (ctx.turn, ctx.current, ctx.pos, ctx.moves, *state.g())
+    ctx.turn == turn
+        && ctx.current == current
+        && ctx.pos == pos
+        && ctx.moves == moves
+        && *state.g() == stones
 }
 
 #[test]
 fn a_match_goes_from_its_start_to_its_end(rt: HostRuntime) -> Result<(), Fail> {
     let alloc = rt.alloc();
     let game = make_pile(alloc)?;
-    let take = Act::Move {
-        id: MoveId::at(0),
-        args: Args::new(),
-    };
-    let first = start(alloc, &game, 2, &[0; 32])?;
-    assert_eq!(rt; turn(&first), (1, 0, 0, 0, 3));
-    let second = step(alloc, &game, &first, 0, &take)?;
-    assert_eq!(rt; turn(&second), (2, 1, 1, 0, 2));
-    let third = step(alloc, &game, &second, 1, &take)?;
-    assert_eq!(rt; turn(&third), (3, 0, 0, 0, 1));
-    let last = step(alloc, &game, &third, 0, &take)?;
-    assert_eq!(rt; turn(&last), (3, 0, 0, 1, 0));
+    let first = opened(alloc, &game)?;
+    assert!(rt; shows(&first, 1, 0, 0, 0, 3));
+    let second = taken(alloc, &game, &first, 0)?;
+    assert!(rt; shows(&second, 2, 1, 1, 0, 2));
+    let third = taken(alloc, &game, &second, 1)?;
+    assert!(rt; shows(&third, 3, 0, 0, 0, 1));
+    let last = taken(alloc, &game, &third, 0)?;
+    assert!(rt; shows(&last, 3, 0, 0, 1, 0));
     assert!(rt; matches!(last.ctx().over, Some(Outcome::Draw)));
-    assert_eq!(rt; (first.number(), last.number()), (0, 3));
+    assert_eq!(rt; last.number(), 3);
     Ok(())
 }
 
@@ -138,7 +167,7 @@ fn broken_rules_are_named(rt: HostRuntime) -> Result<(), Fail> {
     for seats in [0, 1, 3, 255] {
         assert!(rt; matches!(start(alloc, &game, seats, &[0; 32]), Err(StartNo::BadSeats)));
     }
-    let first = start(alloc, &game, 2, &[0; 32])?;
+    let first = opened(alloc, &game)?;
     let refused = step(alloc, &game, &first, 0, &Act::Event(Event::EndPhase));
     assert!(rt; matches!(refused, Err(GameNo::Broken(GameRule::InvalidMove))));
     Ok(())
