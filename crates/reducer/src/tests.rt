@@ -133,6 +133,18 @@ fn taken<X: Game>(
     step(alloc, game, state, seat, &take)
 }
 
+/// The state after one move of each seat, through the trait's bound.
+fn after_a_round<X: Game>(alloc: Global, game: &X) -> Result<State<X::G>, Fail>
+    requires moves { 0 < length (X.rules game.now).sheet.moves }
+    ensures sound { IfOk result (IsSound (X.rules game.now)) }
+    ensures number { IfOk result (λ s. s.number ≡ 2) }
+{
+    let first = opened(alloc, game)?;
+    let second = taken(alloc, game, &first, 0)?;
+    let third = taken(alloc, game, &second, 1)?;
+    Ok(third)
+}
+
 /// Whether the state shows this turn, current seat, place and count of moves, and so many stones.
 fn shows(state: &State<u32>, turn: u32, current: Seat, pos: u8, moves: u32, stones: u32) -> bool {
     let ctx = state.ctx();
@@ -147,16 +159,12 @@ fn shows(state: &State<u32>, turn: u32, current: Seat, pos: u8, moves: u32, ston
 fn a_match_goes_from_its_start_to_its_end(rt: HostRuntime) -> Result<(), Fail> {
     let alloc = rt.alloc();
     let game = make_pile(alloc)?;
-    let first = opened(alloc, &game)?;
-    assert!(rt; shows(&first, 1, 0, 0, 0, 3));
-    let second = taken(alloc, &game, &first, 0)?;
-    assert!(rt; shows(&second, 2, 1, 1, 0, 2));
-    let third = taken(alloc, &game, &second, 1)?;
-    assert!(rt; shows(&third, 3, 0, 0, 0, 1));
-    let last = taken(alloc, &game, &third, 0)?;
+    let round = after_a_round(alloc, &game)?;
+    assert!(rt; shows(&round, 3, 0, 0, 0, 1));
+    let last = taken(alloc, &game, &round, 0)?;
     assert!(rt; shows(&last, 3, 0, 0, 1, 0));
     assert!(rt; matches!(last.ctx().over, Some(Outcome::Draw)));
-    assert_eq!(rt; last.number(), 3);
+    assert!(rt; last.number() == 3);
     Ok(())
 }
 
