@@ -30,7 +30,7 @@ abbrev pub first_table : {G : Type 0} → Rules G → ℕ → Table G
 first_table rules seats = record { g = rules.setup seats; ctx = opening seats }
 
 -- a match of a number of seats and with a seed, whose words no rule draws yet
-abbrev pub begin : {G : Type 0} → Rules G → ℕ → List ℕ → Result (Table G) GameRule
+unfoldable pub begin : {G : Type 0} → Rules G → ℕ → List ℕ → Result (Table G) GameRule
 begin rules seats seed = settle rules 64 (first_table rules seats)
 
 abbrev pub has_no_limit : Option MoveRow → Bool
@@ -49,7 +49,7 @@ played rules ctx is None = Err InvalidMove
 played rules ctx is (Some g) = settle rules 64 (record { g = g; ctx = counted is ctx })
 
 -- an event, an undo and a redo aren't actions of this flow: no match asks for one, and it is answered as an invalid move
-abbrev pub once : {G : Type 0} → Rules G → Table G → ℕ → Act → Result (Table G) GameRule
+unfoldable pub once : {G : Type 0} → Rules G → Table G → ℕ → Act → Result (Table G) GameRule
 once rules t seat (Move id args) = played rules t.ctx (is_counted rules.sheet t.ctx seat id) (rules.play t.g t.ctx seat id args)
 once rules t seat (Event event) = Err InvalidMove
 once rules t seat Undo = Err InvalidMove

@@ -16,6 +16,7 @@ use std::alloc::Global;
 /// The table at the beginning of a match of 1 to 8 seats, in the bounds of the game's sheet.
 ///
 /// The rule that is broken is `TooManyEvents` alone, where turns end by themselves without end.
+#[tactic(auto, unfolding(crate::specs::Action::begin))]
 pub fn begin<X: Game>(
     alloc: Global,
     game: &X,
@@ -39,6 +40,7 @@ pub fn begin<X: Game>(
 }
 
 /// The table after a seat's action. The table that is handed in stays as it was.
+#[tactic(auto, unfolding(crate::specs::Action::once))]
 pub fn once<X: Game>(
     alloc: Global,
     game: &X,

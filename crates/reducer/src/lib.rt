@@ -3,6 +3,8 @@
 
 mod fold;
 mod state;
+#[cfg(test)]
+mod tests;
 
 pub use fold::{StartNo, start, step};
 pub use state::State;

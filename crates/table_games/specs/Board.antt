@@ -42,7 +42,7 @@ is_of seat (Some (Some holder)) = nat_eq holder seat
 abbrev pub holds : Board → ℕ → List ℕ → Bool
 holds b seat line = list_all (λ place. is_of seat (slice_get b.cells place)) line
 
-abbrev pub has_line : Board → ℕ → Bool
+unfoldable pub has_line : Board → ℕ → Bool
 has_line b seat = list_any (holds b seat) lines
 
 abbrev pub is_full : Board → Bool

@@ -80,6 +80,7 @@ impl Board {
     }
 
     /// Whether a seat holds the three cells of a line.
+    #[tactic(auto, unfolding(crate::specs::Board::has_line))]
     fn has_line(&self, seat: Seat) -> bool
         ensures { result ≡ has_line self.now seat }
     {

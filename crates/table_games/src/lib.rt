@@ -2,6 +2,8 @@
 #![tactic(auto)]
 
 mod board;
+#[cfg(test)]
+mod tests;
 mod tic_tac_toe;
 
 pub use board::Board;

@@ -1,0 +1,6 @@
+pub mod Fold
+pub mod IsTrail
+pub mod Kept
+pub mod Moves
+pub mod Runs
+pub mod StruckList
