@@ -1,3 +1,6 @@
 pub mod MatchTexts
 pub mod KeyTexts
 pub mod Counting
+pub mod FieldLaws
+pub mod ActLaws
+pub mod ClientLaws
