@@ -4,3 +4,5 @@ pub mod Counting
 pub mod FieldLaws
 pub mod ActLaws
 pub mod ClientLaws
+pub mod ClientWriting
+pub mod Arguments
