@@ -6,3 +6,6 @@ pub mod ActLaws
 pub mod ClientLaws
 pub mod ClientWriting
 pub mod Arguments
+pub mod Trees
+pub mod ServerLaws
+pub mod ServerWriting
