@@ -15,6 +15,8 @@ mod reason;
 mod server;
 mod server_read;
 mod server_write;
+#[cfg(test)]
+mod tests;
 mod verdict;
 mod wire_no;
 
