@@ -1,22 +1,21 @@
 -- The member `act` reads as the act that it is a form of, and as no other.
-use Rattle.std.proofs.Common.{◌≡◌, ℕ, suc, ◌<◌, ◌≤◌, ◌^◌, List, [], ◌∷◌, length, ℤ, pos, negsuc, Bool, true, false, cond, ◌&&◌, ◌⊎◌, inl, inr, Option, Some, None, option_map, option_and_then, Ok, Err, bytes_eq, codes, refl, sym, ap, ◌∙◌, subst, arith}
+use Rattle.std.proofs.Common.{◌≡◌, ℕ, suc, ◌≤◌, ◌^◌, List, [], ◌∷◌, length, ℤ, pos, negsuc, Bool, true, false, cond, ◌⊎◌, inl, inr, Option, Some, None, option_map, option_and_then, Ok, Err, bytes_eq, codes, refl, sym, ap, ◌∙◌, subst, arith}
 use Rattle.std.proofs.lemmas.Bool.{and_parts, le-leb, leb-true, lt-ltb}
 use Rattle.std.proofs.lemmas.Slice.Eq.{bytes_eq-Decides}
 use Rattle.std.specs.List.{AllByRecursion}
 use Rattle.std.specs.Prelude.{nat_le, nat_lt, int_le, Result}
 use Rattle.std.specs.Result.{result_ok}
-use Rattle.serde_json.specs.Data.{Num, unsigned, negative, float, Data, null, boolean, number, string, array, object, Items, no_items, item, Members, no_members, member}
+use Rattle.serde_json.specs.Data.{unsigned, negative, float, Data, null, boolean, number, string, array, object, Items, no_items, item, Members}
 use Rattle.serde_json.specs.Events.{items_len}
-use Rattle.serde_json.specs.Find.{get, get_member, as_number, as_i64, of_integer}
+use Rattle.serde_json.specs.Find.{get_member, of_integer}
 use Rattle.json_tree.specs.Canonical.{IsCanonical, ItemsAreCanonical, MembersAreCanonical}
-use Rattle.json_tree.specs.Fields.{text_in, list_in, natural_in}
+use Rattle.json_tree.specs.Fields.{text_in, natural_in}
 use Rattle.json_tree.specs.Names.{has_extra}
 use Rattle.json_tree.proofs.Rows.{row_is, canonical_member}
-use Rattle.json_tree.specs.declared.fields.FieldFault.{FieldFault}
 use Rattle.game_sheet.specs.declared.act.EventKind.{EventKind}
 use Rattle.game_sheet.specs.declared.act.EventKind.TheVariants.{EndTurn, EndPhase, SetPhase, EndStage, SetStage, EndGame}
 use Rattle.wire_json.specs.Asking.{integers, event_text, aim, asked_members, is_argument, AreArguments, IsWord, MayAim, AskedFits}
-use Rattle.wire_json.specs.Acts.{argument_from, argument_in, arguments_from, arguments_in, text_within, word_in, move_in, kind_from, is_null_in, nothing_in, seat_or_nothing_in, aim_in, event_in, alone_in, asked_as, asked_in, act_in, in_form}
+use Rattle.wire_json.specs.Acts.{argument_from, argument_in, arguments_from, arguments_in, text_within, word_in, move_in, kind_from, is_null_in, nothing_in, aim_in, event_in, alone_in, asked_as, asked_in, act_in, in_form}
 use Rattle.wire_json.specs.declared.asked.Asked.{Asked}
 use Rattle.wire_json.specs.declared.asked.Asked.TheVariants.{Move, Event, Undo, Redo}
 use Rattle.wire_json.specs.declared.asked.AskedTo.{AskedTo}

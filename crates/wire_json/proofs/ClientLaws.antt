@@ -1,12 +1,10 @@
 -- A line from a client reads as the message that it is a form of, and as no other.
-use Rattle.std.proofs.Common.{◌≡◌, ℕ, ◌≤◌, List, [], ◌∷◌, Bool, true, false, cond, ◌&&◌, ◌⊎◌, inl, inr, Option, Some, None, Ok, Err, bytes_eq, codes, refl, sym, ap, ◌∙◌, subst}
+use Rattle.std.proofs.Common.{◌≡◌, ℕ, List, [], ◌∷◌, Bool, true, false, cond, ◌⊎◌, inl, inr, Option, Some, None, Ok, Err, bytes_eq, codes, refl, ap, ◌∙◌, subst}
 use Rattle.std.proofs.lemmas.Slice.Eq.{bytes_eq-Decides}
-use Rattle.std.specs.List.{AllByRecursion}
 use Rattle.std.specs.Prelude.{Result}
-use Rattle.serde_json.specs.Data.{Data, null, number, string, object, unsigned, Members, no_members, member}
-use Rattle.serde_json.specs.Find.{get, get_member}
-use Rattle.hex.specs.Hex.{encode_lower}
-use Rattle.json_tree.specs.Canonical.{MembersAreCanonical, IsOrdered}
+use Rattle.serde_json.specs.Data.{Data, object, Members}
+use Rattle.serde_json.specs.Find.{get_member}
+use Rattle.json_tree.specs.Canonical.{MembersAreCanonical}
 use Rattle.json_tree.specs.Fields.{text_in, natural_in}
 use Rattle.json_tree.specs.Lines.{line_read, IsLineOf}
 use Rattle.json_tree.specs.Names.{has_extra}
@@ -16,12 +14,9 @@ use Rattle.json_tree.specs.declared.lines.LineFault.{LineFault}
 use Rattle.json_tree.proofs.LineLaws.{line_is, line_again, canonical_line}
 use Rattle.json_tree.proofs.Rows.{row_is}
 use Rattle.game_sheet.specs.MatchName.{Name}
-use Rattle.wire_json.specs.MatchText.{match_text, IsName}
-use Rattle.wire_json.specs.KeyText.{IsKey}
-use Rattle.wire_json.specs.Asking.{asked_members, AskedFits}
+use Rattle.wire_json.specs.MatchText.{IsName}
 use Rattle.wire_json.specs.ClientText.{key_or_null, viewer_seat, client_members, ViewerFits, ClientFits, IsForm}
-use Rattle.wire_json.specs.ClientReading.{key_in, match_in, or_null, both_or_neither, key_of_seat_in, viewer_of, sync_in, client_act_in, client_as, client_in, client_read}
-use Rattle.wire_json.specs.Acts.{act_in}
+use Rattle.wire_json.specs.ClientReading.{key_in, both_or_neither, viewer_of, sync_in, client_act_in, client_as, client_in, client_read}
 use Rattle.wire_json.specs.Refusals.{Refusal, ExtraField, UnknownMessage, of_line}
 use Rattle.wire_json.specs.declared.asked.Asked.{Asked}
 use Rattle.wire_json.specs.declared.client.ClientMsg.{ClientMsg}

@@ -1,12 +1,11 @@
 -- What is written for a message from a client has no float, nests a few levels deep, and is a form of the message.
-use Rattle.std.proofs.Common.{◌≡◌, ℕ, ◌≤◌, List, [], ◌∷◌, length, lit≤, ℤ, pos, negsuc, Bool, false, Option, Some, None, refl, sym, ap, ◌∙◌, arith}
-use Rattle.std.specs.Prelude.{IsUtf8, max}
-use Rattle.serde_json.specs.Data.{Data, object, depth, items_depth}
+use Rattle.std.proofs.Common.{◌≡◌, ℕ, ◌≤◌, List, [], ◌∷◌, length, lit≤, ℤ, pos, negsuc, false, Some, None, refl, arith}
+use Rattle.std.specs.Prelude.{IsUtf8}
+use Rattle.serde_json.specs.Data.{object, depth, items_depth}
 use Rattle.serde_json.specs.Read.{read, max_depth}
 use Rattle.serde_json.specs.Written.{has_float, items_have_float}
-use Rattle.game_sheet.specs.declared.act.EventKind.{EventKind}
 use Rattle.wire_json.specs.Asking.{integers, aim, asked_members}
-use Rattle.wire_json.specs.ClientText.{key_or_null, viewer_seat, client_members, ClientFits, IsForm}
+use Rattle.wire_json.specs.ClientText.{client_members, ClientFits, IsForm}
 use Rattle.wire_json.specs.declared.asked.Asked.{Asked}
 use Rattle.wire_json.specs.declared.asked.Asked.TheVariants.{Move, Event, Undo, Redo}
 use Rattle.wire_json.specs.declared.asked.AskedTo.{AskedTo}

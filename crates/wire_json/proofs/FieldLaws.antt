@@ -1,21 +1,20 @@
 -- What each form of a member says of it, and that the form's own value has it.
-use Rattle.std.proofs.Common.{◌≡◌, ℕ, ◌≤◌, List, [], ◌∷◌, length, Bool, true, false, cond, ◌&&◌, ◌⊎◌, inl, inr, Option, Some, None, option_map, option_and_then, Ok, Err, is_some, refl, sym, ap, ◌∙◌, subst, arith}
+use Rattle.std.proofs.Common.{◌≡◌, ℕ, ◌≤◌, List, length, Bool, true, false, cond, ◌&&◌, Option, Some, None, Ok, Err, refl, ap, ◌∙◌, subst}
 use Rattle.std.proofs.lemmas.Bool.{and_parts, le-leb, leb-true}
 use Rattle.std.specs.Prelude.{nat_le, Result}
-use Rattle.std.specs.Result.{result_ok}
-use Rattle.serde_json.specs.Data.{Num, unsigned, negative, float, Data, null, boolean, number, string, array, object, Items, Members}
-use Rattle.serde_json.specs.Find.{as_null, as_u64}
+use Rattle.serde_json.specs.Data.{Num, unsigned, negative, float, Data, null, boolean, number, string, array, object, Items}
+use Rattle.serde_json.specs.Find.{as_u64}
 use Rattle.hex.specs.Hex.{encode_lower}
 use Rattle.json_tree.specs.Fields.{text_in, list_in, whole_number, number_in, natural_up_to, natural_in}
 use Rattle.json_tree.specs.Steps.{◌>>=◌}
 use Rattle.json_tree.specs.declared.fields.FieldFault.{FieldFault}
-use Rattle.json_tree.specs.declared.fields.FieldFault.TheVariants.{Missing, WrongKind, OutOfRange}
+use Rattle.json_tree.specs.declared.fields.FieldFault.TheVariants.{OutOfRange}
 use Rattle.game_sheet.specs.MatchName.{Name}
 use Rattle.wire_json.specs.MatchText.{match_text, IsName, match_from}
 use Rattle.wire_json.specs.KeyText.{IsKey, key_from}
 use Rattle.wire_json.specs.Acts.{is_null_in, in_form, text_within}
 use Rattle.wire_json.specs.ClientReading.{match_in, key_in, or_null, both_or_neither, key_beside, key_of_seat_in}
-use Rattle.wire_json.specs.Refusals.{Refusal, Field, at_field}
+use Rattle.wire_json.specs.Refusals.{Refusal, at_field}
 use Rattle.wire_json.proofs.MatchTexts.{match_is, match_again}
 use Rattle.wire_json.proofs.KeyTexts.{key_is, key_again}
 

@@ -1,11 +1,11 @@
 -- A line to a client reads as the message that it is a form of, and as no other.
-use Rattle.std.proofs.Common.{◌≡◌, ℕ, ◌≤◌, List, [], ◌∷◌, Bool, true, false, cond, ◌⊎◌, inl, inr, Option, Some, None, Ok, Err, bytes_eq, codes, refl, sym, ap, ◌∙◌, subst}
+use Rattle.std.proofs.Common.{◌≡◌, ℕ, List, [], ◌∷◌, Bool, true, false, cond, ◌⊎◌, inl, inr, Option, Some, None, Ok, Err, bytes_eq, codes, refl, ap, ◌∙◌, subst}
 use Rattle.std.proofs.lemmas.Slice.Eq.{bytes_eq-Decides}
 use Rattle.std.specs.List.{AllByRecursion}
 use Rattle.std.specs.Map.{lookup}
 use Rattle.std.specs.Prelude.{Result}
-use Rattle.serde_json.specs.Data.{Data, null, number, string, object, unsigned, Members, no_members, member}
-use Rattle.serde_json.specs.Find.{get, get_member}
+use Rattle.serde_json.specs.Data.{Data, string, object, Members}
+use Rattle.serde_json.specs.Find.{get_member}
 use Rattle.json_tree.specs.Canonical.{MembersAreCanonical}
 use Rattle.json_tree.specs.Fields.{text_in, natural_in}
 use Rattle.json_tree.specs.Lines.{line_read, IsLineOf}
@@ -15,10 +15,8 @@ use Rattle.json_tree.specs.declared.fields.FieldFault.{FieldFault}
 use Rattle.json_tree.specs.declared.lines.LineFault.{LineFault}
 use Rattle.json_tree.proofs.LineLaws.{line_is, line_again, canonical_line}
 use Rattle.json_tree.proofs.Rows.{row_is}
-use Rattle.game_sheet.specs.MatchName.{Name}
-use Rattle.wire_json.specs.MatchText.{match_text, IsName}
 use Rattle.wire_json.specs.ReasonText.{reason_text}
-use Rattle.wire_json.specs.ServerText.{natural, seat_or_null, of_type, server_members}
+use Rattle.wire_json.specs.ServerText.{seat_or_null, server_members}
 use Rattle.wire_json.specs.ClientReading.{or_null}
 use Rattle.wire_json.specs.ServerReading.{SeatFits, ServerFits, IsServerForm, no_bound, reason_table, reason_from, reason_in, tree_in, synced_in, update_in, ok_in, no_in, server_as, server_in, server_read}
 use Rattle.wire_json.specs.Refusals.{Refusal, ExtraField, UnknownMessage, of_line}

@@ -1,5 +1,5 @@
 -- A part of a value without floats has none.
-use Rattle.std.proofs.Common.{◌≡◌, ℕ, List, false, Option, Some, None}
+use Rattle.std.proofs.Common.{◌≡◌, ℕ, List, false, Some}
 use Rattle.serde_json.specs.Data.{Data, null, boolean, number, string, array, object}
 use Rattle.serde_json.specs.Find.{get}
 use Rattle.serde_json.specs.Written.{has_float}
