@@ -1,3 +1,11 @@
 pub mod MatchTexts
 pub mod KeyTexts
 pub mod Counting
+pub mod FieldLaws
+pub mod ActLaws
+pub mod ClientLaws
+pub mod ClientWriting
+pub mod Arguments
+pub mod Trees
+pub mod ServerLaws
+pub mod ServerWriting

@@ -1,8 +1,9 @@
 -- The member `act` of a client's line: a move, an event, an undo or a redo, by names.
-use Rattle.std.specs.Prelude.{◌≡◌, ◌≤◌, ℕ, ℤ, pos, negsuc, List, [], ◌∷◌, length, map, Bool, true, ◌&&◌, int_le, codes}
+use Rattle.std.specs.Prelude.{◌≡◌, ◌≤◌, ℕ, ℤ, pos, negsuc, List, length, map, Bool, true, ◌&&◌, int_le, codes}
 use Rattle.std.specs.List.{AllByRecursion}
-use Rattle.serde_json.specs.Data.{Data, null, number, string, array, object, unsigned, Items, no_items, item, Members, no_members, member}
+use Rattle.serde_json.specs.Data.{Data, null, number, string, array, unsigned, Items, Members, no_members, member}
 use Rattle.serde_json.specs.Find.{of_integer}
+use Rattle.serde_json.specs.View.{items_of}
 use Rattle.game_sheet.specs.declared.act.EventKind.{EventKind}
 use Rattle.game_sheet.specs.declared.act.EventKind.TheVariants.{EndTurn, EndPhase, SetPhase, EndStage, SetStage, EndGame}
 use Rattle.wire_json.specs.declared.asked.Asked.{Asked}
@@ -11,8 +12,7 @@ use Rattle.wire_json.specs.declared.asked.AskedTo.{AskedTo}
 use Rattle.wire_json.specs.declared.asked.AskedTo.TheVariants.{Nothing, Seat, Name}
 
 abbrev pub integers : List ℤ → Items
-integers [] = no_items
-integers (z ∷ zs) = item (number (of_integer z)) (integers zs)
+integers zs = items_of (map (λ z. number (of_integer z)) zs)
 
 abbrev pub event_text : EventKind → List ℕ
 event_text EndTurn = codes "endTurn"
@@ -69,3 +69,10 @@ AskedFits (Move name args) = IsWord name × AreArguments args
 AskedFits (Event kind to) = MayAim kind to
 AskedFits Undo = Unit {0}
 AskedFits Redo = Unit {0}
+
+-- what a caller sees to, where the types keep the rest
+abbrev pub IsAskable : Asked → Type 0
+IsAskable (Move name args) = IsWord name
+IsAskable (Event kind to) = MayAim kind to
+IsAskable Undo = Unit {0}
+IsAskable Redo = Unit {0}

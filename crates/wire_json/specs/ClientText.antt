@@ -1,12 +1,12 @@
 -- The lines from clients: which object each message is, and when a line is a form of it.
-use Rattle.std.specs.Prelude.{◌≤◌, ◌<◌, ◌^◌, ℕ, List, ◌++◌, Option, Some, None, codes}
+use Rattle.std.specs.Prelude.{◌≤◌, ℕ, List, ◌++◌, Option, Some, None, codes}
 use Rattle.serde_json.specs.Data.{Data, null, number, string, object, unsigned, Members, no_members, member}
 use Rattle.serde_json.specs.Written.{compact_text}
 use Rattle.hex.specs.Hex.{encode_lower}
 use Rattle.json_tree.specs.Lines.{IsLineOf, newline}
 use Rattle.wire_json.specs.MatchText.{match_text, IsName}
 use Rattle.wire_json.specs.KeyText.{IsKey}
-use Rattle.wire_json.specs.Asking.{asked_members, AskedFits}
+use Rattle.wire_json.specs.Asking.{asked_members, AskedFits, IsAskable}
 use Rattle.wire_json.specs.declared.client.ClientMsg.{ClientMsg}
 use Rattle.wire_json.specs.declared.client.ClientMsg.TheVariants.{Sync, Act}
 
@@ -34,6 +34,11 @@ ViewerFits (Some viewer) = (viewer.0 ≤ 255) × IsKey viewer.1
 abbrev pub ClientFits : ClientMsg → Type 0
 ClientFits (Sync name viewer) = IsName name × ViewerFits viewer
 ClientFits (Act act key name at ticket) = AskedFits act × IsKey key × IsName name × (at ≤ 4294967295) × (ticket ≤ 4294967295)
+
+-- what a caller sees to, where the types keep the rest
+abbrev pub IsSendable : ClientMsg → Type 0
+IsSendable (Sync name viewer) = Unit {0}
+IsSendable (Act act key name at ticket) = IsAskable act
 
 -- the line is within the bound, and reads as the message's object
 abbrev pub IsForm : List ℕ → ClientMsg → Type 0

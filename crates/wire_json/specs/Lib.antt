@@ -7,4 +7,5 @@ pub mod ClientText
 pub mod Refusals
 pub mod Acts
 pub mod ClientReading
+pub mod ServerReading
 pub mod Resolve

@@ -1,6 +1,5 @@
 -- Why a line is no message, the first fault in order: the line itself, its type, a further member, and then the members in byte order of their names.
 use Rattle.std.specs.Prelude.{◌≡◌, ℕ, List, Result, Ok, Err}
-use Rattle.serde_json.specs.Data.{Members}
 use Rattle.json_tree.specs.declared.lines.LineFault.{LineFault}
 use Rattle.json_tree.specs.declared.fields.FieldFault.{FieldFault}
 use Rattle.wire_json.specs.declared.wire_no.WireNo.{WireNo}

@@ -1,10 +1,12 @@
 //! Reads the messages from clients, one function for each row.
 
-ghost use Rattle.std.specs.Prelude.{◌≡◌, codes};
+ghost use Rattle.std.specs.Prelude.{◌≡◌, codes, IfOk, Ok};
 ghost use Rattle.serde_json.specs.Find.{get};
 ghost use Rattle.serde_json.specs.View.{view};
 ghost use Rattle.wire_json.specs.ClientReading.{key_of_seat_in, sync_in, client_act_in, client_in, client_read, viewer_of as viewer_from};
+ghost use Rattle.wire_json.specs.ClientText.{IsForm};
 ghost use Rattle.wire_json.specs.Refusals.{Gives};
+ghost use Rattle.wire_json.specs.declared.client.ClientMsg.{ClientMsg as Message};
 
 use crate::acts::act_member_of;
 use crate::client::ClientMsg;
@@ -21,9 +23,20 @@ use std::alloc::Global;
 pub const CLIENT_LINE: u64 = 65_536;
 
 /// The message that a client's line is, or its first fault.
-#[tactic(auto, unfolding(crate::specs::ClientReading::client_read))]
+///
+/// The line comes without its newline; one at its end counts among the bytes, and is a blank.
+#[tactic(auto, using(crate::proofs::ClientLaws::read_is, crate::proofs::ClientLaws::read_again))]
 pub fn read_client(alloc: Global, line: &[u8]) -> Result<ClientMsg, WireNo>
+    ensures found { IfOk result (λ m. IsForm line.now m) }
+    ensures only { (m : Message) → IsForm line.now m → Gives result (Ok m) }
     ensures exact { Gives result (client_read line.now) }
+{
+    read_any(alloc, line)
+}
+
+#[tactic(auto, unfolding(crate::specs::ClientReading::client_read))]
+fn read_any(alloc: Global, line: &[u8]) -> Result<ClientMsg, WireNo>
+    ensures { Gives result (client_read line.now) }
 {
     match read_line(alloc, line, CLIENT_LINE) {
         Ok(value) => message_of(alloc, &value),

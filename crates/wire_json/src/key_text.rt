@@ -1,8 +1,8 @@
 //! The texts of keys.
 
-ghost use Rattle.std.specs.Prelude.{◌≡◌, IfOk, string_bytes};
-ghost use Rattle.hex.specs.Hex.{encode_lower};
-ghost use Rattle.wire_json.specs.KeyText.{key_from};
+ghost use Rattle.std.specs.Prelude.{◌≡◌, IfOk, OnOk, string_bytes};
+ghost use Rattle.hex.specs.Hex.{encode_lower, IsBytes};
+ghost use Rattle.wire_json.specs.KeyText.{key_from, IsKey};
 
 use game_sheet::{Key, NoMemory};
 use hex::FromHex;
@@ -29,7 +29,15 @@ pub fn key_of(text: &str) -> Option<Key>
 
 /// The text of a key.
 pub fn text_of_key(alloc: Global, key: &Key) -> Result<String, NoMemory>
-    ensures { IfOk result (λ text. string_bytes text ≡ encode_lower key.now) }
+    ensures text { IfOk result (λ text. string_bytes text ≡ encode_lower key.now) }
+    ensures sixteen_bytes { OnOk result (IsKey key.now) }
 {
-    Ok(hex::encode(alloc, key.bytes())?)
+    hex_of(alloc, key.bytes())
+}
+
+fn hex_of(alloc: Global, bytes: &[u8; 16]) -> Result<String, NoMemory>
+    ensures text { IfOk result (λ text. string_bytes text ≡ encode_lower bytes.now) }
+    ensures small { OnOk result (IsBytes bytes.now) }
+{
+    Ok(hex::encode(alloc, bytes)?)
 }

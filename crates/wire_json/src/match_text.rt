@@ -3,14 +3,15 @@
 ghost use Rattle.std.specs.Prelude.{IfOk, ◌≡◌, string_bytes};
 ghost use Rattle.std.specs.Char.{is_ascii_digit};
 ghost use Rattle.std.specs.List.{list_all};
-ghost use Rattle.wire_json.specs.MatchText.{match_text, match_from, number_from, begins_well as has_good_start, is_decimal as is_number};
+ghost use Rattle.wire_json.specs.MatchText.{match_text, IsName, match_from, number_from, begins_well as has_good_start, is_decimal as is_number};
 
 use game_sheet::{MatchName, NoMemory};
 use std::alloc::Global;
 
 /// The text of a match's name.
 pub fn text_of_match(alloc: Global, name: &MatchName) -> Result<String, NoMemory>
-    ensures { IfOk result (λ text. string_bytes text ≡ match_text name.now) }
+    ensures text { IfOk result (λ text. string_bytes text ≡ match_text name.now) }
+    ensures named { IsName name.now }
 {
     let room = name.room();
     let serial = name.serial();

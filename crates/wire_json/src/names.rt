@@ -6,7 +6,10 @@ ghost use Rattle.game_sheet.specs.SheetFits.{SheetFits};
 ghost use Rattle.wire_json.specs.Resolve.{act_of, event_of, move_of, phase_of, stage_of};
 
 use crate::asked::{Asked, AskedTo};
-use game_sheet::{Act, Event, EventKind, MoveId, MoveRow, Outcome, PhaseId, PhaseRow, Sheet, StageId, StageRow, Text};
+use game_sheet::{
+    Act, Event, EventKind, MoveId, MoveRow, Outcome, PhaseId, PhaseRow, Sheet, StageId, StageRow,
+    Text,
+};
 
 /// The action that is asked for; none exactly where a name isn't in the sheet, or an event is aimed at what its kind
 /// doesn't take. A player's `endGame` ends the match without a winner. It takes no memory.
@@ -49,7 +52,9 @@ fn event_named(sheet: &Sheet, kind: EventKind, to: &AskedTo) -> Option<Event>
             Some(to) => Some(Event::SetStage { to }),
             None => None,
         },
-        (EventKind::EndGame, AskedTo::Nothing) => Some(Event::EndGame { outcome: Outcome::Ended }),
+        (EventKind::EndGame, AskedTo::Nothing) => Some(Event::EndGame {
+            outcome: Outcome::Ended,
+        }),
         _ => None,
     }
 }

@@ -40,6 +40,7 @@ pub enum Reason {
 impl Reason {
     ghost use Rattle.std.specs.Prelude.{◌≡◌, codes};
     ghost use Rattle.wire_json.specs.ReasonText.{reason_text};
+    ghost use Rattle.wire_json.specs.ServerReading.{reason_from};
 
     /// The word that stands for it on the wire.
     pub fn name(self) -> &'static str
@@ -62,6 +63,30 @@ impl Reason {
             Reason::TooEarly => "too-early",
             Reason::TooManyWords => "too-many-words",
             Reason::TooManyEvents => "too-many-events",
+        }
+    }
+    /// The reason that a word stands for.
+    pub fn named(word: &str) -> Option<Reason>
+        ensures { result ≡ reason_from word.now }
+    {
+        match word {
+            "no-match" => Some(Reason::NoMatch),
+            "unauthorized" => Some(Reason::Unauthorized),
+            "game-over" => Some(Reason::GameOver),
+            "match-full" => Some(Reason::MatchFull),
+            "cannot-undo-now" => Some(Reason::CannotUndoNow),
+            "not-active" => Some(Reason::NotActive),
+            "unknown-move" => Some(Reason::UnknownMove),
+            "wrong-number" => Some(Reason::WrongNumber),
+            "nothing-to-undo" => Some(Reason::NothingToUndo),
+            "nothing-to-redo" => Some(Reason::NothingToRedo),
+            "not-yours" => Some(Reason::NotYours),
+            "not-undoable" => Some(Reason::NotUndoable),
+            "invalid-move" => Some(Reason::InvalidMove),
+            "too-early" => Some(Reason::TooEarly),
+            "too-many-words" => Some(Reason::TooManyWords),
+            "too-many-events" => Some(Reason::TooManyEvents),
+            _ => None,
         }
     }
 }

@@ -1,10 +1,11 @@
 //! Writes the messages to clients, one function for each row.
 
-ghost use Rattle.std.specs.Prelude.{◌≡◌, ◌≤◌, false, IfOk, Some, Option};
-ghost use Rattle.serde_json.specs.Data.{object};
+ghost use Rattle.std.specs.Prelude.{◌≡◌, ◌≤◌, false, length, IfOk, OnOk};
+ghost use Rattle.serde_json.specs.Data.{object, depth};
+ghost use Rattle.serde_json.specs.Read.{max_depth};
 ghost use Rattle.serde_json.specs.View.{view};
-ghost use Rattle.serde_json.specs.Written.{has_float};
-ghost use Rattle.wire_json.specs.ReasonText.{reason_text};
+ghost use Rattle.serde_json.specs.Written.{has_float, compact_text};
+ghost use Rattle.wire_json.specs.ServerReading.{no_bound, IsServerForm, SeatFits, ServerFits};
 ghost use Rattle.wire_json.specs.ServerText.{text as server_text, server_members, seat_or_null};
 
 use crate::match_text::text_of_match;
@@ -16,9 +17,14 @@ use serde_json::{Value, json};
 use std::alloc::Global;
 
 /// The line of a message, with its newline.
-#[tactic(auto, unfolding(crate::specs::ServerText::text))]
+#[tactic(auto, unfolding(crate::specs::ServerText::text), using(crate::proofs::ServerWriting::is_server_form))]
 pub fn write_server(alloc: Global, message: &ServerMsg) -> Result<Vec<u8>, NoMemory>
     ensures text { IfOk result (λ line. line.items ≡ server_text message.now) }
+    ensures form { OnOk result (depth (object (server_members message.now)) ≤ max_depth
+        → length (compact_text (object (server_members message.now))) ≤ no_bound
+        → IsServerForm (compact_text (object (server_members message.now))) message.now) }
+    ensures line_form { IfOk result (λ line. depth (object (server_members message.now)) ≤ max_depth
+        → length line.items ≤ no_bound → IsServerForm line.items message.now) }
 {
     let value = value_of(alloc, message)?;
     match line_of(alloc, &value) {
@@ -30,6 +36,7 @@ pub fn write_server(alloc: Global, message: &ServerMsg) -> Result<Vec<u8>, NoMem
 fn value_of(alloc: Global, message: &ServerMsg) -> Result<Value, NoMemory>
     ensures value { IfOk result (λ v. view v ≡ object (server_members message.now)) }
     ensures no_float { IfOk result (λ v. has_float (view v) ≡ false) }
+    ensures fits { OnOk result (ServerFits message.now) }
 {
     match message {
         ServerMsg::Sync {
@@ -60,6 +67,7 @@ fn sync(
 ) -> Result<Value, NoMemory>
     ensures value { IfOk result (λ v. view v ≡ object (server_members (ServerMsg.Sync name.now seat snapshot.now))) }
     ensures no_float { IfOk result (λ v. has_float (view v) ≡ false) }
+    ensures fits { OnOk result (ServerFits (ServerMsg.Sync name.now seat snapshot.now)) }
 {
     let name = text_of_match(alloc, name)?;
     let seat = seat_value(seat);
@@ -71,6 +79,7 @@ fn sync(
 fn seat_value(seat: Option<Seat>) -> Value
     ensures value { view result ≡ seat_or_null seat }
     ensures no_float { has_float (seat_or_null seat) ≡ false }
+    ensures fits { SeatFits seat }
 {
     match seat {
         None => Value::Null,
@@ -87,6 +96,7 @@ fn update(
 ) -> Result<Value, NoMemory>
     ensures value { IfOk result (λ v. view v ≡ object (server_members (ServerMsg.Update ctx.now entry.now g.now number))) }
     ensures no_float { IfOk result (λ v. has_float (view v) ≡ false) }
+    ensures fits { OnOk result (ServerFits (ServerMsg.Update ctx.now entry.now g.now number)) }
 {
     let value =
         json!(in alloc; {"ctx": ctx.value(), "entry": entry.value(), "g": g.value(), "number": number, "type": "update"})?;
@@ -96,6 +106,7 @@ fn update(
 fn ok(alloc: Global, number: Number, ticket: u32) -> Result<Value, NoMemory>
     ensures value { IfOk result (λ v. view v ≡ object (server_members (ServerMsg.Ok number ticket))) }
     ensures no_float { IfOk result (λ v. has_float (view v) ≡ false) }
+    ensures fits { OnOk result (ServerFits (ServerMsg.Ok number ticket)) }
 {
     let value = json!(in alloc; {"number": number, "ticket": ticket, "type": "ok"})?;
     Ok(value)
@@ -104,6 +115,7 @@ fn ok(alloc: Global, number: Number, ticket: u32) -> Result<Value, NoMemory>
 fn no(alloc: Global, number: Number, reason: Reason, ticket: u32) -> Result<Value, NoMemory>
     ensures value { IfOk result (λ v. view v ≡ object (server_members (ServerMsg.No number reason ticket))) }
     ensures no_float { IfOk result (λ v. has_float (view v) ≡ false) }
+    ensures fits { OnOk result (ServerFits (ServerMsg.No number reason ticket)) }
 {
     let value =
         json!(in alloc; {"number": number, "reason": reason.name(), "ticket": ticket, "type": "no"})?;

@@ -1,0 +1,200 @@
+-- A line to a client reads as the message that it is a form of, and as no other.
+use Rattle.std.proofs.Common.{◌≡◌, ℕ, List, [], ◌∷◌, Bool, true, false, cond, ◌⊎◌, inl, inr, Option, Some, None, Ok, Err, bytes_eq, codes, refl, ap, ◌∙◌, subst}
+use Rattle.std.proofs.lemmas.Slice.Eq.{bytes_eq-Decides}
+use Rattle.std.specs.List.{AllByRecursion}
+use Rattle.std.specs.Map.{lookup}
+use Rattle.std.specs.Prelude.{Result}
+use Rattle.serde_json.specs.Data.{Data, string, object, Members}
+use Rattle.serde_json.specs.Find.{get_member}
+use Rattle.json_tree.specs.Canonical.{MembersAreCanonical}
+use Rattle.json_tree.specs.Fields.{text_in, natural_in}
+use Rattle.json_tree.specs.Lines.{line_read, IsLineOf}
+use Rattle.json_tree.specs.Names.{has_extra}
+use Rattle.json_tree.specs.Steps.{◌>>=◌}
+use Rattle.json_tree.specs.declared.fields.FieldFault.{FieldFault}
+use Rattle.json_tree.specs.declared.lines.LineFault.{LineFault}
+use Rattle.json_tree.proofs.LineLaws.{line_is, line_again, canonical_line}
+use Rattle.json_tree.proofs.Rows.{row_is}
+use Rattle.wire_json.specs.ReasonText.{reason_text}
+use Rattle.wire_json.specs.ServerText.{seat_or_null, server_members}
+use Rattle.wire_json.specs.ClientReading.{or_null}
+use Rattle.wire_json.specs.ServerReading.{SeatFits, ServerFits, IsServerForm, no_bound, reason_table, reason_from, reason_in, tree_in, synced_in, update_in, ok_in, no_in, server_as, server_in, server_read}
+use Rattle.wire_json.specs.Refusals.{Refusal, ExtraField, UnknownMessage, of_line}
+use Rattle.wire_json.specs.declared.reason.Reason.{Reason}
+use Rattle.wire_json.specs.declared.reason.Reason.TheVariants.{NoMatch, Unauthorized, GameOver, MatchFull, CannotUndoNow, NotActive, UnknownMove, WrongNumber, NothingToUndo, NothingToRedo, NotYours, NotUndoable, InvalidMove, TooEarly, TooManyWords, TooManyEvents}
+use Rattle.wire_json.specs.declared.server.ServerMsg.{ServerMsg}
+use Rattle.wire_json.specs.declared.server.ServerMsg.TheVariants as to_client
+use Rattle.wire_json.proofs.FieldLaws.{bound, step, past, formed, text_is, natural_is, natural_again, match_member_is, match_member_again, Holds, or_null_is}
+
+abbrev good : ServerMsg → Result ServerMsg Refusal
+good x = Ok x
+
+last : (x y : ServerMsg) → good x ≡ good y → x ≡ y
+last x y e = cc
+
+-- ---- forms
+
+looked_up : (b : Bool) (x y : Reason) (rest : Option Reason) → cond b (Some x) rest ≡ Some y → ((b ≡ true) × (x ≡ y)) ⊎ (rest ≡ Some y)
+looked_up true x y rest e = inl (refl, cc)
+looked_up false x y rest e = inr e
+
+table_is : (s : List ℕ) (table : List (List ℕ × Reason)) (r : Reason) → AllByRecursion (λ row. row.0 ≡ reason_text row.1) table → lookup (bytes_eq s) table ≡ Some r → s ≡ reason_text r
+table_is s [] r h e = absurd (cc)
+table_is s (row ∷ table) r h e = elim (looked_up (bytes_eq s row.0) row.1 r (lookup (bytes_eq s) table) e) [
+  | inl p ↦ (bytes_eq-Decides s row.0).0 p.0 ∙ h.0 ∙ ap reason_text p.1
+  | inr p ↦ table_is s table r h.1 p
+]
+
+reason_is : (s : List ℕ) (r : Reason) → reason_from s ≡ Some r → s ≡ reason_text r
+reason_is s r e = table_is s reason_table r (refl, (refl, (refl, (refl, (refl, (refl, (refl, (refl, (refl, (refl, (refl, (refl, (refl, (refl, (refl, (refl, tt)))))))))))))))) e
+
+reason_again : (r : Reason) → reason_from (reason_text r) ≡ Some r
+reason_again NoMatch = refl
+reason_again Unauthorized = refl
+reason_again GameOver = refl
+reason_again MatchFull = refl
+reason_again CannotUndoNow = refl
+reason_again NotActive = refl
+reason_again UnknownMove = refl
+reason_again WrongNumber = refl
+reason_again NothingToUndo = refl
+reason_again NothingToRedo = refl
+reason_again NotYours = refl
+reason_again NotUndoable = refl
+reason_again InvalidMove = refl
+reason_again TooEarly = refl
+reason_again TooManyWords = refl
+reason_again TooManyEvents = refl
+
+reason_member_is : (o : Option Data) (r : Reason) → reason_in o ≡ Ok r → o ≡ Some (string (reason_text r))
+reason_member_is o r e = let t = bound (text_in o) _ r e in text_is o t.0 t.1 ∙ ap (λ x. Some (string x)) (reason_is t.0 r (formed (reason_from t.0) r t.2))
+
+tree_is : (o : Option Data) (d : Data) → tree_in o ≡ Ok d → o ≡ Some d
+tree_is None d e = absurd (cc)
+tree_is (Some f) d e = let same : f ≡ d = cc in ap Some same
+
+seat_is : (o : Option Data) (seat : Option ℕ) → Holds (natural_in 255) o seat → (o ≡ Some (seat_or_null seat)) × SeatFits seat
+seat_is o None h = (h, tt)
+seat_is o (Some seat) h = natural_is 255 o seat h
+
+seat_again : (seat : Option ℕ) → SeatFits seat → or_null (natural_in 255) (Some (seat_or_null seat)) ≡ Ok seat
+seat_again None h = refl
+seat_again (Some seat) h = rw (natural_again 255 seat h) refl
+
+-- ---- rows
+
+no_names : List (List ℕ)
+no_names = codes "number" ∷ codes "reason" ∷ codes "ticket" ∷ codes "type" ∷ []
+
+no_is : (ms : Members) (m : ServerMsg) → MembersAreCanonical ms → text_in (get_member (codes "type") ms) ≡ Ok (codes "no") → no_in (object ms) ≡ Ok m → (ms ≡ server_members m) × ServerFits m
+unfolding no_in no_names
+no_is ms m c kind e =
+    let known = past (has_extra no_names ms) ExtraField _ m e in
+    let at = step _ _ _ m known.1 in
+    let reason = step _ _ _ m at.2 in
+    let ticket = step _ _ _ m reason.2 in
+    let number = natural_is 4294967295 _ at.0 at.1 in
+    let count = natural_is 4294967295 _ ticket.0 ticket.1 in
+    let row = row_is no_names ms (server_members (to_client.No at.0 reason.0 ticket.0)) c ((refl, (refl, (refl, tt))), ((refl, (refl, tt)), ((refl, tt), (tt, tt)))) known.0 refl
+    (number.0, (reason_member_is _ reason.0 reason.1, (count.0, (text_is _ _ kind, tt)))) in
+    subst (λ x. (ms ≡ server_members x) × ServerFits x) (last (to_client.No at.0 reason.0 ticket.0) m ticket.2) (row, (number.1, count.1))
+
+ok_names : List (List ℕ)
+ok_names = codes "number" ∷ codes "ticket" ∷ codes "type" ∷ []
+
+ok_is : (ms : Members) (m : ServerMsg) → MembersAreCanonical ms → text_in (get_member (codes "type") ms) ≡ Ok (codes "ok") → ok_in (object ms) ≡ Ok m → (ms ≡ server_members m) × ServerFits m
+unfolding ok_in ok_names
+ok_is ms m c kind e =
+    let known = past (has_extra ok_names ms) ExtraField _ m e in
+    let at = step _ _ _ m known.1 in
+    let ticket = step _ _ _ m at.2 in
+    let number = natural_is 4294967295 _ at.0 at.1 in
+    let count = natural_is 4294967295 _ ticket.0 ticket.1 in
+    let row = row_is ok_names ms (server_members (to_client.Ok at.0 ticket.0)) c ((refl, (refl, tt)), ((refl, tt), (tt, tt))) known.0 refl
+    (number.0, (count.0, (text_is _ _ kind, tt))) in
+    subst (λ x. (ms ≡ server_members x) × ServerFits x) (last (to_client.Ok at.0 ticket.0) m ticket.2) (row, (number.1, count.1))
+
+sync_names : List (List ℕ)
+sync_names = codes "match" ∷ codes "seat" ∷ codes "snapshot" ∷ codes "type" ∷ []
+
+synced_is : (ms : Members) (m : ServerMsg) → MembersAreCanonical ms → text_in (get_member (codes "type") ms) ≡ Ok (codes "sync") → synced_in (object ms) ≡ Ok m → (ms ≡ server_members m) × ServerFits m
+unfolding synced_in sync_names
+synced_is ms m c kind e =
+    let known = past (has_extra sync_names ms) ExtraField _ m e in
+    let name = step _ _ _ m known.1 in
+    let seat = step _ _ _ m name.2 in
+    let snapshot = step _ _ _ m seat.2 in
+    let match = match_member_is _ name.0 name.1 in
+    let place = seat_is _ seat.0 (or_null_is (natural_in 255) _ seat.0 seat.1) in
+    let row = row_is sync_names ms (server_members (to_client.Sync name.0 seat.0 snapshot.0)) c ((refl, (refl, (refl, tt))), ((refl, (refl, tt)), ((refl, tt), (tt, tt)))) known.0 refl
+    (match.0, (place.0, (tree_is _ snapshot.0 snapshot.1, (text_is _ _ kind, tt)))) in
+    subst (λ x. (ms ≡ server_members x) × ServerFits x) (last (to_client.Sync name.0 seat.0 snapshot.0) m snapshot.2) (row, (match.1, place.1))
+
+update_names : List (List ℕ)
+update_names = codes "ctx" ∷ codes "entry" ∷ codes "g" ∷ codes "number" ∷ codes "type" ∷ []
+
+update_is : (ms : Members) (m : ServerMsg) → MembersAreCanonical ms → text_in (get_member (codes "type") ms) ≡ Ok (codes "update") → update_in (object ms) ≡ Ok m → (ms ≡ server_members m) × ServerFits m
+unfolding update_in update_names
+update_is ms m c kind e =
+    let known = past (has_extra update_names ms) ExtraField _ m e in
+    let ctx = step _ _ _ m known.1 in
+    let entry = step _ _ _ m ctx.2 in
+    let g = step _ _ _ m entry.2 in
+    let at = step _ _ _ m g.2 in
+    let number = natural_is 4294967295 _ at.0 at.1 in
+    let row = row_is update_names ms (server_members (to_client.Update ctx.0 entry.0 g.0 at.0)) c
+    ((refl, (refl, (refl, (refl, tt)))), ((refl, (refl, (refl, tt))), ((refl, (refl, tt)), ((refl, tt), (tt, tt))))) known.0 refl
+    (tree_is _ ctx.0 ctx.1, (tree_is _ entry.0 entry.1, (tree_is _ g.0 g.1, (number.0, (text_is _ _ kind, tt))))) in
+    subst (λ x. (ms ≡ server_members x) × ServerFits x) (last (to_client.Update ctx.0 entry.0 g.0 at.0) m at.2) (row, number.1)
+
+-- ---- any message
+
+either : (b : Bool) (x rest : Result ServerMsg Refusal) (m : ServerMsg) → cond b x rest ≡ Ok m → ((b ≡ true) × (x ≡ Ok m)) ⊎ (rest ≡ Ok m)
+either true x rest m e = inl (refl, e)
+either false x rest m e = inr e
+
+onlyif : (b : Bool) (x : Result ServerMsg Refusal) (refusal : Refusal) (m : ServerMsg) → cond b x (Err refusal) ≡ Ok m → (b ≡ true) × (x ≡ Ok m)
+onlyif true x refusal m e = (refl, e)
+onlyif false x refusal m e = absurd (cc)
+
+server_by : (r : Result (List ℕ) FieldFault) (ms : Members) (m : ServerMsg) → MembersAreCanonical ms → text_in (get_member (codes "type") ms) ≡ r → server_as r (object ms) ≡ Ok m → (ms ≡ server_members m) × ServerFits m
+server_by (Err fault) ms m c is e = absurd (cc)
+server_by (Ok kind) ms m c is e = elim (either (bytes_eq kind (codes "no")) _ _ m e) [
+  | inl p ↦ no_is ms m c (is ∙ ap (λ x. Ok x) ((bytes_eq-Decides kind _).0 p.0)) p.1
+  | inr e1 ↦ elim (either (bytes_eq kind (codes "ok")) _ _ m e1) [
+    | inl p ↦ ok_is ms m c (is ∙ ap (λ x. Ok x) ((bytes_eq-Decides kind _).0 p.0)) p.1
+    | inr e2 ↦ elim (either (bytes_eq kind (codes "sync")) _ _ m e2) [
+      | inl p ↦ synced_is ms m c (is ∙ ap (λ x. Ok x) ((bytes_eq-Decides kind _).0 p.0)) p.1
+      | inr e3 ↦ let update = onlyif (bytes_eq kind (codes "update")) _ UnknownMessage m e3 in update_is ms m c (is ∙ ap (λ x. Ok x) ((bytes_eq-Decides kind _).0 update.0)) update.1
+    ]
+  ]
+]
+
+server_is : (ms : Members) (m : ServerMsg) → MembersAreCanonical ms → server_in (object ms) ≡ Ok m → (ms ≡ server_members m) × ServerFits m
+unfolding server_in
+server_is ms m c e = server_by (text_in (get_member (codes "type") ms)) ms m c refl e
+
+server_again : (m : ServerMsg) → ServerFits m → server_in (object (server_members m)) ≡ Ok m
+unfolding server_in synced_in update_in ok_in no_in
+server_again (to_client.Sync name seat snapshot) h = rw (match_member_again name h.0, seat_again seat h.1) refl
+server_again (to_client.Update ctx entry g at) h = rw (natural_again 4294967295 at h) refl
+server_again (to_client.Ok at ticket) h = rw (natural_again 4294967295 at h.0, natural_again 4294967295 ticket h.1) refl
+server_again (to_client.No at reason ticket) h = rw (natural_again 4294967295 at h.0, reason_again reason, natural_again 4294967295 ticket h.1) refl
+
+-- ---- the line
+
+line : (r : Result Members LineFault) (next : Members → Result ServerMsg Refusal) (m : ServerMsg) → (of_line r >>= next) ≡ Ok m → (ms : Members) × (r ≡ Ok ms) × (next ms ≡ Ok m)
+line (Ok ms) next m e = (ms, refl, e)
+line (Err fault) next m e = absurd (cc)
+
+pub server_read_is : (text : List ℕ) (m : ServerMsg) → server_read text ≡ Ok m → IsServerForm text m
+unfolding server_read
+server_read_is text m e =
+    let read = line (line_read no_bound text) (λ ms. server_in (object ms)) m e in
+    let is = line_is no_bound text read.0 read.1 in
+    let message = server_is read.0 m (canonical_line no_bound text read.0 is) read.2 in
+    (subst (IsLineOf no_bound text) message.0 is, message.1)
+
+pub server_read_again : (text : List ℕ) (m : ServerMsg) → IsServerForm text m → server_read text ≡ Ok m
+unfolding server_read
+server_read_again text m h = rw (line_again no_bound text (server_members m) h.0) (server_again m h.1)

@@ -1,0 +1,108 @@
+-- How a line to a client is read: the message, or the first fault.
+use Rattle.std.specs.Prelude.{◌≤◌, ℕ, List, [], ◌∷◌, if◌then◌else◌, codes, Option, Some, None, Result, Ok, Err}
+use Rattle.std.specs.Map.{lookup}
+use Rattle.std.specs.Str.{bytes_eq}
+use Rattle.serde_json.specs.Data.{Data, object}
+use Rattle.serde_json.specs.Find.{get}
+use Rattle.json_tree.specs.Fields.{text_in, natural_in}
+use Rattle.json_tree.specs.Lines.{IsLineOf, line_read}
+use Rattle.json_tree.specs.Names.{extra_in}
+use Rattle.json_tree.specs.Steps.{◌>>=◌}
+use Rattle.json_tree.specs.declared.fields.FieldFault.{FieldFault}
+use Rattle.json_tree.specs.declared.fields.FieldFault.TheVariants.{Missing}
+use Rattle.wire_json.specs.Acts.{in_form}
+use Rattle.wire_json.specs.ClientReading.{match_in, or_null}
+use Rattle.wire_json.specs.MatchText.{IsName}
+use Rattle.wire_json.specs.Refusals.{Refusal, UnknownMessage, ExtraField, at_field, of_line}
+use Rattle.wire_json.specs.ServerText.{server_members}
+use Rattle.wire_json.specs.declared.reason.Reason.{Reason}
+use Rattle.wire_json.specs.declared.reason.Reason.TheVariants.{NoMatch, Unauthorized, GameOver, MatchFull, CannotUndoNow, NotActive, UnknownMove, WrongNumber, NothingToUndo, NothingToRedo, NotYours, NotUndoable, InvalidMove, TooEarly, TooManyWords, TooManyEvents}
+use Rattle.wire_json.specs.declared.server.ServerMsg.{ServerMsg}
+use Rattle.wire_json.specs.declared.server.ServerMsg.TheVariants as to_client
+
+abbrev pub SeatFits : Option ℕ → Type 0
+SeatFits None = Unit {0}
+SeatFits (Some seat) = seat ≤ 255
+
+-- the members are in their forms; those that are values of others may be any
+abbrev pub ServerFits : ServerMsg → Type 0
+ServerFits (to_client.Sync name seat snapshot) = IsName name × SeatFits seat
+ServerFits (to_client.Update ctx entry g at) = at ≤ 4294967295
+ServerFits (to_client.Ok at ticket) = (at ≤ 4294967295) × (ticket ≤ 4294967295)
+ServerFits (to_client.No at reason ticket) = (at ≤ 4294967295) × (ticket ≤ 4294967295)
+
+-- no line passes 2^64 - 1 bytes, so a client's reader has no bound of its own
+abbrev pub no_bound : ℕ
+no_bound = 18446744073709551615
+
+-- the line reads as the object of the message's text
+abbrev pub IsServerForm : List ℕ → ServerMsg → Type 0
+IsServerForm line message = IsLineOf no_bound line (server_members message) × ServerFits message
+
+abbrev pub reason_table : List (List ℕ × Reason)
+reason_table =
+    (codes "no-match", NoMatch) ∷ (codes "unauthorized", Unauthorized) ∷ (codes "game-over", GameOver) ∷ (codes "match-full", MatchFull)
+    ∷ (codes "cannot-undo-now", CannotUndoNow) ∷ (codes "not-active", NotActive) ∷ (codes "unknown-move", UnknownMove) ∷ (codes "wrong-number", WrongNumber)
+    ∷ (codes "nothing-to-undo", NothingToUndo) ∷ (codes "nothing-to-redo", NothingToRedo) ∷ (codes "not-yours", NotYours) ∷ (codes "not-undoable", NotUndoable)
+    ∷ (codes "invalid-move", InvalidMove) ∷ (codes "too-early", TooEarly) ∷ (codes "too-many-words", TooManyWords) ∷ (codes "too-many-events", TooManyEvents) ∷ []
+
+abbrev pub reason_from : List ℕ → Option Reason
+reason_from s = lookup (bytes_eq s) reason_table
+
+abbrev pub reason_in : Option Data → Result Reason FieldFault
+reason_in found = text_in found >>= λ s. in_form (reason_from s)
+
+abbrev pub tree_in : Option Data → Result Data FieldFault
+tree_in None = Err Missing
+tree_in (Some d) = Ok d
+
+unfoldable pub synced_in : Data → Result ServerMsg Refusal
+synced_in d =
+    if extra_in (codes "match" ∷ codes "seat" ∷ codes "snapshot" ∷ codes "type" ∷ []) d then Err ExtraField
+    else
+    (at_field (codes "match") (match_in (get (codes "match") d)) >>= λ name.
+    at_field (codes "seat") (or_null (natural_in 255) (get (codes "seat") d)) >>= λ seat.
+    at_field (codes "snapshot") (tree_in (get (codes "snapshot") d)) >>= λ snapshot.
+    Ok (to_client.Sync name seat snapshot))
+
+unfoldable pub update_in : Data → Result ServerMsg Refusal
+update_in d =
+    if extra_in (codes "ctx" ∷ codes "entry" ∷ codes "g" ∷ codes "number" ∷ codes "type" ∷ []) d then Err ExtraField
+    else
+    (at_field (codes "ctx") (tree_in (get (codes "ctx") d)) >>= λ ctx.
+    at_field (codes "entry") (tree_in (get (codes "entry") d)) >>= λ entry.
+    at_field (codes "g") (tree_in (get (codes "g") d)) >>= λ g.
+    at_field (codes "number") (natural_in 4294967295 (get (codes "number") d)) >>= λ at.
+    Ok (to_client.Update ctx entry g at))
+
+unfoldable pub ok_in : Data → Result ServerMsg Refusal
+ok_in d =
+    if extra_in (codes "number" ∷ codes "ticket" ∷ codes "type" ∷ []) d then Err ExtraField
+    else
+    (at_field (codes "number") (natural_in 4294967295 (get (codes "number") d)) >>= λ at.
+    at_field (codes "ticket") (natural_in 4294967295 (get (codes "ticket") d)) >>= λ ticket.
+    Ok (to_client.Ok at ticket))
+
+unfoldable pub no_in : Data → Result ServerMsg Refusal
+no_in d =
+    if extra_in (codes "number" ∷ codes "reason" ∷ codes "ticket" ∷ codes "type" ∷ []) d then Err ExtraField
+    else
+    (at_field (codes "number") (natural_in 4294967295 (get (codes "number") d)) >>= λ at.
+    at_field (codes "reason") (reason_in (get (codes "reason") d)) >>= λ reason.
+    at_field (codes "ticket") (natural_in 4294967295 (get (codes "ticket") d)) >>= λ ticket.
+    Ok (to_client.No at reason ticket))
+
+abbrev pub server_as : Result (List ℕ) FieldFault → Data → Result ServerMsg Refusal
+server_as (Err fault) d = Err UnknownMessage
+server_as (Ok kind) d =
+    if bytes_eq kind (codes "no") then no_in d
+    else if bytes_eq kind (codes "ok") then ok_in d
+    else if bytes_eq kind (codes "sync") then synced_in d
+    else if bytes_eq kind (codes "update") then update_in d
+    else Err UnknownMessage
+
+unfoldable pub server_in : Data → Result ServerMsg Refusal
+server_in d = server_as (text_in (get (codes "type") d)) d
+
+unfoldable pub server_read : List ℕ → Result ServerMsg Refusal
+server_read line = of_line (line_read no_bound line) >>= λ ms. server_in (object ms)

@@ -1,0 +1,220 @@
+//! Reads the messages to clients, one function for each row.
+
+ghost use Rattle.std.specs.Prelude.{◌≡◌, IfOk, Ok, false};
+ghost use Rattle.serde_json.specs.Find.{get};
+ghost use Rattle.serde_json.specs.View.{view};
+ghost use Rattle.serde_json.specs.Written.{has_float};
+ghost use Rattle.wire_json.specs.Refusals.{Gives, at_field};
+ghost use Rattle.wire_json.specs.ServerReading.{IsServerForm, tree_in, reason_in, synced_in, update_in, ok_in, no_in, server_in, server_read};
+ghost use Rattle.wire_json.specs.declared.server.ServerMsg.{ServerMsg as Message};
+
+use crate::members::{match_name_of, number_member_of, seat_or_null_of};
+use crate::reason::Reason;
+use crate::server::ServerMsg;
+use crate::wire_no::WireNo;
+use game_sheet::NoMemory;
+use json_tree::{FieldFault, LineFault, Tree, extra_field, read_line, text_of};
+use serde_json::Value;
+use std::alloc::Global;
+
+/// The message that a line to a client is, or its first fault.
+///
+/// The line may be of any length: the bound is the link's.
+#[tactic(auto, using(crate::proofs::ServerLaws::server_read_is, crate::proofs::ServerLaws::server_read_again))]
+pub fn read_server(alloc: Global, line: &[u8]) -> Result<ServerMsg, WireNo>
+    ensures found { IfOk result (λ m. IsServerForm line.now m) }
+    ensures only { (m : Message) → IsServerForm line.now m → Gives result (Ok m) }
+    ensures exact { Gives result (server_read line.now) }
+{
+    read_any(alloc, line)
+}
+
+#[tactic(auto, unfolding(crate::specs::ServerReading::server_read))]
+fn read_any(alloc: Global, line: &[u8]) -> Result<ServerMsg, WireNo>
+    ensures { Gives result (server_read line.now) }
+{
+    match read_line(alloc, line, u64::MAX) {
+        Ok(value) => message_of(&value),
+        Err(LineFault::NoMemory) => Err(WireNo::NoMemory),
+        Err(fault) => Err(WireNo::Line(fault)),
+    }
+}
+
+#[tactic(auto, unfolding(crate::specs::ServerReading::server_in))]
+fn message_of(value: &Value) -> Result<ServerMsg, WireNo>
+    requires { has_float (view value.now) ≡ false }
+    ensures { Gives result (server_in (view value.now)) }
+{
+    let Ok(kind) = text_of(value, "type") else {
+        return Err(WireNo::UnknownMessage);
+    };
+    match kind {
+        "no" => no(value),
+        "ok" => ok(value),
+        "sync" => sync(value),
+        "update" => update(value),
+        _ => Err(WireNo::UnknownMessage),
+    }
+}
+
+#[tactic(auto, unfolding(crate::specs::ServerReading::no_in))]
+fn no(value: &Value) -> Result<ServerMsg, WireNo>
+    ensures { Gives result (no_in (view value.now)) }
+{
+    if extra_field(value, &["number", "reason", "ticket", "type"]) {
+        return Err(WireNo::ExtraField);
+    }
+    let number = match number_member_of(value, "number") {
+        Ok(number) => number,
+        Err(fault) => return Err(WireNo::Field {
+            name: "number",
+            fault,
+        }),
+    };
+    let reason = match reason_of(value, "reason") {
+        Ok(reason) => reason,
+        Err(fault) => return Err(WireNo::Field {
+            name: "reason",
+            fault,
+        }),
+    };
+    match number_member_of(value, "ticket") {
+        Ok(ticket) => Ok(ServerMsg::No {
+            number,
+            reason,
+            ticket,
+        }),
+        Err(fault) => Err(WireNo::Field {
+            name: "ticket",
+            fault,
+        }),
+    }
+}
+
+fn reason_of(value: &Value, name: &str) -> Result<Reason, FieldFault>
+    ensures { result ≡ reason_in (get name.now (view value.now)) }
+{
+    let text = text_of(value, name)?;
+    match Reason::named(text) {
+        Some(reason) => Ok(reason),
+        None => Err(FieldFault::OutOfRange),
+    }
+}
+
+#[tactic(auto, unfolding(crate::specs::ServerReading::ok_in))]
+fn ok(value: &Value) -> Result<ServerMsg, WireNo>
+    ensures { Gives result (ok_in (view value.now)) }
+{
+    if extra_field(value, &["number", "ticket", "type"]) {
+        return Err(WireNo::ExtraField);
+    }
+    let number = match number_member_of(value, "number") {
+        Ok(number) => number,
+        Err(fault) => return Err(WireNo::Field {
+            name: "number",
+            fault,
+        }),
+    };
+    match number_member_of(value, "ticket") {
+        Ok(ticket) => Ok(ServerMsg::Ok { number, ticket }),
+        Err(fault) => Err(WireNo::Field {
+            name: "ticket",
+            fault,
+        }),
+    }
+}
+
+#[tactic(auto, unfolding(crate::specs::ServerReading::synced_in))]
+fn sync(value: &Value) -> Result<ServerMsg, WireNo>
+    requires { has_float (view value.now) ≡ false }
+    ensures { Gives result (synced_in (view value.now)) }
+{
+    if extra_field(value, &["match", "seat", "snapshot", "type"]) {
+        return Err(WireNo::ExtraField);
+    }
+    let name = match match_name_of(value, "match") {
+        Ok(name) => name,
+        Err(fault) => return Err(WireNo::Field {
+            name: "match",
+            fault,
+        }),
+    };
+    let seat = match seat_or_null_of(value, "seat") {
+        Ok(seat) => seat,
+        Err(fault) => return Err(WireNo::Field {
+            name: "seat",
+            fault,
+        }),
+    };
+    match tree_member_of(value, "snapshot") {
+        Ok(snapshot) => Ok(ServerMsg::Sync {
+            name,
+            seat,
+            snapshot,
+        }),
+        Err(no) => Err(no),
+    }
+}
+
+#[tactic(auto, unfolding(crate::specs::ServerReading::update_in))]
+fn update(value: &Value) -> Result<ServerMsg, WireNo>
+    requires { has_float (view value.now) ≡ false }
+    ensures { Gives result (update_in (view value.now)) }
+{
+    if extra_field(value, &["ctx", "entry", "g", "number", "type"]) {
+        return Err(WireNo::ExtraField);
+    }
+    let ctx = match tree_member_of(value, "ctx") {
+        Ok(ctx) => ctx,
+        Err(no) => return Err(no),
+    };
+    let entry = match tree_member_of(value, "entry") {
+        Ok(entry) => entry,
+        Err(no) => return Err(no),
+    };
+    let g = match tree_member_of(value, "g") {
+        Ok(g) => g,
+        Err(no) => return Err(no),
+    };
+    match number_member_of(value, "number") {
+        Ok(number) => Ok(ServerMsg::Update {
+            ctx,
+            entry,
+            g,
+            number,
+        }),
+        Err(fault) => Err(WireNo::Field {
+            name: "number",
+            fault,
+        }),
+    }
+}
+
+// The member whatever it holds.
+fn tree_member_of(value: &Value, name: &'static str) -> Result<Tree, WireNo>
+    requires { has_float (view value.now) ≡ false }
+    ensures { Gives result (at_field name.now (tree_in (get name.now (view value.now)))) }
+{
+    match tree_of(value, name) {
+        Ok(Some(tree)) => Ok(tree),
+        Ok(None) => Err(WireNo::Field {
+            name,
+            fault: FieldFault::Missing,
+        }),
+        Err(_) => Err(WireNo::NoMemory),
+    }
+}
+
+#[tactic(auto, using(crate::proofs::Trees::float_free_part))]
+fn tree_of(value: &Value, name: &str) -> Result<Option<Tree>, NoMemory>
+    requires { has_float (view value.now) ≡ false }
+    ensures { IfOk result (λ tree. tree ≡ get name.now (view value.now)) }
+{
+    match value.get(name) {
+        Some(member) => {
+            let copy = member.clone()?;
+            Ok(Some(Tree::new(copy)))
+        }
+        None => Ok(None),
+    }
+}
