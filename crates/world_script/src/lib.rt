@@ -2,8 +2,10 @@
 #![tactic(auto)]
 
 mod chunk;
+mod command;
 mod lines;
 mod next;
 
+pub use command::{Command, command_of};
 pub use lines::Lines;
 pub use next::Next;

@@ -16,9 +16,11 @@ returns-then-byte-eq10-clause-told c left =
 pub returns-then-len-eq-MOST_BYTES-clause-told : goal.returns-then-len-eq-MOST_BYTES-clause-told
 returns-then-len-eq-MOST_BYTES-clause-told c left =
     let shown = rw (← c.self.view_is) at c.requires in
-    let long : length c.self.inside.begun.items ≡ 65536 = omega (arith, c.len.ensures, c.self.inside.begun.ok.0, c.if-len-eq-MOST_BYTES.true) in
-    (rw (← c.self.view_is)
-    (after_too_long _ _ _ left c.args.byte shown c.if-self-eq-MOST_LINES.false c.if-byte-eq10.false long), refl)
+    let long : length c.self.inside.begun.items ≡ 65536 = omega (arith, c.len.ensures, c.self.inside.begun.ok.0, c.if-len-eq-MOST_BYTES.true) in (
+      rw (← c.self.view_is)
+          (after_too_long _ _ _ left c.args.byte shown c.if-self-eq-MOST_LINES.false c.if-byte-eq10.false long),
+      refl,
+    )
 
 pub returns-in-Ok-clause-told : goal.returns-in-Ok-clause-told
 returns-in-Ok-clause-told c left =
