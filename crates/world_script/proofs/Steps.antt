@@ -1,9 +1,8 @@
 -- What the lines of a script are from a byte on, and at the end.
-use Rattle.std.proofs.Common.{◌≡◌, ◌≢◌, ℕ, ◌+◌, ◌<◌, ◌≤◌, List, [], ◌∷◌, ◌++◌, length, drop, Bool, true, false, eqb, ◌⊎◌, inl, inr, refl, sym, ap, subst, ◌∙◌, arith}
+use Rattle.std.proofs.Common.{◌≡◌, ◌≢◌, ℕ, ◌+◌, List, [], ◌∷◌, ◌++◌, length, drop, false, eqb, inl, inr, refl, sym, ap, ◌∙◌, arith}
 use Rattle.std.proofs.lemmas.Bool.{eq-eqb}
 use Rattle.std.proofs.lemmas.Bool.Decides.{eqb_tells}
-use Rattle.world_script.specs.ScriptLines.{Script, Ended, TooLong, TooMany, no_lines, first_line, last_line, script_from, without_return, most_bytes, most_lines}
-use Rattle.world_script.specs.Reader.{Reader, to_come}
+use Rattle.world_script.specs.ScriptLines.{Ended, TooLong, TooMany, no_lines, first_line, last_line, script_from, without_return, most_bytes, most_lines}
 
 differ : (a b : ℕ) → a ≢ b → eqb a b ≡ false
 differ a b ne = elim (eqb_tells a b) [ inl p ↦ absurd (ne p.1) | inr p ↦ p.0 ]

@@ -1,7 +1,9 @@
 -- The commands that lines of a script are. Words are parted by exactly one blank, and numbers are decimal, without sign
 -- and without leading zeros. Empty lines and lines that begin with # are passed over.
-use Rattle.std.specs.Prelude.{ℕ, ◌+◌, ◌-◌, ◌*◌, ◌==◌, ◌&&◌, nat_le, Bool, List, [], ◌∷◌, take, drop, position, Option, Some, None, option_map, option_and_then, codes, if◌then◌else◌}
-use Rattle.std.specs.Prelude.{bytes_eq}
+use Rattle.std.specs.Prelude.{ℕ, ◌+◌, ◌-◌, ◌*◌, ◌==◌, ◌&&◌, nat_le, List, [], ◌∷◌, take, drop, position, Option, Some, None, option_map, option_and_then, codes, if◌then◌else◌}
+use Rattle.std.specs.Prelude.{bytes_eq, Result, Ok, Err}
+use Rattle.hex.specs.Hex.{decode_sized, encode_lower}
+use Rattle.hex.specs.declared.FromHexError.{FromHexError}
 
 pub data Said : Type 0 where
   Passed : Said
@@ -9,6 +11,7 @@ pub data Said : Type 0 where
   Say : ℕ → List ℕ → Said
   Take : ℕ → Said
   Detach : ℕ → Said
+  Seed : List ℕ → Said
 
 abbrev pub digit : ℕ → Option ℕ
 digit b = if nat_le 48 b && nat_le b 57 then Some (b - 48) else None
@@ -58,9 +61,20 @@ alone (b ∷ word) =
     if b == 116 then option_map Take (session_of word) else
     (if b == 120 then option_map Detach (session_of word) else None)
 
+-- the bytes that a text was decoded to, where it is their text in lower case
+abbrev pub written_so : List ℕ → Result (List ℕ) FromHexError → Option (List ℕ)
+written_so text (Ok bytes) = if bytes_eq (encode_lower bytes) text then Some bytes else None
+written_so text (Err e) = None
+
+-- a seed of 32 bytes in 64 lower-case hexadecimal digits
+unfoldable pub seed_of : List ℕ → Option (List ℕ)
+seed_of text = written_so text (decode_sized text 32)
+
 abbrev pub by_words : List ℕ → Option (List ℕ × List ℕ) → Option Said
 by_words line None = alone line
-by_words line (Some p) = if bytes_eq p.0 (codes "open") then opening p.1 else saying p.0 p.1
+by_words line (Some p) =
+    if bytes_eq p.0 (codes "open") then opening p.1 else
+    (if bytes_eq p.0 (codes "seed") then option_map Seed (seed_of p.1) else saying p.0 p.1)
 
 -- the command that a line is; none where it is in no form
 abbrev pub command : List ℕ → Option Said

@@ -1,8 +1,10 @@
 //! The commands that lines of a script are.
 
 ghost use Rattle.std.specs.Prelude.{◌≡◌, ◌≤◌, ◌<◌, ◌==◌, length, take, drop, position, option_map, IfSome, bytes_eq, codes, if◌then◌else◌, ◌+◌, ◌*◌};
-ghost use Rattle.world_script.specs.Commands.{digit, leading, after, small_number, session_of, seats_of, opening, saying, alone, command};
+ghost use Rattle.world_script.specs.Commands.{digit, leading, after, small_number, session_of, seats_of, opening, saying, alone, seed_of, Seed, command};
 ghost use Rattle.world_script.specs.CommandIs.{said};
+
+use hex::FromHex;
 
 /// What a line of a script asks for.
 #[derive(Clone, Copy, Debug)]
@@ -33,6 +35,8 @@ pub enum Command<'a> {
         /// The session, 0 to 31.
         session: u8,
     },
+    /// The seed of the next match that is made.
+    Seed([u8; 32]),
 }
 
 /// The command that a line is; none where it is in no form.
@@ -54,13 +58,31 @@ pub fn command_of(line: &[u8]) -> Option<Command<'_>>
 }
 
 fn with_rest<'a>(word: &'a [u8], rest: &'a [u8]) -> Option<Command<'a>>
-    ensures { option_map said result ≡ (if bytes_eq word.now (codes "open") then opening rest.now else saying word.now rest.now) }
+    ensures { option_map said result ≡ (if bytes_eq word.now (codes "open") then opening rest.now else
+        (if bytes_eq word.now (codes "seed") then option_map Seed (seed_of rest.now) else saying word.now rest.now)) }
 {
     if word == b"open".as_slice() {
         opening(rest)
+    } else if word == b"seed".as_slice() {
+        let seed = seed_of(rest)?;
+        Some(Command::Seed(seed))
     } else {
         saying(word, rest)
     }
+}
+
+#[tactic(auto, unfolding(crate::specs::Commands::seed_of))]
+fn seed_of(text: &[u8]) -> Option<[u8; 32]>
+    ensures { result ≡ seed_of text.now }
+{
+    let Ok(seed) = <[u8; 32] as FromHex>::from_hex(text) else {
+        return None;
+    };
+    let mut back = [0u8; 64];
+    let Ok(()) = hex::encode_to_slice(&seed, &mut back) else {
+        unreachable!();
+    };
+    if &back[..] == text { Some(seed) } else { None }
 }
 
 fn opening(rest: &[u8]) -> Option<Command<'_>>
@@ -164,3 +186,6 @@ fn after(byte: u8, front: u16) -> Option<u16>
     let last = digit(byte)?;
     Some(10 * front + last)
 }
+
+#[cfg(test)]
+mod tests;

@@ -158,3 +158,6 @@ fn strip_return(line: &mut Vec<u8>)
         line.truncate(length - 1);
     }
 }
+
+#[cfg(test)]
+mod tests;

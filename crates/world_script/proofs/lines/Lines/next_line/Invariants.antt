@@ -1,4 +1,4 @@
-use Rattle.std.proofs.Common.{◌≡◌, ◌≤◌, ◌-◌, length}
+use Rattle.std.proofs.Common.{◌-◌, length}
 use Rattle.world_script.proofs.lines.Lines.next_line.Given as goal
 use Rattle.world_script.proofs.Progress.{Keeps}
 

@@ -1,4 +1,4 @@
-use Rattle.std.proofs.Common.{◌≡◌, ◌≢◌, length, refl, sym, ◌∙◌, arith}
+use Rattle.std.proofs.Common.{◌≡◌, ◌≢◌, length, refl, sym, arith}
 use Rattle.world_script.proofs.Steps.{after_all, after_newline, after_too_long, after_byte}
 use Rattle.world_script.proofs.lines.Lines.take.Goals as goal
 
