@@ -59,7 +59,8 @@ impl Lines {
 
     /// How many lines were given: the number of the last one, counted from 1.
     pub fn given(&self) -> u32
-        ensures { result ≡ self.now.given }
+        ensures value { result ≡ self.now.given }
+        ensures most { result ≤ 1000000 }
     {
         self.given
     }
