@@ -70,6 +70,7 @@ impl Lines {
         ensures never_falls { S.faults source.old ≤ S.faults source.new }
         ensures raises { Raises result (S.faults source.old) (S.faults source.new) }
         ensures given { self.new.given ≡ given_after result self.old.given }
+        ensures most { self.new.given ≤ 1000000 }
         ensures told { IsSome (S.left source.old) → IsSome (S.left source.new)
             × Answers result self.new.line (to_come self.old (told_bytes (S.left source.old))) (to_come self.new (told_bytes (S.left source.new))) }
     {
@@ -84,6 +85,7 @@ impl Lines {
         ensures never_falls { S.faults source.old ≤ S.faults source.new }
         ensures raises { StepRaises result (S.faults source.old) (S.faults source.new) }
         ensures given { self.new.given ≡ given_by result self.old.given }
+        ensures most { self.new.given ≤ 1000000 }
         ensures grows { Grows result self.old.begun self.new.begun }
         ensures told { IsSome (S.left source.old) → IsSome (S.left source.new)
             × Steps result self.new.line (to_come self.old (told_bytes (S.left source.old))) (to_come self.new (told_bytes (S.left source.new))) }
@@ -99,6 +101,7 @@ impl Lines {
         requires { self.old.waiting ≡ byte ∷ drop 1 self.old.waiting }
         ensures raises { (old new : ℕ) → StepRaises result old new }
         ensures given { self.new.given ≡ given_by result self.old.given }
+        ensures most { self.new.given ≤ 1000000 }
         ensures grows { Grows result self.old.begun self.new.begun }
         ensures told { (left : List ℕ) → Steps result self.new.line (to_come self.old left) (to_come self.new left) }
     {
@@ -137,6 +140,7 @@ impl Lines {
         requires { self.old.waiting ≡ [] }
         ensures raises { (old new : ℕ) → Raises result old new }
         ensures given { self.new.given ≡ given_after result self.old.given }
+        ensures most { self.new.given ≤ 1000000 }
         ensures waits { self.new.waiting ≡ [] }
         ensures told { Answers result self.new.line (to_come self.old []) (to_come self.new []) }
     {
