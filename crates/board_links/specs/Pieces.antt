@@ -1,10 +1,14 @@
 -- What the answers of a source and a sink say of the bytes that are left and of those that are held, where these are told.
-use Rattle.std.specs.Prelude.{◌≡◌, ℕ, ◌≤◌, List, [], ◌++◌, length, take, drop, Option, Some}
+use Rattle.std.specs.Prelude.{◌≡◌, ℕ, ◌≤◌, List, [], ◌++◌, length, take, drop, Option, Some, unwrap_or}
 use Rattle.board_links.specs.declared.source.Piece.{Piece}
 use Rattle.board_links.specs.declared.source.Piece.TheVariants.{Got, End, Failed}
 use Rattle.board_links.specs.declared.sink.Put as sink
 use Rattle.board_links.specs.declared.sink.Put.TheVariants as put
 use Rattle.board_links.specs.Faults.{HasRisen}
+
+-- the bytes that are told; where nothing is told, none
+abbrev pub told_bytes : Option (List ℕ) → List ℕ
+told_bytes told = unwrap_or told []
 
 -- a piece has a byte, and no more than the room that was given
 abbrev pub HasSize : Piece → ℕ → Type 0

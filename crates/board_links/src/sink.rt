@@ -1,6 +1,6 @@
 //! Where bytes go.
 
-ghost use Rattle.std.specs.Prelude.{◌≡◌, ◌≤◌, Some};
+ghost use Rattle.std.specs.Prelude.{◌≤◌, IsSome};
 
 /// What a sink answers.
 #[derive(Clone, Copy, PartialEq, Eq, Debug)]
@@ -14,7 +14,7 @@ pub enum Put {
 /// A sink of bytes, such as standard output.
 pub trait Sink {
     ghost use Rattle.std.specs.Prelude.{ℕ, List, Option};
-    ghost use Rattle.board_links.specs.Pieces.{WriteRaises, Writes};
+    ghost use Rattle.board_links.specs.Pieces.{told_bytes, WriteRaises, Writes};
 
     /// The bytes that it holds, where the sink tells them; a real file tells nothing.
     ghost held: { Self → Option (List ℕ) };
@@ -26,5 +26,5 @@ pub trait Sink {
     fn put(&mut self, bytes: &[u8]) -> Put
         ensures never_falls { faults self.old ≤ faults self.new }
         ensures raises { WriteRaises result (faults self.old) (faults self.new) }
-        ensures told { (before : List ℕ) → held self.old ≡ Some before → Writes result bytes.now before (held self.new) };
+        ensures told { IsSome (held self.old) → Writes result bytes.now (told_bytes (held self.old)) (held self.new) };
 }

@@ -1,6 +1,6 @@
 //! Where bytes come from.
 
-ghost use Rattle.std.specs.Prelude.{◌≡◌, ◌≤◌, ◌<◌, length, Some};
+ghost use Rattle.std.specs.Prelude.{◌≤◌, ◌<◌, length, IsSome};
 
 /// What a source answers.
 #[derive(Clone, Copy, PartialEq, Eq, Debug)]
@@ -16,7 +16,7 @@ pub enum Piece {
 /// A source of bytes, such as standard input.
 pub trait Source {
     ghost use Rattle.std.specs.Prelude.{ℕ, List, Option};
-    ghost use Rattle.board_links.specs.Pieces.{HasSize, ReadRaises, Reads};
+    ghost use Rattle.board_links.specs.Pieces.{told_bytes, HasSize, ReadRaises, Reads};
 
     /// The bytes that are left, where the source tells them; a real file tells nothing.
     ghost left: { Self → Option (List ℕ) };
@@ -30,5 +30,5 @@ pub trait Source {
         ensures size { HasSize result (length buf.new) }
         ensures never_falls { faults self.old ≤ faults self.new }
         ensures raises { ReadRaises result (faults self.old) (faults self.new) }
-        ensures told { (bytes : List ℕ) → left self.old ≡ Some bytes → Reads result buf.new bytes (left self.new) };
+        ensures told { IsSome (left self.old) → Reads result buf.new (told_bytes (left self.old)) (left self.new) };
 }

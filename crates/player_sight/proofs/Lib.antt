@@ -1,1 +1,2 @@
 pub mod NoFloat
+pub mod Depths

@@ -1,7 +1,7 @@
 //! The value of a match's context.
 
-ghost use Rattle.std.specs.Prelude.{◌≡◌, IfOk, OnOk, false};
-ghost use Rattle.serde_json.specs.Data.{object};
+ghost use Rattle.std.specs.Prelude.{◌≡◌, ◌≤◌, IfOk, OnOk, false};
+ghost use Rattle.serde_json.specs.Data.{object, depth};
 ghost use Rattle.serde_json.specs.View.{view, members_view};
 ghost use Rattle.serde_json.specs.Written.{has_float};
 ghost use Rattle.player_sight.specs.CtxData.{with_row, rows_members, active_data, over_data, ctx_object, ctx_data};
@@ -17,6 +17,7 @@ use std::alloc::{AllocError, Global};
 pub fn ctx_value(alloc: Global, sheet: &Sheet, ctx: &Ctx) -> Result<Value, NoMemory>
     ensures value { IfOk result (λ v. view v ≡ ctx_data sheet.now ctx.now) }
     ensures no_float { IfOk result (λ v. has_float (view v) ≡ false) }
+    ensures shallow { IfOk result (λ v. depth (view v) ≤ 2) }
 {
     let active = active_value(alloc, sheet, &ctx.active)?;
     let over = over_value(alloc, ctx.over)?;

@@ -1,7 +1,7 @@
 //! The values of actions, of entries of the log, and of the log.
 
-ghost use Rattle.std.specs.Prelude.{◌≡◌, IfOk, false, if◌then◌else◌};
-ghost use Rattle.serde_json.specs.Data.{null};
+ghost use Rattle.std.specs.Prelude.{◌≡◌, ◌≤◌, IfOk, false, if◌then◌else◌};
+ghost use Rattle.serde_json.specs.Data.{null, depth};
 ghost use Rattle.player_sight.specs.Parts.{integers, move_name};
 ghost use Rattle.serde_json.specs.View.{view};
 ghost use Rattle.serde_json.specs.Written.{has_float};
@@ -19,6 +19,7 @@ use std::alloc::{AllocError, Global};
 pub fn entry_value(alloc: Global, sheet: &Sheet, entry: &Entry) -> Result<Value, NoMemory>
     ensures value { IfOk result (λ v. view v ≡ entry_data sheet.now entry.now) }
     ensures no_float { IfOk result (λ v. has_float (view v) ≡ false) }
+    ensures shallow { IfOk result (λ v. depth (view v) ≤ 3) }
 {
     let act = act_value(alloc, sheet, &entry.act, entry.hidden)?;
     let phase = phase_value(alloc, sheet, entry.phase)?;
@@ -42,6 +43,7 @@ fn entry_object(alloc: Global, entry: &Entry, act: Value, phase: Value) -> Resul
 pub fn log_value(alloc: Global, sheet: &Sheet, log: &[Entry]) -> Result<Value, NoMemory>
     ensures value { IfOk result (λ v. view v ≡ log_data sheet.now log.now) }
     ensures no_float { IfOk result (λ v. has_float (view v) ≡ false) }
+    ensures shallow { IfOk result (λ v. depth (view v) ≤ 4) }
 {
     let value = list_value(alloc, sheet, log)?;
     Ok(value)

@@ -1,0 +1,5 @@
+pub mod ScriptLines
+pub mod Reader
+pub mod Reading
+pub mod Commands
+pub mod CommandIs

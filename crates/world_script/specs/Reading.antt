@@ -1,0 +1,85 @@
+-- What an answer of a reader of lines says of the lines that are still to come, and of its source.
+use Rattle.std.specs.Prelude.{◌≡◌, ℕ, ◌+◌, ◌<◌, ◌≤◌, List, [], ◌∷◌, ◌++◌, length, drop, Option, Some, None}
+use Rattle.board_links.specs.Faults.{HasRisen}
+use Rattle.board_links.specs.declared.source.Piece.{Piece}
+use Rattle.board_links.specs.declared.source.Piece.TheVariants as source
+use Rattle.world_script.specs.declared.next.Next.{Next}
+use Rattle.world_script.specs.declared.next.Next.TheVariants as next
+use Rattle.world_script.specs.declared.next.Peeked.{Peeked}
+use Rattle.world_script.specs.declared.next.Peeked.TheVariants.{Byte, End, Failed}
+use Rattle.world_script.specs.ScriptLines.{Script, Ended, TooLong, TooMany, no_lines, first_line}
+
+-- an answer beside the lines to come before and after it: a line is the first of them, an ending is all that there is, and
+-- a fault or want of memory loses none of them
+abbrev pub Answers : Next → List ℕ → Script → Script → Type 0
+Answers next.Line line before after = before ≡ first_line line after
+Answers next.End line before after = (before ≡ no_lines Ended) × (after ≡ before)
+Answers next.TooLong line before after = (before ≡ no_lines TooLong) × (after ≡ before)
+Answers next.TooMany line before after = (before ≡ no_lines TooMany) × (after ≡ before)
+Answers next.ReadFault line before after = after ≡ before
+Answers next.NoMemory line before after = after ≡ before
+
+-- a fault only where the count of faults rose
+abbrev pub Raises : Next → ℕ → ℕ → Type 0
+Raises next.Line old new = Unit {0}
+Raises next.End old new = Unit {0}
+Raises next.TooLong old new = Unit {0}
+Raises next.TooMany old new = Unit {0}
+Raises next.ReadFault old new = HasRisen old new
+Raises next.NoMemory old new = Unit {0}
+
+-- a line counts, nothing else does
+abbrev pub given_after : Next → ℕ → ℕ
+given_after next.Line given = given + 1
+given_after next.End given = given
+given_after next.TooLong given = given
+given_after next.TooMany given = given
+given_after next.ReadFault given = given
+given_after next.NoMemory given = given
+
+-- looking at the next byte beside the bytes to come before and after it
+abbrev pub Peeks : Peeked → List ℕ → List ℕ → Type 0
+Peeks (Byte b) before after = after ≡ before
+Peeks End before after = (before ≡ []) × (after ≡ [])
+Peeks Failed before after = after ≡ before
+
+-- the byte seen is the first of those that wait
+abbrev pub Shows : Peeked → List ℕ → Type 0
+Shows (Byte b) waiting = waiting ≡ b ∷ drop 1 waiting
+Shows End waiting = waiting ≡ []
+Shows Failed waiting = waiting ≡ []
+
+abbrev pub PeekRaises : Peeked → ℕ → ℕ → Type 0
+PeekRaises (Byte b) old new = Unit {0}
+PeekRaises End old new = Unit {0}
+PeekRaises Failed old new = HasRisen old new
+
+-- what a read leaves waiting, beside the bytes left before and after it
+abbrev pub Fills : Piece → List ℕ → List ℕ → List ℕ → Type 0
+Fills (source.Got n) before waiting after = before ≡ waiting ++ after
+Fills source.End before waiting after = (before ≡ []) × (after ≡ [])
+Fills source.Failed before waiting after = after ≡ before
+
+-- a piece leaves a byte waiting, everything else none
+abbrev pub HasBytes : Piece → List ℕ → Type 0
+HasBytes (source.Got n) waiting = 0 < length waiting
+HasBytes source.End waiting = waiting ≡ []
+HasBytes source.Failed waiting = waiting ≡ []
+
+-- one step of a reader: with no answer yet, the same lines are to come
+abbrev pub Steps : Option Next → List ℕ → Script → Script → Type 0
+Steps None line before after = after ≡ before
+Steps (Some answer) line before after = Answers answer line before after
+
+abbrev pub StepRaises : Option Next → ℕ → ℕ → Type 0
+StepRaises None old new = Unit {0}
+StepRaises (Some answer) old new = Raises answer old new
+
+abbrev pub given_by : Option Next → ℕ → ℕ
+given_by None given = given
+given_by (Some answer) given = given_after answer given
+
+-- with no answer yet, the line that has begun has one byte more
+abbrev pub Grows : Option Next → List ℕ → List ℕ → Type 0
+Grows None old new = (length new ≡ length old + 1) × (length new ≤ 65536)
+Grows (Some answer) old new = Unit {0}

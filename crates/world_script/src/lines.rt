@@ -1,0 +1,168 @@
+//! The lines of a script, one by one.
+
+ghost use Rattle.std.specs.Prelude.{◌≡◌, ◌≤◌, ◌<◌, ◌+◌, ℕ, List, [], ◌∷◌, length, drop, IsSome};
+ghost use Rattle.board_links.specs.Pieces.{told_bytes};
+ghost use Rattle.world_script.specs.Reader.{fresh, to_come};
+ghost use Rattle.world_script.specs.ScriptLines.{without_return};
+
+use crate::chunk::Chunk;
+use crate::next::{Next, Peeked};
+use board_links::Source;
+use std::alloc::Global;
+use std::marker::Model;
+use std::mem;
+
+const MOST_BYTES: usize = 65_536;
+
+const MOST_LINES: u32 = 1_000_000;
+
+/// A reader of lines. Contracts see which lines are still to come, where the source tells its bytes.
+#[derive(Drop)]
+pub struct Lines {
+    chunk: Chunk,
+    line: Vec<u8>,
+    begun: Vec<u8>,
+    given: u32,
+}
+
+impl Model for Lines {
+    ghost use Rattle.world_script.specs.Reader.{Reader, IsWithinLimits};
+
+    ghost Value = { Reader };
+
+    ghost view = { λ r. record { line = r.line.items; begun = r.begun.items; waiting = r.chunk; given = r.given } };
+
+    ghost invariant = { λ r. IsWithinLimits r.begun.items r.given };
+}
+
+impl Lines {
+    ghost use Rattle.world_script.specs.Reading.{Answers, Raises, given_after, Steps, StepRaises, given_by, Grows};
+
+    /// A reader that has read nothing.
+    pub fn new(alloc: Global) -> Self
+        ensures { result ≡ fresh }
+    {
+        Lines {
+            chunk: Chunk::new(),
+            line: Vec::new(alloc),
+            begun: Vec::new(alloc),
+            given: 0,
+        }
+    }
+
+    /// The line that was given last; its newline isn't part of it.
+    pub fn line(&self) -> &[u8]
+        ensures { result.now ≡ self.now.line }
+    {
+        self.line.as_slice()
+    }
+
+    /// How many lines were given: the number of the last one, counted from 1.
+    pub fn given(&self) -> u32
+        ensures value { result ≡ self.now.given }
+        ensures most { result ≤ 1000000 }
+    {
+        self.given
+    }
+
+    /// Reads the next line. After a fault or want of memory the same lines are still to come.
+    pub fn next_line<S: Source>(&mut self, source: &mut S) -> Next
+        ensures never_falls { S.faults source.old ≤ S.faults source.new }
+        ensures raises { Raises result (S.faults source.old) (S.faults source.new) }
+        ensures given { self.new.given ≡ given_after result self.old.given }
+        ensures most { self.new.given ≤ 1000000 }
+        ensures told { IsSome (S.left source.old) → IsSome (S.left source.new)
+            × Answers result self.new.line (to_come self.old (told_bytes (S.left source.old))) (to_come self.new (told_bytes (S.left source.new))) }
+    {
+        loop {
+            if let Some(next) = self.step(source) {
+                return next;
+            }
+        }
+    }
+
+    fn step<S: Source>(&mut self, source: &mut S) -> Option<Next>
+        ensures never_falls { S.faults source.old ≤ S.faults source.new }
+        ensures raises { StepRaises result (S.faults source.old) (S.faults source.new) }
+        ensures given { self.new.given ≡ given_by result self.old.given }
+        ensures most { self.new.given ≤ 1000000 }
+        ensures grows { Grows result self.old.begun self.new.begun }
+        ensures told { IsSome (S.left source.old) → IsSome (S.left source.new)
+            × Steps result self.new.line (to_come self.old (told_bytes (S.left source.old))) (to_come self.new (told_bytes (S.left source.new))) }
+    {
+        match self.chunk.peek(source) {
+            Peeked::Byte(byte) => self.take(byte),
+            Peeked::End => Some(self.last()),
+            Peeked::Failed => Some(Next::ReadFault),
+        }
+    }
+
+    fn take(&mut self, byte: u8) -> Option<Next>
+        requires { self.old.waiting ≡ byte ∷ drop 1 self.old.waiting }
+        ensures raises { (old new : ℕ) → StepRaises result old new }
+        ensures given { self.new.given ≡ given_by result self.old.given }
+        ensures most { self.new.given ≤ 1000000 }
+        ensures grows { Grows result self.old.begun self.new.begun }
+        ensures told { (left : List ℕ) → Steps result self.new.line (to_come self.old left) (to_come self.new left) }
+    {
+        if self.given == MOST_LINES {
+            return Some(Next::TooMany);
+        }
+        if byte == b'\n' {
+            self.finish();
+            return Some(Next::Line);
+        }
+        if self.begun.len() == MOST_BYTES {
+            return Some(Next::TooLong);
+        }
+        match self.begun.push(byte) {
+            Ok(()) => {
+                self.chunk.advance();
+                None
+            }
+            Err(_) => Some(Next::NoMemory),
+        }
+    }
+
+    fn finish(&mut self)
+        requires waits { 0 < length self.old.waiting }
+        requires room { self.old.given < 1000000 }
+        ensures { self.new ≡ record { line = without_return self.old.begun; begun = []; waiting = drop 1 self.old.waiting; given = self.old.given + 1 } }
+    {
+        self.chunk.advance();
+        mem::swap(&mut self.line, &mut self.begun);
+        self.begun.clear();
+        strip_return(&mut self.line);
+        self.given += 1;
+    }
+
+    fn last(&mut self) -> Next
+        requires { self.old.waiting ≡ [] }
+        ensures raises { (old new : ℕ) → Raises result old new }
+        ensures given { self.new.given ≡ given_after result self.old.given }
+        ensures most { self.new.given ≤ 1000000 }
+        ensures waits { self.new.waiting ≡ [] }
+        ensures told { Answers result self.new.line (to_come self.old []) (to_come self.new []) }
+    {
+        if self.begun.is_empty() {
+            return Next::End;
+        }
+        mem::swap(&mut self.line, &mut self.begun);
+        self.begun.clear();
+        self.given += 1;
+        Next::Line
+    }
+}
+
+/// Drops a carriage return at the end.
+fn strip_return(line: &mut Vec<u8>)
+    ensures { line.new.items ≡ without_return line.old.items }
+{
+    let length = line.len();
+    if length > 0 && line[length - 1] == b'\r' {
+        line.truncate(length - 1);
+    }
+}
+
+#[cfg(test)]
+mod tests;
