@@ -4,18 +4,26 @@ use crate::object::Object;
 use crate::view::View;
 use atomic_table::{Join, Play, Split, TableRule};
 use std::marker::{Brand, PhantomData};
+use std::snapshot::Snapshot;
 
-/// The rule: one history, with tickets and a turn. Its key is how many passes the desk was set up with.
+/// What a desk was set up with: how many passes, and the object as it was.
+#[derive(Drop)]
+pub struct Beginning<O> {
+    pub(crate) passes: u32,
+    pub(crate) object: Snapshot<O>,
+}
+
+/// The rule: one history, with tickets and a turn.
 pub struct Turns<O> {
     marker: PhantomData<O>,
 }
 
-impl<O: Object> TableRule<Option<O>, View<O::Call>, u32> for Turns<O> {
+impl<O: Object> TableRule<Option<O>, View<O::Call>, Beginning<O>> for Turns<O> {
     ghost use Rattle.room_desk.specs.Turns.{Desked, untold};
 
-    ghost holds = { λ count. Desked O.number O.stands_for count };
+    ghost holds = { λ b. Desked O.number O.stands_for b.passes };
 
-    ghost first = { λ count. untold count };
+    ghost first = { λ b. untold b.passes };
 }
 
 /// The empty slot is taken.

@@ -9,7 +9,7 @@ load-requires g c =
     let made = c.in_ok-table.ensures in (
       made.2,
       let two = made.0 in omega arith,
-      reaches_at g.O.Object.number g.O.Object.stands_for _ c.args.passes _ _ c.in_ok-table.seat.me made.5 made.4 c.requires.count.0,
+      reaches_at g.O.Object.number g.O.Object.stands_for _ c.args.passes _ _ c.in_ok-table.seat.me (ap (λ b. b.passes) made.5) made.4 c.requires.count.0,
     )
 
 pub fetch_add-requires : goal.fetch_add-requires
@@ -21,5 +21,5 @@ fetch_add-requires g c =
       ∙ ap (λ (x : Me (Option g.row.O.Denot) (View g.row.O-Call.Denot)). (view x.0.object x.0.pasts x.0.ticket true, (0, Some c.args.object) ∷ [])) made.4) in (
       c.exchange.ensures.0 ∙ (c.load.ensures.0 ∙ made.2),
       let two = made.0 in omega arith,
-      opens_at g.O.Object.number g.O.Object.stands_for _ c.args.passes _ _ c.exchange.new.seat.me c.args.object made.5 is c.requires.count.0 c.requires.empty,
+      opens_at g.O.Object.number g.O.Object.stands_for _ c.args.passes _ _ c.exchange.new.seat.me c.args.object (ap (λ b. b.passes) made.5) is c.requires.count.0 c.requires.empty,
     )
