@@ -22,3 +22,9 @@ module _ {C : Type 0} where
 
   pub begins_more : (e : Entry C) (log seen : List (Entry C)) → Begins log seen → Begins (e ∷ log) seen
   begins_more e log seen b = (e ∷ b.0, ap (λ (l : List (Entry C)). e ∷ l) b.1)
+
+  -- a call of a pass on top of others' entries is one more of its own
+  pub one_more : (e : Entry C) (newer seen : List (Entry C)) → of_pass e.pass newer ≡ [] → of_pass e.pass (e ∷ (newer ++ seen)) ≡ e ∷ of_pass e.pass seen
+  one_more e newer seen others =
+      own_entry e.pass e (newer ++ seen) refl
+      ∙ ap (λ (l : List (Entry C)). e ∷ l) (filter-append (λ (x : Entry C). eqb x.pass e.pass) newer seen ∙ ap (λ (l : List (Entry C)). l ++ of_pass e.pass seen) others)

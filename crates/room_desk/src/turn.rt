@@ -8,7 +8,7 @@ ghost use Rattle.std.specs.Prelude.{◌≡◌, ℕ, ◌∷◌, ◌++◌, ◌%◌
 ghost use Rattle.room_desk.specs.Entry.{entry};
 ghost use Rattle.room_desk.specs.History.{Called, held};
 ghost use Rattle.room_desk.specs.Turns.{past, view, number_in, seen_in};
-ghost use Rattle.room_desk.specs.Plays.{noted, Rests, Takes, Waits, Tells};
+ghost use Rattle.room_desk.specs.Plays.{noted, Rests, Takes, Waits, Entered, Tells};
 
 use crate::desk::Desk;
 use crate::object::Object;
@@ -47,14 +47,27 @@ impl<O: Object> Desk<O> {
         ensures called { Called (O.reply (noted seat.old.me.0.object)) (seen_in seat.old.me.0.pasts) (entry number call (O.is_starved result)) result (seen_in seat.new.me.0.pasts) }
         ensures fed { O.is_starved result ≡ true → O.may_starve call ≡ true }
     {
+        let mut object = self.enter(rt, seat, number);
+        let reply = object.apply(number, call);
+        self.leave::<Brand>(seat, number, object, &reply);
+        reply
+    }
+
+    /// Waits for the turn, and takes the object out of its slot.
+    fn enter<R: Wait>(
+        &self,
+        rt: &R,
+        seat: &mut Seat<Option<O>, View<O::Call>>,
+        number: u32,
+    ) -> O
+        requires table { seat.old.table_id ≡ self.now.desk.table }
+        requires rests { Rests number seat.old.me }
+        ensures table { seat.new.table_id ≡ seat.old.table_id }
+        ensures entered { Entered O.number O.stands_for (noted seat.old.me.0.object) number (seen_in seat.old.me.0.pasts) result seat.new.me }
+    {
         let ticket = self.draw(seat, number);
         self.wait(rt, seat, ticket);
-        let shared = &self.table.shared;
-        let mut object = shared.exchange(seat, 0, None).unwrap();
-        let reply = object.apply(number, call);
-        drop(shared.exchange(seat, 0, Some(object)));
-        self.pass_on::<Brand>(seat, number, &reply);
-        reply
+        self.table.shared.exchange(seat, 0, None).unwrap()
     }
 
     /// Draws the next ticket.
@@ -85,20 +98,28 @@ impl<O: Object> Desk<O> {
         unreachable!()
     }
 
-    /// Passes the turn on, and wakes who waits for it.
-    fn pass_on<J: Said<O::Call>>(
+    /// Puts the object back, and passes the turn on.
+    fn leave<J: Said<O::Call>>(
         &self,
         seat: &mut Seat<Option<O>, View<O::Call>>,
         number: u32,
+        object: O,
         reply: &O::Reply,
     )
         requires table { seat.old.table_id ≡ self.now.desk.table }
-        requires tells { (c : O.Call) × (J.said ≡ entry number c (O.is_starved reply.now) ∷ []) × Tells O.number O.stands_for (entry number c (O.is_starved reply.now)) seat.old.me }
+        requires tells { (c : O.Call) × (J.said ≡ entry number c (O.is_starved reply.now) ∷ []) × Tells O.number O.stands_for object (entry number c (O.is_starved reply.now)) seat.old.me }
         ensures table { seat.new.table_id ≡ seat.old.table_id }
-        ensures passed { seat.new.me ≡ (view seat.old.me.0.object (past number (J.said ++ seen_in seat.old.me.0.pasts) ∷ []) None false, []) }
+        ensures told { seat.new.me ≡ (view seat.old.me.0.object (past number (J.said ++ seen_in seat.old.me.0.pasts) ∷ []) None false, []) }
     {
         let shared = &self.table.shared;
+        drop(shared.exchange(seat, 0, Some(object)));
         let turn = shared.fetch_add::<PassOn<J>>(seat, 1, 1);
+        self.wake(turn);
+    }
+
+    /// Wakes who waits for the turn after this one, if a ticket for it was drawn.
+    fn wake(&self, turn: u64) {
+        let shared = &self.table.shared;
         if shared.peek(0) != turn.wrapping_add(1) {
             shared.wake_all(1);
         }
