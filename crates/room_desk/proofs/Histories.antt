@@ -1,5 +1,5 @@
 -- Histories that begin with one another, and the entries of one pass in them.
-use Rattle.std.proofs.Common.{◌≡◌, ◌≢◌, ℕ, zero, suc, ◌+◌, ◌≤◌, ◌⊎◌, Bool, true, false, cond, List, [], ◌∷◌, ◌++◌, length, filter, refl, ap, sym, ◌∙◌, subst, inl, inr, ⊎_elim, arith, eqb, eq-eqb, ne_eqb, length-append, append_assoc}
+use Rattle.std.proofs.Common.{◌≡◌, ◌≢◌, ℕ, cond, List, [], ◌∷◌, ◌++◌, length, refl, ap, sym, ◌∙◌, arith, eqb, eq-eqb, ne_eqb, length-append}
 use Rattle.std.proofs.lemmas.List.Elements.{filter-append}
 use Rattle.room_desk.specs.Entry.{Entry}
 use Rattle.room_desk.specs.History.{of_pass, Begins}

@@ -1,6 +1,6 @@
 -- One history for all passes of a desk: what a pass has seen of it, what a call adds to it, and what the passes have together.
 -- A history is the list of its entries, the latest first.
-use Rattle.std.specs.Prelude.{ℕ, ◌≡◌, ◌==◌, ◌+◌, zero, suc, List, [], ◌∷◌, ◌++◌, filter, All, Any}
+use Rattle.std.specs.Prelude.{ℕ, ◌≡◌, ◌==◌, zero, suc, List, [], ◌∷◌, ◌++◌, filter, All, Any}
 use Rattle.atomic_table.specs.Seated.{TableId}
 use Rattle.room_desk.specs.Entry.{Entry}
 

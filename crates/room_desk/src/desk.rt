@@ -120,7 +120,9 @@ impl<O: Object> Desk<O> {
                 passes,
             });
         }
-        let Some(last) = passes.pop() else { unreachable!() };
+        let Some(last) = passes.pop() else {
+            unreachable!()
+        };
         let seat = self.unite(last.into_seat(), passes);
         Ok(self.take_out(seat))
     }

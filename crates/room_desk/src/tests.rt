@@ -54,11 +54,14 @@ fn a_desk_is_closed_with_all_its_passes(rt: HostRuntime) -> Result<(), Fail> {
     assert_eq!(rt; desk.call(&rt, &mut first, ()), 2);
     assert_eq!(rt; desk.call(&rt, &mut second, ()), 3);
     passes.push(second)?;
-    let Err(PassesOut {
-        count,
-        desk,
-        mut passes,
-    }) = desk.close(passes) else {
+    let Err(
+        PassesOut {
+            count,
+            desk,
+            mut passes,
+        },
+    ) = desk.close(passes)
+    else {
         panic!(rt; "a pass is missing")
     };
     assert!(rt; count == 1 && passes.len() == 1);
@@ -89,10 +92,15 @@ fn count_in_threads<R: Threads + Wait + Sync>(
     requires { All (λ p. p.desk ≡ desk.now.desk) passes.old }
     ensures { All (λ p. p.desk ≡ desk.now.desk) passes.new }
 {
-    thread::for_each_mut(rt, passes, 8, &|_, pass: &mut Pass<Counter>|
+    thread::for_each_mut(
+        rt,
+        passes,
+        8,
+        &|_, pass: &mut Pass<Counter>|
             requires { pass.old.desk ≡ desk.now.desk }
             ensures { pass.new.desk ≡ pass.old.desk }
-        { count(rt, desk, pass) });
+        { count(rt, desk, pass) },
+    );
 }
 
 #[test]

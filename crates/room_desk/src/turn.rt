@@ -54,12 +54,7 @@ impl<O: Object> Desk<O> {
     }
 
     /// Waits for the turn, and takes the object out of its slot.
-    fn enter<R: Wait>(
-        &self,
-        rt: &R,
-        seat: &mut Seat<Option<O>, View<O::Call>>,
-        number: u32,
-    ) -> O
+    fn enter<R: Wait>(&self, rt: &R, seat: &mut Seat<Option<O>, View<O::Call>>, number: u32) -> O
         requires table { seat.old.table_id ≡ self.now.desk.table }
         requires rests { Rests number seat.old.me }
         ensures table { seat.new.table_id ≡ seat.old.table_id }

@@ -1,4 +1,4 @@
-use Rattle.std.proofs.Common.{refl, ap, sym, ◌∙◌, arith, subst, ◌<◌, ◌≡◌, List, ◌∷◌, [], ◌+◌, ◌++◌, ◌%◌, ◌^◌, Some, None, Option, false}
+use Rattle.std.proofs.Common.{refl, ap, sym, ◌∙◌, arith, subst, List, ◌∷◌, [], ◌+◌, ◌++◌, ◌%◌, ◌^◌, Some, None, Option, false}
 use mathlib.Core.Option.{none}
 use Rattle.atomic_table.specs.Table.{Me, Allows, step}
 use Rattle.room_desk.specs.Entry.{Entry, entry}
@@ -30,7 +30,7 @@ fetch_add-turn-requires g c =
       c.exchange.ensures.0 ∙ (c.requires.table ∙ sym (ap (λ (d : SetUp). d.desk.table) c.self.view_is)),
       let two = c.self.invariant.0 in omega arith,
       subst (λ said. Step said seat.me) (sym told.1)
-        (subst (λ x. Step (e ∷ []) x) (sym put)
+          (subst (λ x. Step (e ∷ []) x) (sym put)
           (passes g.O.Object.number g.O.Object.stands_for table.key.passes table.table_id.slots seat.id (m.0, (0, Some c.args.object) ∷ []) c.args.object e tells.0 (sym tells.1) tells.2 refl tells.4)),
     )
 

@@ -1,8 +1,6 @@
-use Rattle.std.proofs.Common.{◌≡◌, ◌≤◌, ◌<◌, Some, IsSome, Option, length, List, refl, ap, sym, subst, ◌∙◌, arith}
-use mathlib.Core.Option.{some, some-injective}
-use Rattle.room_desk.specs.Entry.{Entry}
+use Rattle.std.proofs.Common.{◌≡◌, Some, IsSome, refl, ap, sym, subst, ◌∙◌, arith}
+use mathlib.Core.Option.{some-injective}
 use Rattle.room_desk.specs.History.{SetUp}
-use Rattle.room_desk.specs.Plays.{United}
 use Rattle.room_desk.proofs.Closing.{closes}
 use Rattle.room_desk.proofs.desk.Desk.take_out.Goals as goal
 

@@ -1,8 +1,6 @@
-use Rattle.std.proofs.Common.{ap, sym, ◌∙◌, map, ◌≡◌, ◌∷◌, ◌++◌, refl, List, ℕ}
-use Rattle.atomic_table.specs.Table.{Me}
+use Rattle.std.proofs.Common.{ap, ◌∙◌, map, ◌≡◌, ◌∷◌, ◌++◌, refl, List, ℕ}
 use Rattle.room_desk.specs.Entry.{Entry, entry}
 use Rattle.room_desk.specs.Turns.{seen_in}
-use Rattle.room_desk.specs.Plays.{noted}
 use Rattle.room_desk.proofs.Calling.{tells}
 use Rattle.room_desk.proofs.Histories.{one_more}
 use Rattle.room_desk.proofs.desk.Desk.turn.Goals as goal
@@ -24,9 +22,9 @@ returns-clause-called g c =
     let e = entry c.args.number c.args.call (g.O.Object.is_starved c.apply-reply.result) in
     let history = entered.0 ++ seen in
     let ends : seen_in c.leave.new.seat.me.0.pasts ≡ e ∷ history =
-      ap (λ x. seen_in x.0.pasts) c.leave.ensures.told
-      ∙ (ap (λ asked. map (λ call. entry c.args.number call (g.O.Object.is_starved c.apply-reply.result)) asked ++ seen_in c.enter-object.new.seat.me.0.pasts) c.requires.asked
-      ∙ ap (λ x. e ∷ seen_in x.0.pasts) entered.4.1) in
+    ap (λ x. seen_in x.0.pasts) c.leave.ensures.told
+    ∙ (ap (λ asked. map (λ call. entry c.args.number call (g.O.Object.is_starved c.apply-reply.result)) asked ++ seen_in c.enter-object.new.seat.me.0.pasts) c.requires.asked
+    ∙ ap (λ x. e ∷ seen_in x.0.pasts) entered.4.1) in
     record {
       between = entered.0;
       ends = ends;
