@@ -1,14 +1,14 @@
 -- What the rule gives where a desk is closed with all its passes.
-use Rattle.std.proofs.Common.{◌≡◌, ℕ, zero, suc, ◌-◌, ◌<◌, ◌≤◌, Bool, true, false, cond, List, [], ◌∷◌, ◌++◌, map, take, length, get_or, All, Any, Option, Some, refl, ap, sym, ◌∙◌, subst, inl, inr, ⊎_elim, arith, eqb, eq-eqb}
+use Rattle.std.proofs.Common.{◌≡◌, ℕ, zero, suc, ◌-◌, ◌<◌, ◌≤◌, Bool, true, false, cond, List, [], ◌∷◌, ◌++◌, map, take, length, get_or, All, Any, Option, Some, None, refl, ap, sym, ◌∙◌, subst, inl, inr, ⊎_elim, arith, eqb, eq-eqb}
 use mathlib.Core.Logic.{dite}
 use mathlib.Core.Option.{some, none, some-injective}
 use mathlib.Core.Option as maybe
 use native.Mathlib.Decide.{ℕ_discrete}
 use lib.ListN.{get_elem?}
-use Rattle.atomic_table.specs.Table.{State, Final, Seen}
+use Rattle.atomic_table.specs.Table.{State, Me, Final, Seen}
 use Rattle.room_desk.specs.Entry.{Entry}
 use Rattle.room_desk.specs.History.{DeskId, Held, held, dealt, Unites, of_pass, Begins}
-use Rattle.room_desk.specs.Turns.{Past, View, Turns, Desked, Has, pasts_of, tickets_of, how_many}
+use Rattle.room_desk.specs.Turns.{Past, View, Turns, Desked, Has, pasts_of, tickets_of, how_many, view}
 use Rattle.room_desk.specs.Plays.{United, past_of}
 use Rattle.room_desk.proofs.Totals.{total_two, has_some, has_first, has_second, has_either}
 use Rattle.room_desk.proofs.Seats.{at_once}
@@ -135,3 +135,13 @@ module _ {C O : Type 0} (number : O → ℕ) (stands_for : O → List (Entry C) 
       let same = only_seat count s id out.1.0 v u g at all out.1.2 (omega arith) in
       absurd (cc (ap (λ (y : View C). y.turn) same, out.1.3, still)))
       g.slot
+
+  -- what was in the slot is the object, of the number n, and stands for the history that these pasts have together
+  abbrev pub Closed : ℕ → List (Past C) → Option O → Type 0
+  Closed n pasts found = (o : O) × (found ≡ Some o) × (number o ≡ n) × ((h : List (Entry C)) × stands_for o h × United pasts h)
+
+  pub closed_with : (key id n passes : ℕ) (m : Me (Option O) (View C)) (words : List ℕ) (slots : List (Option O)) (found : Option O) → key ≡ passes → 0 < passes → passes ≤ length m.0.pasts
+      → m ≡ (view (Some n) m.0.pasts None false, []) → Final (Seen (Desked number stands_for key) id m.0) words slots → get_elem? slots 0 ≡ some found → Closed n m.0.pasts found
+  closed_with key id n passes m words slots found key_is some_pass all rests final there =
+      let c = closes key id n m.0 words slots (ap (λ (x : Me (Option O) (View C)). x.0.object) rests) (omega arith) (omega arith) (ap (λ (x : Me (Option O) (View C)). x.0.turn) rests) final in
+      (c.0, some-injective found (Some c.0) (sym there ∙ c.1), c.2, c.3)

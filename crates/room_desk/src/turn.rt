@@ -1,8 +1,9 @@
 //! A call on a desk: a ticket, the turn, the call on the object, and the turn passed on.
 //!
-//! A thread whose turn hasn't come parks on the word that counts the turns passed on, and tries again when that word has changed. It runs for no
-//! time while it waits, so a program may have more threads than processors. Who passes the turn on wakes all that wait, since only one of them is next
-//! and a single wake could meet another; and it wakes nobody where no further ticket was drawn, so that a call that meets no other makes no system call.
+//! A thread whose turn hasn't come parks on the word that counts the turns passed on. It takes no processor time while it waits, so a program may have more
+//! threads than processors. Who passes the turn on wakes all that wait, since only one of them is next, and a single wake could reach another. It wakes nobody
+//! where no further ticket was drawn: who waits has drawn its ticket before, and who draws one later finds the word changed. So a call that meets no other asks
+//! nothing of the system. No clause speaks of waiting.
 
 ghost use Rattle.std.specs.Prelude.{◌≡◌, ℕ, ◌∷◌, ◌++◌, ◌%◌, ◌^◌, [], Some, None, true, false};
 ghost use Rattle.room_desk.specs.Entry.{entry};
@@ -31,6 +32,7 @@ impl<O: Object> Desk<O> {
         self.turn::<Brand, R>(rt, &mut pass.seat, number, call)
     }
 
+    /// The call, as `J` has it too, which names it for the proof once it has been moved.
     fn turn<J: Asked<O::Call>, R: Wait>(
         &self,
         rt: &R,

@@ -73,7 +73,7 @@ impl<O: Object, J: Said<O::Call>> Play<Option<O>, View<O::Call>> for PassOn<J> {
     ghost then = { Passes J.said };
 }
 
-/// The entry that passing the turn on adds. Each call of a program picks it.
+/// The entry that passing the turn on adds. The proof of each call picks it.
 pub trait Said<C> {
     ghost use Rattle.std.specs.Prelude.{List};
     ghost use Rattle.room_desk.specs.Entry.{Entry};
@@ -87,7 +87,7 @@ impl<C> Said<C> for Brand {
     ghost said = { [] };
 }
 
-/// The call that a turn is for. Each call of a program picks it.
+/// The call that a turn is for. The proof of each call picks it.
 pub trait Asked<C> {
     ghost use Rattle.std.specs.Prelude.{List};
 
