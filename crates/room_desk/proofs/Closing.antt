@@ -1,14 +1,14 @@
 -- What the rule gives where a desk is closed with all its passes.
-use Rattle.std.proofs.Common.{◌≡◌, ◌≢◌, ℕ, zero, suc, ◌+◌, ◌-◌, ◌<◌, ◌≤◌, ◌⊎◌, Bool, true, false, cond, List, [], ◌∷◌, ◌++◌, map, take, length, get_or, append-nil, filter, All, Any, Option, Some, None, refl, ap, sym, ◌∙◌, subst, inl, inr, ⊎_elim, arith, eqb, eq-eqb}
+use Rattle.std.proofs.Common.{◌≡◌, ℕ, zero, suc, ◌-◌, ◌<◌, ◌≤◌, Bool, true, false, cond, List, [], ◌∷◌, ◌++◌, map, take, length, get_or, All, Any, Option, Some, None, refl, ap, sym, ◌∙◌, subst, inl, inr, ⊎_elim, arith, eqb, eq-eqb}
 use mathlib.Core.Logic.{dite}
 use mathlib.Core.Option.{some, none, some-injective}
 use mathlib.Core.Option as maybe
 use native.Mathlib.Decide.{ℕ_discrete}
 use lib.ListN.{get_elem?}
-use Rattle.atomic_table.specs.Table.{State, Final, Seen}
+use Rattle.atomic_table.specs.Table.{State, Me, Final, Seen}
 use Rattle.room_desk.specs.Entry.{Entry}
 use Rattle.room_desk.specs.History.{DeskId, Held, held, dealt, Unites, of_pass, Begins}
-use Rattle.room_desk.specs.Turns.{Past, View, Turns, Desked, Holder, Has, total, pasts_of, tickets_of, how_many, past, view}
+use Rattle.room_desk.specs.Turns.{Past, View, Turns, Desked, Has, pasts_of, tickets_of, how_many, view}
 use Rattle.room_desk.specs.Plays.{United, past_of}
 use Rattle.room_desk.proofs.Totals.{total_two, has_some, has_first, has_second, has_either}
 use Rattle.room_desk.proofs.Seats.{at_once}
@@ -65,7 +65,7 @@ module _ {C : Type 0} where
   own_there [] e has = absurd has
   own_there (x ∷ xs) e has = ⊎_elim
       (λ is. let same = eq-eqb x.pass e.pass (ap (λ (y : Entry C). y.pass) is) in
-        subst (λ b. 0 < length (cond b (x ∷ of_pass e.pass xs) (of_pass e.pass xs))) (sym same) (omega arith))
+      subst (λ b. 0 < length (cond b (x ∷ of_pass e.pass xs) (of_pass e.pass xs))) (sym same) (omega arith))
       (λ t. let more = own_there xs e t in either_way (eqb x.pass e.pass) x (of_pass e.pass xs) more) has
 
   -- each pass that is dealt is of the desk
@@ -78,13 +78,13 @@ module _ {C : Type 0} where
 
   pub unites : (passes : List (Held C)) (h : List (Entry C)) → United (map past_of passes) h → Unites passes h
   unites passes h u = record {
-      begins = all_has (λ (p : Held C). Begins h p.seen) passes (λ p has. (u.each (past_of p) (map_has past_of passes p has)).0);
-      own = all_has (λ (p : Held C). of_pass p.number h ≡ of_pass p.number p.seen) passes (λ p has. (u.each (past_of p) (map_has past_of passes p has)).1);
-      no_others = all_has (λ (e : Entry C). Any (λ (p : Held C). p.number ≡ e.pass) passes) h (λ e has.
+    begins = all_has (λ (p : Held C). Begins h p.seen) passes (λ p has. (u.each (past_of p) (map_has past_of passes p has)).0);
+    own = all_has (λ (p : Held C). of_pass p.number h ≡ of_pass p.number p.seen) passes (λ p has. (u.each (past_of p) (map_has past_of passes p has)).1);
+    no_others = all_has (λ (e : Entry C). Any (λ (p : Held C). p.number ≡ e.pass) passes) h (λ e has.
         let x = u.no_others e has in
         let p = has_map past_of passes x.0 x.1 in
         any_has (λ (p : Held C). p.number ≡ e.pass) passes p.0 p.1 (ap (λ (y : Past C). y.number) p.2 ∙ x.2));
-    }
+  }
 
 module _ {C O : Type 0} (number : O → ℕ) (stands_for : O → List (Entry C) → Type 0) where
   -- a seat that has as many passes as the desk was set up with has all that any seat has
@@ -99,7 +99,7 @@ module _ {C O : Type 0} (number : O → ℕ) (stands_for : O → List (Entry C) 
   there_too count s id v g at all e has = ⊎_elim
       (λ none_. let some_own = own_there g.log e has in let zero_own : length (of_pass e.pass g.log) ≡ 0 = ap length none_ in absurd (omega arith))
       (λ h. let same = only_seat count s id (g.seat_of e.pass) v h.0 g at all h.1 (has_some h.0.pasts h.2.0 h.2.1) in
-        (h.2.0, subst (λ (u : View C). Has u.pasts h.2.0) same h.2.1, h.2.2))
+      (h.2.0, subst (λ (u : View C). Has u.pasts h.2.0) same h.2.1, h.2.2))
       (g.known e.pass)
 
   -- a desk is closed with a seat that has all the passes: the object is in the slot, and stands for the history that they have together
@@ -110,20 +110,38 @@ module _ {C O : Type 0} (number : O → ℕ) (stands_for : O → List (Entry C) 
       let at = final.1.1 in
       let g = opened number stands_for count s id n v final.1.0 at named in
       ⊎_elim
-        (λ home.
-          let o = home.0 in
-          let there : get_elem? s.homes 0 ≡ some (some (Some o)) = ap (λ (hs : List (maybe.Option (Option O))). get_elem? hs 0) home.1 in
-          let noted : v.object ≡ Some g.name = (g.fits id v at).named some_past in
-          let name_is : number o ≡ n = home.2 ∙ cc (noted, named) in
-          (o, final.4 0 (Some o) there, name_is, (g.log, home.3, record {
+      (λ home.
+      let o = home.0 in
+      let there : get_elem? s.homes 0 ≡ some (some (Some o)) = ap (λ (hs : List (maybe.Option (Option O))). get_elem? hs 0) home.1 in
+      let noted : v.object ≡ Some g.name = (g.fits id v at).named some_past in
+      let name_is : number o ≡ n = home.2 ∙ cc (noted, named) in (
+        o,
+        final.4 0 (Some o) there,
+        name_is,
+        (
+          g.log,
+          home.3,
+          record {
             each = λ x has. let f = (g.fits id v at).own x has in (f.1, f.2);
             no_others = λ e has. there_too count s id v g at all e has;
-          })))
-        (λ out.
-          let u = out.1.1 in
-          let f = g.fits out.1.0 u out.1.2 in
-          let owned = f.owned in
-          let one : tickets_of u ≡ 1 = ap how_many (f.turn out.1.3).0 in
-          let same = only_seat count s id out.1.0 v u g at all out.1.2 (omega arith) in
-          absurd (cc (ap (λ (y : View C). y.turn) same, out.1.3, still)))
-        g.slot
+          },
+        ),
+      ))
+      (λ out.
+      let u = out.1.1 in
+      let f = g.fits out.1.0 u out.1.2 in
+      let owned = f.owned in
+      let one : tickets_of u ≡ 1 = ap how_many (f.turn out.1.3).0 in
+      let same = only_seat count s id out.1.0 v u g at all out.1.2 (omega arith) in
+      absurd (cc (ap (λ (y : View C). y.turn) same, out.1.3, still)))
+      g.slot
+
+  -- what was in the slot is the object, of the number n, and stands for the history that these pasts have together
+  abbrev pub Closed : ℕ → List (Past C) → Option O → Type 0
+  Closed n pasts found = (o : O) × (found ≡ Some o) × (number o ≡ n) × ((h : List (Entry C)) × stands_for o h × United pasts h)
+
+  pub closed_with : (key id n passes : ℕ) (m : Me (Option O) (View C)) (words : List ℕ) (slots : List (Option O)) (found : Option O) → key ≡ passes → 0 < passes → passes ≤ length m.0.pasts
+      → m ≡ (view (Some n) m.0.pasts None false, []) → Final (Seen (Desked number stands_for key) id m.0) words slots → get_elem? slots 0 ≡ some found → Closed n m.0.pasts found
+  closed_with key id n passes m words slots found key_is some_pass all rests final there =
+      let c = closes key id n m.0 words slots (ap (λ (x : Me (Option O) (View C)). x.0.object) rests) (omega arith) (omega arith) (ap (λ (x : Me (Option O) (View C)). x.0.turn) rests) final in
+      (c.0, some-injective found (Some c.0) (sym there ∙ c.1), c.2, c.3)

@@ -1,17 +1,14 @@
 -- Opening a desk keeps the rule; and what the rule gives where a desk is closed with all its passes.
-use Rattle.std.proofs.Common.{◌≡◌, ◌≢◌, ℕ, zero, suc, ◌+◌, ◌-◌, ◌%◌, ◌^◌, ◌<◌, ◌≤◌, ◌⊎◌, Bool, true, false, List, [], ◌∷◌, ◌++◌, length, set, get_or, Option, Some, None, refl, ap, sym, ◌∙◌, subst, inl, inr, ⊎_elim, arith}
-use mathlib.Core.Logic.{dite}
+use Rattle.std.proofs.Common.{◌≡◌, ◌≢◌, ℕ, zero, suc, ◌+◌, ◌-◌, ◌%◌, ◌^◌, ◌<◌, ◌≤◌, true, false, List, [], ◌∷◌, ◌++◌, length, set, get_or, Option, Some, None, refl, ap, sym, ◌∙◌, subst, inl, inr, ⊎_elim, arith}
 use mathlib.Core.Option.{some, none, some-injective}
 use mathlib.Core.Option as maybe
-use native.Mathlib.Decide.{ℕ_discrete}
 use lib.ListN.{get_elem?}
-use Rattle.atomic_table.specs.Table.{State, Me, Allows, Final, Seen, step, stepped, takes, gives, put_back}
+use Rattle.atomic_table.specs.Table.{State, Me, Allows, step, stepped, takes, gives}
 use Rattle.room_desk.specs.Entry.{Entry}
-use Rattle.room_desk.specs.History.{DeskId, Held, held, dealt, of_pass, Begins}
-use Rattle.room_desk.specs.Turns.{Past, View, Fits, Turns, Desked, Unopened, Holder, Has, total, pasts_of, tickets_of, how_many, past, view, fresh, untold}
+use Rattle.room_desk.specs.History.{DeskId, held, dealt, of_pass}
+use Rattle.room_desk.specs.Turns.{Past, View, Fits, Turns, Desked, Has, total, pasts_of, tickets_of, past, view, fresh, untold}
 use Rattle.room_desk.specs.Plays.{Reaches, Opens}
-use Rattle.room_desk.proofs.Totals.{only_one, only_place, total_two, total_part, has_some}
-use Rattle.room_desk.proofs.Draw.{opened}
+use Rattle.room_desk.proofs.Totals.{only_one, only_place}
 
 pub length_fresh : (C : Type 0) (k n : ℕ) → length (fresh {C = C} k n) ≡ n
 length_fresh C k zero = refl
@@ -47,16 +44,16 @@ module _ {C O : Type 0} (number : O → ℕ) (stands_for : O → List (Entry C) 
       let w : View C = view None (fresh 0 count) None true in
       let size : length (fresh {C = C} 0 count) ≡ count = length_fresh C 0 count in
       ⊎_elim
-        (⊎_elim
-          (λ u.
-            let zero_is = only_place s.views (untold count) (untold count) id u.1 at in
-            let views : set s.views id w ≡ w ∷ [] = ap (λ i. set s.views i w) zero_is ∙ ap (λ (l : List (View C)). set l 0 w) u.1 in
-            let words : set s.words 1 (get_or s.words 1 0) ≡ 0 ∷ 0 ∷ [] = ap (λ (ws : List ℕ). set ws 1 (get_or ws 1 0)) u.0 in
-            let homes : set s.homes 0 none ≡ none ∷ [] = ap (λ (hs : List (maybe.Option (Option O))). set hs 0 none) u.2 in
-            (w, takes 0 None, ap (λ (hs : List (maybe.Option (Option O))). get_elem? hs 0) u.2, inl (inr (words, views, homes, u.3, u.4)), refl))
-          (λ u. absurd (cc (ap (λ (v : View C). v.turn) (only_one s.views w (untold count) id u.1 at)))))
-        (λ g. absurd (unnamed count s id (untold count) g at refl (omega arith)))
-        rule
+      (⊎_elim
+      (λ u.
+      let zero_is = only_place s.views (untold count) (untold count) id u.1 at in
+      let views : set s.views id w ≡ w ∷ [] = ap (λ i. set s.views i w) zero_is ∙ ap (λ (l : List (View C)). set l 0 w) u.1 in
+      let words : set s.words 1 (get_or s.words 1 0) ≡ 0 ∷ 0 ∷ [] = ap (λ (ws : List ℕ). set ws 1 (get_or ws 1 0)) u.0 in
+      let homes : set s.homes 0 none ≡ none ∷ [] = ap (λ (hs : List (maybe.Option (Option O))). set hs 0 none) u.2 in
+      (w, takes 0 None, ap (λ (hs : List (maybe.Option (Option O))). get_elem? hs 0) u.2, inl (inr (words, views, homes, u.3, u.4)), refl))
+      (λ u. absurd (cc (ap (λ (v : View C). v.turn) (only_one s.views w (untold count) id u.1 at)))))
+      (λ g. absurd (unnamed count s id (untold count) g at refl (omega arith)))
+      rule
 
   -- it gives the slot back with the object in it
   pub opens : (count slots id : ℕ) (o : O) → 0 < count → stands_for o [] → Allows (Desked number stands_for count) slots id (view None (fresh 0 count) None true, (0, Some o) ∷ []) 1 (λ n. (n + 0) % 2 ^ 64)
@@ -66,47 +63,47 @@ module _ {C O : Type 0} (number : O → ℕ) (stands_for : O → List (Entry C) 
       let w : View C = view (Some (number o)) (fresh 0 count) None false in
       let size : length (fresh {C = C} 0 count) ≡ count = length_fresh C 0 count in
       ⊎_elim
-        (⊎_elim
-          (λ u. absurd (cc (ap (λ (v : View C). v.turn) (only_one s.views (untold count) v id u.1 at))))
-          (λ u.
-            let zero_is = only_place s.views v v id u.1 at in
-            let views : set s.views id w ≡ w ∷ [] = ap (λ i. set s.views i w) zero_is ∙ ap (λ (l : List (View C)). set l 0 w) u.1 in
-            let homes : set s.homes 0 (some (Some o)) ≡ some (Some o) ∷ [] = ap (λ (hs : List (maybe.Option (Option O))). set hs 0 (some (Some o))) u.2 in
-            let fit : Fits (number o) [] 0 (λ _. 0) 0 w = record {
-                named = λ _. refl;
-                own = λ x has. let unseen = fresh_unseen 0 count x has in (refl, ([], sym unseen), ap (λ (l : List (Entry C)). of_pass x.number l) (sym unseen));
-                ticket = λ t is. absurd (cc (is));
-                owned = omega arith;
-                turn = λ is. absurd (cc (is));
-              } in
-            let only : (j : ℕ) (x : View C) → get_elem? (set s.views id w) j ≡ some x → (j ≡ 0) × (w ≡ x) =
-              λ j x e. (only_place (set s.views id w) w x j views e, only_one (set s.views id w) w x j views e) in
-            let after : Turns number stands_for count (stepped s 1 ((get_or s.words 1 0 + 0) % 2 ^ 64) id ((0, Some o) ∷ []) w gives) = record {
-                name = number o;
-                log = [];
-                drawn = 0;
-                seat_of = λ _. 0;
-                words = ap (λ (ws : List ℕ). set ws 1 ((get_or ws 1 0 + 0) % 2 ^ 64)) u.0;
-                pasts = ap (λ (l : List (View C)). total pasts_of l) views ∙ omega arith;
-                small = u.4;
-                tickets = ap (λ (l : List (View C)). total tickets_of l + 0) views;
-                fits = λ j x e. let is = only j x e in subst (λ i. Fits (number o) [] 0 (λ _. 0) i x) (sym is.0) (subst (λ y. Fits (number o) [] 0 (λ _. 0) 0 y) is.1 fit);
-                apart = λ i j x y t e d a b. (only i x e).0 ∙ sym (only j y d).0;
-                known = λ p. inl refl;
-                slot = inl (o, homes, refl, stands, λ j x e. sym (ap (λ (y : View C). y.turn) (only j x e).1));
-              } in
-            (w, gives, tt, inr after, (o, refl, refl))))
-        (λ g. absurd (unnamed count s id v g at refl (omega arith)))
-        rule
+      (⊎_elim
+      (λ u. absurd (cc (ap (λ (v : View C). v.turn) (only_one s.views (untold count) v id u.1 at))))
+      (λ u.
+      let zero_is = only_place s.views v v id u.1 at in
+      let views : set s.views id w ≡ w ∷ [] = ap (λ i. set s.views i w) zero_is ∙ ap (λ (l : List (View C)). set l 0 w) u.1 in
+      let homes : set s.homes 0 (some (Some o)) ≡ some (Some o) ∷ [] = ap (λ (hs : List (maybe.Option (Option O))). set hs 0 (some (Some o))) u.2 in
+      let fit : Fits (number o) [] 0 (λ _. 0) 0 w = record {
+        named = λ _. refl;
+        own = λ x has. let unseen = fresh_unseen 0 count x has in (refl, ([], sym unseen), ap (λ (l : List (Entry C)). of_pass x.number l) (sym unseen));
+        ticket = λ t is. absurd (cc (is));
+        owned = omega arith;
+        turn = λ is. absurd (cc (is));
+      } in
+      let only : (j : ℕ) (x : View C) → get_elem? (set s.views id w) j ≡ some x → (j ≡ 0) × (w ≡ x) =
+      λ j x e. (only_place (set s.views id w) w x j views e, only_one (set s.views id w) w x j views e) in
+      let after : Turns number stands_for count (stepped s 1 ((get_or s.words 1 0 + 0) % 2 ^ 64) id ((0, Some o) ∷ []) w gives) = record {
+        name = number o;
+        log = [];
+        drawn = 0;
+        seat_of = λ _. 0;
+        words = ap (λ (ws : List ℕ). set ws 1 ((get_or ws 1 0 + 0) % 2 ^ 64)) u.0;
+        pasts = ap (λ (l : List (View C)). total pasts_of l) views ∙ omega arith;
+        small = u.4;
+        tickets = ap (λ (l : List (View C)). total tickets_of l + 0) views;
+        fits = λ j x e. let is = only j x e in subst (λ i. Fits (number o) [] 0 (λ _. 0) i x) (sym is.0) (subst (λ y. Fits (number o) [] 0 (λ _. 0) 0 y) is.1 fit);
+        apart = λ i j x y t e d a b. (only i x e).0 ∙ sym (only j y d).0;
+        known = λ p. inl refl;
+        slot = inl (o, homes, refl, stands, λ j x e. sym (ap (λ (y : View C). y.turn) (only j x e).1));
+      } in
+      (w, gives, tt, inr after, (o, refl, refl))))
+      (λ g. absurd (unnamed count s id v g at refl (omega arith)))
+      rule
 
   -- the same, where the key and the seat are known to be these
   pub reaches_at : (key count slots id : ℕ) (m : Me (Option O) (View C)) → key ≡ count → m ≡ (untold count, []) → 0 < count → Allows (Desked number stands_for key) slots id m 1 (λ n. n) (Reaches (step slots 1 0 0 none) m)
   reaches_at key count slots id m key_is is some_pass =
       subst (λ k. Allows (Desked number stands_for k) slots id m 1 (λ n. n) (Reaches (step slots 1 0 0 none) m)) (sym key_is)
-        (subst (λ (x : Me (Option O) (View C)). Allows (Desked number stands_for count) slots id x 1 (λ n. n) (Reaches (step slots 1 0 0 none) x)) (sym is) (reaches count slots id some_pass))
+      (subst (λ (x : Me (Option O) (View C)). Allows (Desked number stands_for count) slots id x 1 (λ n. n) (Reaches (step slots 1 0 0 none) x)) (sym is) (reaches count slots id some_pass))
 
   pub opens_at : (key count slots id : ℕ) (m : Me (Option O) (View C)) (o : O) → key ≡ count → m ≡ (view None (fresh 0 count) None true, (0, Some o) ∷ []) → 0 < count → stands_for o []
       → Allows (Desked number stands_for key) slots id m 1 (λ n. (n + 0) % 2 ^ 64) (Opens number (step slots 1 0 0 none) m)
   opens_at key count slots id m o key_is is some_pass stands =
       subst (λ k. Allows (Desked number stands_for k) slots id m 1 (λ n. (n + 0) % 2 ^ 64) (Opens number (step slots 1 0 0 none) m)) (sym key_is)
-        (subst (λ (x : Me (Option O) (View C)). Allows (Desked number stands_for count) slots id x 1 (λ n. (n + 0) % 2 ^ 64) (Opens number (step slots 1 0 0 none) x)) (sym is) (opens count slots id o some_pass stands))
+      (subst (λ (x : Me (Option O) (View C)). Allows (Desked number stands_for count) slots id x 1 (λ n. (n + 0) % 2 ^ 64) (Opens number (step slots 1 0 0 none) x)) (sym is) (opens count slots id o some_pass stands))

@@ -1,5 +1,5 @@
 -- Histories that begin with one another, and the entries of one pass in them.
-use Rattle.std.proofs.Common.{◌≡◌, ◌≢◌, ℕ, zero, suc, ◌+◌, ◌≤◌, ◌⊎◌, Bool, true, false, cond, List, [], ◌∷◌, ◌++◌, length, filter, refl, ap, sym, ◌∙◌, subst, inl, inr, ⊎_elim, arith, eqb, eq-eqb, ne_eqb, length-append, append_assoc}
+use Rattle.std.proofs.Common.{◌≡◌, ◌≢◌, ℕ, cond, List, [], ◌∷◌, ◌++◌, length, refl, ap, sym, ◌∙◌, arith, eqb, eq-eqb, ne_eqb, length-append}
 use Rattle.std.proofs.lemmas.List.Elements.{filter-append}
 use Rattle.room_desk.specs.Entry.{Entry}
 use Rattle.room_desk.specs.History.{of_pass, Begins}
@@ -22,3 +22,9 @@ module _ {C : Type 0} where
 
   pub begins_more : (e : Entry C) (log seen : List (Entry C)) → Begins log seen → Begins (e ∷ log) seen
   begins_more e log seen b = (e ∷ b.0, ap (λ (l : List (Entry C)). e ∷ l) b.1)
+
+  -- a call of a pass on top of others' entries is one more of its own
+  pub one_more : (e : Entry C) (newer seen : List (Entry C)) → of_pass e.pass newer ≡ [] → of_pass e.pass (e ∷ (newer ++ seen)) ≡ e ∷ of_pass e.pass seen
+  one_more e newer seen others =
+      own_entry e.pass e (newer ++ seen) refl
+      ∙ ap (λ (l : List (Entry C)). e ∷ l) (filter-append (λ (x : Entry C). eqb x.pass e.pass) newer seen ∙ ap (λ (l : List (Entry C)). l ++ of_pass e.pass seen) others)

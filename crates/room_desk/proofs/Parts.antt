@@ -1,15 +1,14 @@
 -- Splitting a pass off a seat, and joining two seats, keep the rule.
-use Rattle.std.proofs.Common.{◌≡◌, ◌≢◌, ℕ, ◌+◌, ◌<◌, ◌≤◌, ◌⊎◌, ◌==◌, cond, Bool, true, false, List, [], ◌∷◌, ◌++◌, length, set, Option, Some, None, refl, ap, sym, ◌∙◌, subst, inl, inr, ⊎_elim, arith, eq-eqb, ne_eqb, length-append, length-set}
+use Rattle.std.proofs.Common.{◌≡◌, ◌≢◌, ℕ, ◌+◌, ◌<◌, ◌⊎◌, ◌==◌, cond, false, List, [], ◌∷◌, ◌++◌, length, set, Some, None, refl, ap, sym, ◌∙◌, subst, inl, inr, ⊎_elim, arith, eq-eqb, ne_eqb, length-append, length-set}
 use mathlib.Core.Logic.{dite}
-use mathlib.Core.Option.{some, none}
-use mathlib.Core.Option as maybe
+use mathlib.Core.Option.{some}
 use native.Mathlib.Decide.{ℕ_discrete}
 use lib.ListN.{get_elem?}
-use Rattle.atomic_table.specs.Table.{State, Splits, Joins}
+use Rattle.atomic_table.specs.Table.{Splits, Joins}
 use Rattle.atomic_table.proofs.Lists.{set_here, set_else, at_longer, at_last}
 use Rattle.room_desk.specs.Entry.{Entry}
 use Rattle.room_desk.specs.History.{of_pass, Begins}
-use Rattle.room_desk.specs.Turns.{Past, View, Fits, Turns, Desked, Holder, Has, total, pasts_of, tickets_of, how_many, past, view}
+use Rattle.room_desk.specs.Turns.{Past, View, Fits, Desked, Holder, Has, pasts_of, tickets_of, how_many, past}
 use Rattle.room_desk.specs.Plays.{left_of, right_of, other_pasts, first_past, joined, spent}
 use Rattle.room_desk.proofs.Totals.{total_set, total_snoc, length_at, has_first, has_second, has_either}
 use Rattle.room_desk.proofs.Seats.{elsewhere, each_set, each_snoc, kept_at, at_once, apart_set, apart_snoc, holder_set}
@@ -42,36 +41,36 @@ module _ {C O : Type 0} (number : O → ℕ) (stands_for : O → List (Entry C) 
       let outs = total_set tickets_of s.views id v left at in
       let outs' = total_snoc tickets_of views' right in
       let lefts : Fits g.name g.log g.drawn place id left = record {
-          named = λ some_past. fit.named (omega arith);
-          own = λ x has. let there = subst (λ (l : List (Past C)). Has l x) known_left has in
+        named = λ some_past. fit.named (omega arith);
+        own = λ x has. let there = subst (λ (l : List (Past C)). Has l x) known_left has in
             let f = fit.own x (subst (λ (l : List (Past C)). Has l x) (sym first) (inr there)) in (place_else x.number (others x there) ∙ f.0, f.1, f.2);
-          ticket = fit.ticket;
-          owned = omega arith;
-          turn = λ is. absurd (cc (sym is ∙ still));
-        } in
+        ticket = fit.ticket;
+        owned = omega arith;
+        turn = λ is. absurd (cc (sym is ∙ still));
+      } in
       let elses : (j : ℕ) (u : View C) → j ≢ id → get_elem? s.views j ≡ some u → Fits g.name g.log g.drawn place j u =
-        λ j u ne e. let f = g.fits j u e in record {
-          named = f.named;
-          own = λ x has. let f' = f.own x has in (place_else x.number (λ is. ne (sym f'.0 ∙ (ap g.seat_of is ∙ p_own.0))) ∙ f'.0, f'.1, f'.2);
-          ticket = f.ticket;
-          owned = f.owned;
-          turn = f.turn;
-        } in
+      λ j u ne e. let f = g.fits j u e in record {
+        named = f.named;
+        own = λ x has. let f' = f.own x has in (place_else x.number (λ is. ne (sym f'.0 ∙ (ap g.seat_of is ∙ p_own.0))) ∙ f'.0, f'.1, f'.2);
+        ticket = f.ticket;
+        owned = f.owned;
+        turn = f.turn;
+      } in
       let rights : Fits g.name g.log g.drawn place new right = record {
-          named = λ some_past. fit.named (omega arith);
-          own = λ x has. ⊎_elim (λ is. subst (λ (y : Past C). (place y.number ≡ new) × Begins g.log y.seen × (of_pass y.number g.log ≡ of_pass y.number y.seen)) is (place_p p refl, p_own.1, p_own.2)) (λ f. absurd f)
+        named = λ some_past. fit.named (omega arith);
+        own = λ x has. ⊎_elim (λ is. subst (λ (y : Past C). (place y.number ≡ new) × Begins g.log y.seen × (of_pass y.number g.log ≡ of_pass y.number y.seen)) is (place_p p refl, p_own.1, p_own.2)) (λ f. absurd f)
             (subst (λ (l : List (Past C)). Has l x) known_right has);
-          ticket = λ t is. absurd (cc (is));
-          owned = omega arith;
-          turn = λ is. absurd (cc (is));
-        } in
+        ticket = λ t is. absurd (cc (is));
+        owned = omega arith;
+        turn = λ is. absurd (cc (is));
+      } in
       let known : (q : ℕ) → (of_pass q g.log ≡ []) ⊎ Holder (views' ++ right ∷ []) (place q) q =
-        λ q. dite (ℕ_discrete q p)
-          (λ is. inr (right, subst (λ k. get_elem? (views' ++ right ∷ []) k ≡ some right) (sym (place_p q is)) (at_last views' right new refl), (past p h, subst (λ (l : List (Past C)). Has l (past p h)) (sym known_right) (inl refl), sym is)))
-          (λ not. ⊎_elim inl (λ k.
-            let moved = holder_set s.views id (g.seat_of q) v left q at
-              (λ x. (x.0, subst (λ (l : List (Past C)). Has l x.0) (sym known_left) (⊎_elim (λ e. absurd (not (sym x.2 ∙ sym (ap (λ (y : Past C). y.number) e)))) (λ e. e) (subst (λ (l : List (Past C)). Has l x.0) first x.1)), x.2)) k in
-            inr (moved.0, subst (λ k. get_elem? (views' ++ right ∷ []) k ≡ some moved.0) (sym (place_else q not)) (at_longer views' (right ∷ []) (g.seat_of q) moved.0 moved.1), moved.2)) (g.known q)) in
+      λ q. dite (ℕ_discrete q p)
+      (λ is. inr (right, subst (λ k. get_elem? (views' ++ right ∷ []) k ≡ some right) (sym (place_p q is)) (at_last views' right new refl), (past p h, subst (λ (l : List (Past C)). Has l (past p h)) (sym known_right) (inl refl), sym is)))
+      (λ not. ⊎_elim inl (λ k.
+      let moved = holder_set s.views id (g.seat_of q) v left q at
+      (λ x. (x.0, subst (λ (l : List (Past C)). Has l x.0) (sym known_left) (⊎_elim (λ e. absurd (not (sym x.2 ∙ sym (ap (λ (y : Past C). y.number) e)))) (λ e. e) (subst (λ (l : List (Past C)). Has l x.0) first x.1)), x.2)) k in
+      inr (moved.0, subst (λ k. get_elem? (views' ++ right ∷ []) k ≡ some moved.0) (sym (place_else q not)) (at_longer views' (right ∷ []) (g.seat_of q) moved.0 moved.1), moved.2)) (g.known q)) in
       inr (record {
         name = g.name;
         log = g.log;
@@ -85,10 +84,10 @@ module _ {C O : Type 0} (number : O → ℕ) (stands_for : O → List (Entry C) 
         apart = apart_snoc views' right (apart_set s.views id left g.apart (λ j u t ne e a b. cc (b, idle))) refl;
         known = known;
         slot = ⊎_elim
-          (λ k. inl (k.0, k.1, k.2, k.3, each_snoc (λ j (u : View C). u.turn ≡ false) views' right refl (each_set (λ j (u : View C). u.turn ≡ false) s.views id left still (λ j u ne e. k.4 j u e))))
-          (λ k. let ne = elsewhere s.views k.1.0 id k.1.1 v k.1.2 at k.1.3 still in
+            (λ k. inl (k.0, k.1, k.2, k.3, each_snoc (λ j (u : View C). u.turn ≡ false) views' right refl (each_set (λ j (u : View C). u.turn ≡ false) s.views id left still (λ j u ne e. k.4 j u e))))
+            (λ k. let ne = elsewhere s.views k.1.0 id k.1.1 v k.1.2 at k.1.3 still in
             inr (k.0, (k.1.0, k.1.1, at_longer views' (right ∷ []) k.1.0 k.1.1 (kept_at s.views id k.1.0 left k.1.1 ne k.1.2), k.1.3)))
-          g.slot;
+            g.slot;
       })
 
   -- one seat takes in the passes of another
@@ -112,43 +111,43 @@ module _ {C O : Type 0} (number : O → ℕ) (stands_for : O → List (Entry C) 
       let outs = total_set tickets_of s.views id v both at in
       let outs' = total_set tickets_of views' other w spent at_w in
       let boths : Fits g.name g.log g.drawn place id both = record {
-          named = λ _. fit.named some_past;
-          own = λ x has. ⊎_elim
+        named = λ _. fit.named some_past;
+        own = λ x has. ⊎_elim
             (λ t. let f = fit_w.own x t in (place_moved x.number f.0, f.1, f.2))
             (λ t. let f = fit.own x t in (place_kept x.number (λ is. ne (sym is ∙ f.0)) ∙ f.0, f.1, f.2))
             (has_either w.pasts v.pasts x has);
-          ticket = fit.ticket;
-          owned = omega arith;
-          turn = λ is. absurd (cc (sym is ∙ still));
-        } in
+        ticket = fit.ticket;
+        owned = omega arith;
+        turn = λ is. absurd (cc (sym is ∙ still));
+      } in
       let elses : (j : ℕ) (u : View C) → j ≢ other → get_elem? views' j ≡ some u → Fits g.name g.log g.drawn place j u =
-        λ j u not e. each_set (λ i (x : View C). i ≢ other → Fits g.name g.log g.drawn place i x) s.views id both (λ _. boths)
-          (λ i x _ d not_other. let f = g.fits i x d in record {
-            named = f.named;
-            own = λ y has. let f' = f.own y has in (place_kept y.number (λ is. not_other (sym f'.0 ∙ is)) ∙ f'.0, f'.1, f'.2);
-            ticket = f.ticket;
-            owned = f.owned;
-            turn = f.turn;
-          }) j u e not in
+      λ j u not e. each_set (λ i (x : View C). i ≢ other → Fits g.name g.log g.drawn place i x) s.views id both (λ _. boths)
+      (λ i x _ d not_other. let f = g.fits i x d in record {
+        named = f.named;
+        own = λ y has. let f' = f.own y has in (place_kept y.number (λ is. not_other (sym f'.0 ∙ is)) ∙ f'.0, f'.1, f'.2);
+        ticket = f.ticket;
+        owned = f.owned;
+        turn = f.turn;
+      }) j u e not in
       let spents : Fits g.name g.log g.drawn place other spent = record {
-          named = λ has. absurd (omega arith);
-          own = λ x has. absurd has;
-          ticket = λ t is. absurd (cc (is));
-          owned = omega arith;
-          turn = λ is. absurd (cc (is));
-        } in
+        named = λ has. absurd (omega arith);
+        own = λ x has. absurd has;
+        ticket = λ t is. absurd (cc (is));
+        owned = omega arith;
+        turn = λ is. absurd (cc (is));
+      } in
       let id_not : id ≢ other = λ is. ne (sym is) in
       let both_at : get_elem? (set views' other spent) id ≡ some both = kept_at views' other id spent both id_not (set_here s.views id both (length_at s.views id v at)) in
       let known : (q : ℕ) → (of_pass q g.log ≡ []) ⊎ Holder (set views' other spent) (place q) q =
-        λ q. ⊎_elim inl (λ h. dite (ℕ_discrete (g.seat_of q) other)
-          (λ is.
-            let same : h.0 ≡ w = at_once s.views other h.0 w (subst (λ i. get_elem? s.views i ≡ some h.0) is h.1) at_other in
-            let x = h.2.0 in
-            let has : Has w.pasts x = subst (λ (u : View C). Has u.pasts x) same h.2.1 in
-            inr (both, subst (λ k. get_elem? (set views' other spent) k ≡ some both) (sym (place_moved q is)) both_at, (x, has_first w.pasts v.pasts x has, h.2.2)))
-          (λ not.
-            let moved = holder_set s.views id (g.seat_of q) v both q at (λ x. (x.0, has_second w.pasts v.pasts x.0 x.1, x.2)) h in
-            inr (moved.0, subst (λ k. get_elem? (set views' other spent) k ≡ some moved.0) (sym (place_kept q not)) (kept_at views' other (g.seat_of q) spent moved.0 not moved.1), moved.2))) (g.known q) in
+      λ q. ⊎_elim inl (λ h. dite (ℕ_discrete (g.seat_of q) other)
+      (λ is.
+      let same : h.0 ≡ w = at_once s.views other h.0 w (subst (λ i. get_elem? s.views i ≡ some h.0) is h.1) at_other in
+      let x = h.2.0 in
+      let has : Has w.pasts x = subst (λ (u : View C). Has u.pasts x) same h.2.1 in
+      inr (both, subst (λ k. get_elem? (set views' other spent) k ≡ some both) (sym (place_moved q is)) both_at, (x, has_first w.pasts v.pasts x has, h.2.2)))
+      (λ not.
+      let moved = holder_set s.views id (g.seat_of q) v both q at (λ x. (x.0, has_second w.pasts v.pasts x.0 x.1, x.2)) h in
+      inr (moved.0, subst (λ k. get_elem? (set views' other spent) k ≡ some moved.0) (sym (place_kept q not)) (kept_at views' other (g.seat_of q) spent moved.0 not moved.1), moved.2))) (g.known q) in
       inr (record {
         name = g.name;
         log = g.log;
@@ -162,10 +161,10 @@ module _ {C O : Type 0} (number : O → ℕ) (stands_for : O → List (Entry C) 
         apart = apart_set views' other spent (apart_set s.views id both g.apart (λ j u t n e a b. cc (b, idle))) (λ j u t n e a b. cc (b));
         known = known;
         slot = ⊎_elim
-          (λ k. inl (k.0, k.1, k.2, k.3, each_set (λ j (u : View C). u.turn ≡ false) views' other spent refl (λ j u n e. each_set (λ j (u : View C). u.turn ≡ false) s.views id both still (λ j u n e. k.4 j u e) j u e)))
-          (λ k.
+            (λ k. inl (k.0, k.1, k.2, k.3, each_set (λ j (u : View C). u.turn ≡ false) views' other spent refl (λ j u n e. each_set (λ j (u : View C). u.turn ≡ false) s.views id both still (λ j u n e. k.4 j u e) j u e)))
+            (λ k.
             let not_id = elsewhere s.views k.1.0 id k.1.1 v k.1.2 at k.1.3 still in
             let not_other = elsewhere s.views k.1.0 other k.1.1 w k.1.2 at_other k.1.3 still_w in
             inr (k.0, (k.1.0, k.1.1, kept_at views' other k.1.0 spent k.1.1 not_other (kept_at s.views id k.1.0 both k.1.1 not_id k.1.2), k.1.3)))
-          g.slot;
+            g.slot;
       })

@@ -1,10 +1,10 @@
 -- Facts of every seat, after one seat's view is set or a seat is added.
-use Rattle.std.proofs.Common.{◌≡◌, ◌≢◌, ℕ, ◌+◌, ◌<◌, ◌≤◌, ◌⊎◌, Bool, true, false, List, [], ◌∷◌, ◌++◌, length, set, Option, Some, None, refl, ap, sym, ◌∙◌, subst, inl, inr, ⊎_elim, arith}
+use Rattle.std.proofs.Common.{◌≡◌, ◌≢◌, ℕ, Bool, true, false, List, [], ◌∷◌, ◌++◌, length, set, Some, None, refl, ap, sym, ◌∙◌, subst, ⊎_elim}
 use mathlib.Core.Logic.{dite}
 use mathlib.Core.Option.{some, some-injective}
 use native.Mathlib.Decide.{ℕ_discrete}
 use lib.ListN.{get_elem?}
-use Rattle.atomic_table.proofs.Lists.{at_set, set_here, set_else, at_longer, at_last}
+use Rattle.atomic_table.proofs.Lists.{at_set, set_here, set_else}
 use Rattle.room_desk.specs.Turns.{Past, View, Has, Holder}
 use Rattle.room_desk.proofs.Totals.{length_at, added_at}
 
@@ -45,17 +45,17 @@ module _ {C : Type 0} where
       → ((j : ℕ) (v : View C) (t : ℕ) → j ≢ k → get_elem? l j ≡ some v → v.ticket ≡ Some t → w.ticket ≡ Some t → ⊥) → Apart (set l k w)
   apart_set l k w apart new i j u v t e d p q =
       ⊎_elim
-        (λ a. ⊎_elim (λ b. a.0 ∙ sym b.0) (λ b. absurd (new j v t b.0 b.1 q (ap (λ (x : View C). x.ticket) a.1 ∙ p))) (at_set l k j w v d))
-        (λ a. ⊎_elim (λ b. absurd (new i u t a.0 a.1 p (ap (λ (x : View C). x.ticket) b.1 ∙ q))) (λ b. apart i j u v t a.1 b.1 p q) (at_set l k j w v d))
-        (at_set l k i w u e)
+      (λ a. ⊎_elim (λ b. a.0 ∙ sym b.0) (λ b. absurd (new j v t b.0 b.1 q (ap (λ (x : View C). x.ticket) a.1 ∙ p))) (at_set l k j w v d))
+      (λ a. ⊎_elim (λ b. absurd (new i u t a.0 a.1 p (ap (λ (x : View C). x.ticket) b.1 ∙ q))) (λ b. apart i j u v t a.1 b.1 p q) (at_set l k j w v d))
+      (at_set l k i w u e)
 
   -- a seat without a ticket is added
   pub apart_snoc : (l : List (View C)) (w : View C) → Apart l → w.ticket ≡ None → Apart (l ++ w ∷ [])
   apart_snoc l w apart none_ i j u v t e d p q =
       ⊎_elim
-        (λ a. ⊎_elim (λ b. apart i j u v t a b p q) (λ b. absurd (cc (none_, ap (λ (x : View C). x.ticket) b.1, q))) (added_at l w v j d))
-        (λ a. absurd (cc (none_, ap (λ (x : View C). x.ticket) a.1, p)))
-        (added_at l w u i e)
+      (λ a. ⊎_elim (λ b. apart i j u v t a b p q) (λ b. absurd (cc (none_, ap (λ (x : View C). x.ticket) b.1, q))) (added_at l w v j d))
+      (λ a. absurd (cc (none_, ap (λ (x : View C). x.ticket) a.1, p)))
+      (added_at l w u i e)
 
   -- who has a pass keeps it where a seat is set to a view that has the passes that the seat had
   pub holder_set : (l : List (View C)) (k j : ℕ) (v w : View C) (p : ℕ) → get_elem? l k ≡ some v
@@ -63,6 +63,6 @@ module _ {C : Type 0} where
   holder_set l k j v w p e move h =
       dite (ℕ_discrete j k)
       (λ is. let same : h.0 ≡ v = at_once l k h.0 v (subst (λ i. get_elem? l i ≡ some h.0) is h.1) e in
-        let here : get_elem? (set l k w) j ≡ some w = subst (λ i. get_elem? (set l k w) i ≡ some w) (sym is) (set_here l k w (length_at l k v e)) in
-        (w, here, move (subst (λ (u : View C). (x : Past C) × Has u.pasts x × (x.number ≡ p)) same h.2)))
+      let here : get_elem? (set l k w) j ≡ some w = subst (λ i. get_elem? (set l k w) i ≡ some w) (sym is) (set_here l k w (length_at l k v e)) in
+      (w, here, move (subst (λ (u : View C). (x : Past C) × Has u.pasts x × (x.number ≡ p)) same h.2)))
       (λ not. (h.0, kept_at l k j w h.0 not h.1, h.2))

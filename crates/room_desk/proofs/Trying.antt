@@ -1,21 +1,20 @@
 -- Trying for the turn keeps the rule.
-use Rattle.std.proofs.Common.{◌≡◌, ◌≢◌, ℕ, ◌+◌, ◌%◌, ◌^◌, ◌<◌, ◌≤◌, ◌⊎◌, ◌==◌, Bool, true, false, eqb, List, [], ◌∷◌, ◌++◌, length, set, get_or, Option, Some, None, MatchBool, refl, ap, sym, ◌∙◌, subst, inl, inr, ⊎_elim, arith, eq-eqb, ne_eqb}
-use Rattle.std.proofs.Math.Nat.{mod-add-mod}
+use Rattle.std.proofs.Common.{◌≡◌, ℕ, ◌+◌, ◌%◌, ◌^◌, ◌≤◌, Bool, true, false, eqb, List, [], ◌∷◌, ◌++◌, length, set, get_or, Option, Some, MatchBool, refl, ap, sym, ◌∙◌, subst, inl, inr, ⊎_elim, arith, eq-eqb, ne_eqb}
 use mathlib.Core.Logic.{dite}
 use mathlib.Core.Option.{some, none, some-injective}
 use mathlib.Core.Option as maybe
 use native.Mathlib.Decide.{ℕ_discrete}
 use lib.ListN.{get_elem?}
 use prog.Atomic.{either}
-use Rattle.atomic_table.specs.Table.{State, Me, Act, Allows, Valid, step, stepped, keeps, takes, gives, carried_after}
+use Rattle.atomic_table.specs.Table.{State, Me, Act, Allows, Valid, step, stepped, keeps, takes, carried_after}
 use Rattle.atomic_table.proofs.Lists.{set_here, set_again, one_turn}
 use Rattle.room_desk.specs.Entry.{Entry}
 use Rattle.room_desk.specs.History.{of_pass, Begins}
-use Rattle.room_desk.specs.Turns.{Past, View, Fits, Turns, Desked, Unopened, Holder, Has, AtHome, IsOut, total, pasts_of, tickets_of, how_many, past, view, number_in, seen_in}
-use Rattle.room_desk.specs.Plays.{Tries, Takes, Passes}
+use Rattle.room_desk.specs.Turns.{Past, View, Fits, Turns, Desked, Has, AtHome, pasts_of, tickets_of, past, view, number_in, seen_in}
+use Rattle.room_desk.specs.Plays.{Tries, Takes}
 use Rattle.room_desk.proofs.Totals.{total_set, total_less, length_at}
-use Rattle.room_desk.proofs.Seats.{elsewhere, each_set, kept_at, at_once, apart_set, holder_set}
-use Rattle.room_desk.proofs.Histories.{none_own, own_entry, other_entry, begins_more}
+use Rattle.room_desk.proofs.Seats.{each_set, at_once, apart_set, holder_set}
+use Rattle.room_desk.proofs.Histories.{none_own}
 use Rattle.room_desk.proofs.Draw.{opened}
 
 module _ {C O : Type 0} (number : O → ℕ) (stands_for : O → List (Entry C) → Type 0) where
@@ -45,7 +44,7 @@ module _ {C O : Type 0} (number : O → ℕ) (stands_for : O → List (Entry C) 
       let words : set s.words 1 n ≡ s.words = ap (λ (ws : List ℕ). set ws 1 (get_or ws 1 0)) g.words ∙ sym g.words in
       let views : set s.views id m.0 ≡ s.views = set_again s.views id m.0 at in
       let same : Desked number stands_for count (stepped s 1 n id m.1 m.0 keeps) =
-        subst (Desked number stands_for count) (λ i. record { words = sym words i; homes = s.homes; views = sym views i }) (inr g) in
+      subst (Desked number stands_for count) (λ i. record { words = sym words i; homes = s.homes; views = sym views i }) (inr g) in
       (m.0, keeps, tt, same, refl)
 
   taken : (count : ℕ) (s : State (Option O) (View C)) (id n : ℕ) (m : Me (Option O) (View C)) (g : Turns number stands_for count s) → get_elem? s.views id ≡ some m.0 → m.0.object ≡ Some n
@@ -69,34 +68,34 @@ module _ {C O : Type 0} (number : O → ℕ) (stands_for : O → List (Entry C) 
       let outs = total_set tickets_of s.views id v w at in
       let here : get_elem? (set s.views id w) id ≡ some w = set_here s.views id w (length_at s.views id v at) in
       let mine : Fits g.name g.log g.drawn g.seat_of id w = record {
-          named = λ some_past. fit.named (omega arith);
-          own = λ x h. ⊎_elim (λ e. subst (λ (y : Past C). (g.seat_of y.number ≡ id) × Begins g.log y.seen × (of_pass y.number g.log ≡ of_pass y.number y.seen)) e (mine_own.0, ([], refl), refl)) (λ f. absurd f) h;
-          ticket = fit.ticket;
-          owned = let owned = fit.owned in omega arith;
-          turn = λ e. (ticket, refl);
-        } in
+        named = λ some_past. fit.named (omega arith);
+        own = λ x h. ⊎_elim (λ e. subst (λ (y : Past C). (g.seat_of y.number ≡ id) × Begins g.log y.seen × (of_pass y.number g.log ≡ of_pass y.number y.seen)) e (mine_own.0, ([], refl), refl)) (λ f. absurd f) h;
+        ticket = fit.ticket;
+        owned = let owned = fit.owned in omega arith;
+        turn = λ e. (ticket, refl);
+      } in
       let home_name = home.2 in
       let number_is : Some g.name ≡ Some (number o) = ap (λ (i : ℕ). Some i) (sym home.2) in
       let object_is : v.object ≡ Some (number o) = fit.named (omega arith) ∙ number_is in
       let after : Turns number stands_for count (stepped s 1 (either true k (get_or s.words 1 0)) id m.1 w (takes 0 (Some o))) = record {
-          name = g.name;
-          log = g.log;
-          drawn = g.drawn;
-          seat_of = g.seat_of;
-          words = ap (λ (i : ℕ). set s.words 1 i) is ∙ (ap (λ (ws : List ℕ). set ws 1 (get_or ws 1 0)) g.words);
-          pasts = let sum = g.pasts in omega arith;
-          small = g.small;
-          tickets = let sum = g.tickets in omega arith;
-          fits = each_set (Fits g.name g.log g.drawn g.seat_of) s.views id w mine (λ j u ne e. g.fits j u e);
-          apart = apart_set s.views id w g.apart (λ j u t ne e a b. ne (g.apart j id u v t e at a b));
-          known = λ q. ⊎_elim inl (λ h. inr (holder_set s.views id (g.seat_of q) v w q at
+        name = g.name;
+        log = g.log;
+        drawn = g.drawn;
+        seat_of = g.seat_of;
+        words = ap (λ (i : ℕ). set s.words 1 i) is ∙ (ap (λ (ws : List ℕ). set ws 1 (get_or ws 1 0)) g.words);
+        pasts = let sum = g.pasts in omega arith;
+        small = g.small;
+        tickets = let sum = g.tickets in omega arith;
+        fits = each_set (Fits g.name g.log g.drawn g.seat_of) s.views id w mine (λ j u ne e. g.fits j u e);
+        apart = apart_set s.views id w g.apart (λ j u t ne e a b. ne (g.apart j id u v t e at a b));
+        known = λ q. ⊎_elim inl (λ h. inr (holder_set s.views id (g.seat_of q) v w q at
             (λ x. (past p g.log, inl refl, ⊎_elim (λ e. ap (λ (y : Past C). y.number) e ∙ x.2) (λ f. absurd f) (subst (λ (l : List (Past C)). Has l x.0) alone x.1))) h)) (g.known q);
-          slot = inr (ap (λ (hs : List (maybe.Option (Option O))). set hs 0 none) home.1, (id, w, here, refl));
-        } in
+        slot = inr (ap (λ (hs : List (maybe.Option (Option O))). set hs 0 none) home.1, (id, w, here, refl));
+      } in
       let valid : get_elem? s.homes 0 ≡ some (some (Some o)) = ap (λ (hs : List (maybe.Option (Option O))). get_elem? hs 0) home.1 in
       let stands : stands_for o (newer ++ seen) = subst (stands_for o) all home.3 in
       let seen_is : (w, (0, Some o) ∷ m.1) ≡ (view v.object (past p (newer ++ seen) ∷ []) v.ticket true, (0, Some o) ∷ []) =
-        λ i. (view v.object (past p (all i) ∷ []) v.ticket true, (0, Some o) ∷ none_out i) in
+      λ i. (view v.object (past p (all i) ∷ []) v.ticket true, (0, Some o) ∷ none_out i) in
       (w, takes 0 (Some o), valid, inr after, (o, newer, object_is, none_own p g.log newer seen all mine_own.2, stands, seen_is))
 
   -- a seat with one pass and a ticket tries for the turn
@@ -109,9 +108,9 @@ module _ {C O : Type 0} (number : O → ℕ) (stands_for : O → List (Entry C) 
       let next : found ≡ length g.log % 2 ^ 64 = ap (λ (ws : List ℕ). get_or ws 1 0) g.words in
       dite (ℕ_discrete found k)
       (λ hit.
-        let range = (g.fits id m.0 at).ticket t ticket in
-        let few = few_out count s g in
-        let same : length g.log ≡ t = one_turn (length g.log) t (2 ^ 64) range.0 (omega arith) (sym next ∙ (hit ∙ low)) in
-        let mine : m.0.ticket ≡ Some (length g.log) = ticket ∙ ap (λ (i : ℕ). Some i) (sym same) in
-        subst (Tried count s id m found k) (sym (eq-eqb found k hit)) (taken count s id n m g at named alone mine still none_out k (sym hit)))
+      let range = (g.fits id m.0 at).ticket t ticket in
+      let few = few_out count s g in
+      let same : length g.log ≡ t = one_turn (length g.log) t (2 ^ 64) range.0 (omega arith) (sym next ∙ (hit ∙ low)) in
+      let mine : m.0.ticket ≡ Some (length g.log) = ticket ∙ ap (λ (i : ℕ). Some i) (sym same) in
+      subst (Tried count s id m found k) (sym (eq-eqb found k hit)) (taken count s id n m g at named alone mine still none_out k (sym hit)))
       (λ miss. subst (Tried count s id m found k) (sym (ne_eqb found k miss)) (missed count s id m k g at))

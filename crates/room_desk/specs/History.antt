@@ -1,6 +1,6 @@
 -- One history for all passes of a desk: what a pass has seen of it, what a call adds to it, and what the passes have together.
 -- A history is the list of its entries, the latest first.
-use Rattle.std.specs.Prelude.{ℕ, ◌≡◌, ◌==◌, ◌+◌, zero, suc, List, [], ◌∷◌, ◌++◌, filter, All, Any}
+use Rattle.std.specs.Prelude.{ℕ, ◌≡◌, ◌==◌, zero, suc, List, [], ◌∷◌, ◌++◌, filter, All, Any}
 use Rattle.atomic_table.specs.Seated.{TableId}
 use Rattle.room_desk.specs.Entry.{Entry}
 
@@ -37,12 +37,12 @@ module _ {C : Type 0} where
   abbrev pub Begins : List (Entry C) → List (Entry C) → Type 0
   Begins h seen = (later : List (Entry C)) × (h ≡ later ++ seen)
 
-  -- A call, as an entry, by a pass that had seen this much. Entries came in between, none of them the pass's own, and then the call, which is the latest.
-  -- The reply is that of the object at this point.
+  -- A call, as an entry, by a pass that had seen this much. The history after it began as what was seen, and ends with the call; of the pass's own calls it has
+  -- those that it had and this one; and the reply is that of the object at this point.
   pub record Called {R : Type 0} (reply : List (Entry C) → Entry C → R) (seen : List (Entry C)) (call : Entry C) (replied : R) (after : List (Entry C)) : Type 0 where
     pub between : List (Entry C)
-    pub others : of_pass call.pass between ≡ []
     pub ends : after ≡ call ∷ (between ++ seen)
+    pub own : of_pass call.pass after ≡ call ∷ of_pass call.pass seen
     pub answered : replied ≡ reply (between ++ seen) call
 
   -- the history begins with what each pass had seen, has of each pass the calls that it made, each once, and has no others

@@ -1,5 +1,5 @@
 -- What each step on a desk's table tells the caller that makes it, and how seats are split and joined.
-use Rattle.std.specs.Prelude.{ℕ, ◌≡◌, ◌%◌, ◌^◌, ◌==◌, Bool, true, false, List, [], ◌∷◌, ◌++◌, Option, Some, None, MatchBool}
+use Rattle.std.specs.Prelude.{ℕ, ◌≡◌, ◌%◌, ◌^◌, ◌==◌, true, false, List, [], ◌∷◌, ◌++◌, Option, Some, None, MatchBool}
 use Rattle.atomic_table.specs.Table.{Me, Step}
 use Rattle.room_desk.specs.Entry.{Entry}
 use Rattle.room_desk.specs.History.{Held, of_pass, Begins}
@@ -76,6 +76,11 @@ module _ {C O : Type 0} where
   abbrev pub Waits : ℕ → Me (Option O) (View C) → Type 0
   Waits ticket m = (t : ℕ) × (ticket ≡ t % 2 ^ 64) × (m ≡ (view (Some (noted m.0.object)) (past (number_in m.0.pasts) (seen_in m.0.pasts) ∷ []) (Some t) false, []))
 
-  -- A seat of one pass, which holds the turn. The object is out with it, and stands for the whole history with this entry on top, which is to be told.
-  abbrev pub Tells : (O → ℕ) → (O → List (Entry C) → Type 0) → Entry C → Me (Option O) (View C) → Type 0
-  Tells number stands_for e m = (o : O) × (m.0.object ≡ Some (number o)) × (number_in m.0.pasts ≡ e.pass) × (m.0.turn ≡ true) × (m.1 ≡ (0, Some o) ∷ []) × stands_for o (e ∷ seen_in m.0.pasts)
+  -- The pass that had seen this much of the history has the turn, and its object was taken out: other passes' entries came on top, and the object stands for the whole history.
+  abbrev pub Entered : (O → ℕ) → (O → List (Entry C) → Type 0) → ℕ → ℕ → List (Entry C) → O → Me (Option O) (View C) → Type 0
+  Entered number stands_for name pass seen o m = (newer : List (Entry C)) × (number o ≡ name) × (of_pass pass newer ≡ []) × stands_for o (newer ++ seen)
+      × ((t : ℕ) × (m ≡ (view (Some name) (past pass (newer ++ seen) ∷ []) (Some t) true, (0, None) ∷ [])))
+
+  -- the object to be put back stands for the whole history with this entry on top, which is to be told
+  abbrev pub Tells : (O → ℕ) → (O → List (Entry C) → Type 0) → O → Entry C → Me (Option O) (View C) → Type 0
+  Tells number stands_for o e m = (m.0.object ≡ Some (number o)) × (number_in m.0.pasts ≡ e.pass) × (m.0.turn ≡ true) × (m.1 ≡ (0, None) ∷ []) × stands_for o (e ∷ seen_in m.0.pasts)

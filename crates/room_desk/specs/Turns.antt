@@ -1,5 +1,5 @@
 -- What a desk's table keeps between any two steps: one history, the tickets that are out, and who may add to the history.
-use Rattle.std.specs.Prelude.{ℕ, zero, suc, ◌≡◌, ◌+◌, ◌%◌, ◌^◌, ◌<◌, ◌≤◌, ◌⊎◌, Bool, true, false, List, [], ◌∷◌, ◌++◌, length, Option, Some, None}
+use Rattle.std.specs.Prelude.{ℕ, zero, suc, ◌≡◌, ◌+◌, ◌%◌, ◌^◌, ◌<◌, ◌≤◌, ◌⊎◌, Bool, true, false, List, [], ◌∷◌, length, Option, Some, None}
 use mathlib.Core.Option.{some, none}
 use mathlib.Core.Option as maybe
 use lib.ListN.{get_elem?}
@@ -88,16 +88,19 @@ module _ {C O : Type 0} (number : O → ℕ) (stands_for : O → List (Entry C) 
 
   -- An open desk of so many passes. Word 0 counts the tickets drawn, and word 1 the turns passed on, as many as the history has entries.
   pub record Turns (count : ℕ) (s : State (Option O) (View C)) : Type 0 where
+    -- the object's number, the history so far, how many tickets were drawn, and which seat has which pass
     pub name : ℕ
     pub log : List (Entry C)
     pub drawn : ℕ
     pub seat_of : ℕ → ℕ
     pub words : s.words ≡ (drawn % 2 ^ 64) ∷ (length log % 2 ^ 64) ∷ []
+    -- the seats have all passes, and the tickets of the turns to come, each once
     pub pasts : total pasts_of s.views ≡ count
     pub small : count ≤ 32
     pub tickets : total tickets_of s.views + length log ≡ drawn
     pub fits : (j : ℕ) (v : View C) → get_elem? s.views j ≡ some v → Fits name log drawn seat_of j v
     pub apart : (i j : ℕ) (v w : View C) (t : ℕ) → get_elem? s.views i ≡ some v → get_elem? s.views j ≡ some w → v.ticket ≡ Some t → w.ticket ≡ Some t → i ≡ j
+    -- a pass that no seat has made no call
     pub known : (p : ℕ) → (of_pass p log ≡ []) ⊎ Holder s.views (seat_of p) p
     pub slot : AtHome name log s.homes s.views ⊎ IsOut s.homes s.views
 

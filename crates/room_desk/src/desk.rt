@@ -8,7 +8,7 @@ ghost use Rattle.room_desk.specs.Plays.{past_of, United};
 
 use crate::object::Object;
 use crate::pass::Pass;
-use crate::turns::{Open, Part, Reach, Turns, Unite};
+use crate::turns::{Beginning, Open, Part, Reach, Turns, Unite};
 use crate::view::View;
 use atomic_table::{Seat, Table};
 use game_sheet::NoMemory;
@@ -19,9 +19,8 @@ use std::snapshot::Snapshot;
 /// A desk. Contracts see it as which it is, its object's number, and how many passes it was set up with.
 #[derive(Drop)]
 pub struct Desk<O: Object> {
-    pub(crate) table: Table<Option<O>, View<O::Call>, u32, Turns<O>, Global>,
+    pub(crate) table: Table<Option<O>, View<O::Call>, Beginning<O>, Turns<O>, Global>,
     pub(crate) passes: u32,
-    pub(crate) first: Snapshot<O>,
 }
 
 impl<O: Object> Model for Desk<O> {
@@ -30,9 +29,9 @@ impl<O: Object> Model for Desk<O> {
 
     ghost Value = { SetUp };
 
-    ghost view = { λ d. record { desk = record { table = d.table.shared.table_id; object = O.number d.first.value }; passes = d.passes } };
+    ghost view = { λ d. record { desk = record { table = d.table.shared.table_id; object = O.number d.table.shared.key.object.value }; passes = d.passes } };
 
-    ghost invariant = { λ d. (d.table.shared.table_id.words ≡ 2) × (d.table.shared.table_id.slots ≡ 1) × (d.table.shared.key ≡ d.passes) × (0 < d.passes) };
+    ghost invariant = { λ d. (d.table.shared.table_id.words ≡ 2) × (d.table.shared.table_id.slots ≡ 1) × (d.table.shared.key.passes ≡ d.passes) × (0 < d.passes) };
 }
 
 /// Passes are missing where a desk was to be closed: how many, and all that was handed in.
@@ -75,20 +74,16 @@ impl<O: Object> Desk<O> {
         ensures desk { IfOk result (λ r. (r.0.passes ≡ passes) × (r.0.desk.object ≡ O.number object)) }
         ensures seat { IfOk result (λ r. (r.1.table_id ≡ r.0.desk.table) × (r.1.me ≡ (view (Some (O.number object)) (fresh 0 passes) None false, []))) }
     {
-        let (table, mut seat) = Table::vacant(alloc, &[0, 0], 1, &passes)?;
-        let first = Snapshot::of(&object);
+        let beginning = Beginning {
+            passes,
+            object: Snapshot::of(&object),
+        };
+        let (table, mut seat) = Table::vacant(alloc, &[0, 0], 1, &beginning)?;
         let shared = &table.shared;
         shared.load::<Reach>(&mut seat, 1);
         drop(shared.exchange(&mut seat, 0, Some(object)));
         shared.fetch_add::<Open>(&mut seat, 1, 0);
-        Ok((
-            Desk {
-                table,
-                passes,
-                first,
-            },
-            seat,
-        ))
+        Ok((Desk { table, passes }, seat))
     }
 
     /// Splits the passes off the first seat, in order.
@@ -125,7 +120,9 @@ impl<O: Object> Desk<O> {
                 passes,
             });
         }
-        let Some(last) = passes.pop() else { unreachable!() };
+        let Some(last) = passes.pop() else {
+            unreachable!()
+        };
         let seat = self.unite(last.into_seat(), passes);
         Ok(self.take_out(seat))
     }
@@ -159,11 +156,7 @@ impl<O: Object> Desk<O> {
         ensures united { (h : List (Entry O.Call)) × O.stands_for result h × United seat.me.0.pasts h }
         ensures number { O.number result ≡ self.desk.object }
     {
-        let Desk {
-            table,
-            passes: _,
-            first: _,
-        } = self;
+        let Desk { table, passes: _ } = self;
         let mut closed = table.close_with(seat);
         let object = closed.take(0).unwrap();
         closed.free();

@@ -11,3 +11,6 @@ mod view;
 pub use desk::{Desk, PassesOut};
 pub use object::Object;
 pub use pass::Pass;
+
+#[cfg(test)]
+mod tests;

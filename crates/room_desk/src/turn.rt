@@ -1,14 +1,15 @@
 //! A call on a desk: a ticket, the turn, the call on the object, and the turn passed on.
 //!
-//! A thread whose turn hasn't come parks on the word that counts the turns passed on, and tries again when that word has changed. It runs for no
-//! time while it waits, so a program may have more threads than processors. Who passes the turn on wakes all that wait, since only one of them is next
-//! and a single wake could meet another; and it wakes nobody where no further ticket was drawn, so that a call that meets no other makes no system call.
+//! A thread whose turn hasn't come parks on the word that counts the turns passed on. It takes no processor time while it waits, so a program may have more
+//! threads than processors. Who passes the turn on wakes all that wait, since only one of them is next, and a single wake could reach another. It wakes nobody
+//! where no further ticket was drawn: who waits has drawn its ticket before, and who draws one later finds the word changed. So a call that meets no other asks
+//! nothing of the system. No clause speaks of waiting.
 
 ghost use Rattle.std.specs.Prelude.{◌≡◌, ℕ, ◌∷◌, ◌++◌, ◌%◌, ◌^◌, [], Some, None, true, false};
 ghost use Rattle.room_desk.specs.Entry.{entry};
 ghost use Rattle.room_desk.specs.History.{Called, held};
 ghost use Rattle.room_desk.specs.Turns.{past, view, number_in, seen_in};
-ghost use Rattle.room_desk.specs.Plays.{noted, Rests, Takes, Waits, Tells};
+ghost use Rattle.room_desk.specs.Plays.{noted, Rests, Takes, Waits, Entered, Tells};
 
 use crate::desk::Desk;
 use crate::object::Object;
@@ -31,6 +32,7 @@ impl<O: Object> Desk<O> {
         self.turn::<Brand, R>(rt, &mut pass.seat, number, call)
     }
 
+    /// The call, as `J` has it too, which names it for the proof once it has been moved.
     fn turn<J: Asked<O::Call>, R: Wait>(
         &self,
         rt: &R,
@@ -47,14 +49,22 @@ impl<O: Object> Desk<O> {
         ensures called { Called (O.reply (noted seat.old.me.0.object)) (seen_in seat.old.me.0.pasts) (entry number call (O.is_starved result)) result (seen_in seat.new.me.0.pasts) }
         ensures fed { O.is_starved result ≡ true → O.may_starve call ≡ true }
     {
+        let mut object = self.enter(rt, seat, number);
+        let reply = object.apply(number, call);
+        self.leave::<Brand>(seat, number, object, &reply);
+        reply
+    }
+
+    /// Waits for the turn, and takes the object out of its slot.
+    fn enter<R: Wait>(&self, rt: &R, seat: &mut Seat<Option<O>, View<O::Call>>, number: u32) -> O
+        requires table { seat.old.table_id ≡ self.now.desk.table }
+        requires rests { Rests number seat.old.me }
+        ensures table { seat.new.table_id ≡ seat.old.table_id }
+        ensures entered { Entered O.number O.stands_for (noted seat.old.me.0.object) number (seen_in seat.old.me.0.pasts) result seat.new.me }
+    {
         let ticket = self.draw(seat, number);
         self.wait(rt, seat, ticket);
-        let shared = &self.table.shared;
-        let mut object = shared.exchange(seat, 0, None).unwrap();
-        let reply = object.apply(number, call);
-        drop(shared.exchange(seat, 0, Some(object)));
-        self.pass_on::<Brand>(seat, number, &reply);
-        reply
+        self.table.shared.exchange(seat, 0, None).unwrap()
     }
 
     /// Draws the next ticket.
@@ -85,20 +95,28 @@ impl<O: Object> Desk<O> {
         unreachable!()
     }
 
-    /// Passes the turn on, and wakes who waits for it.
-    fn pass_on<J: Said<O::Call>>(
+    /// Puts the object back, and passes the turn on.
+    fn leave<J: Said<O::Call>>(
         &self,
         seat: &mut Seat<Option<O>, View<O::Call>>,
         number: u32,
+        object: O,
         reply: &O::Reply,
     )
         requires table { seat.old.table_id ≡ self.now.desk.table }
-        requires tells { (c : O.Call) × (J.said ≡ entry number c (O.is_starved reply.now) ∷ []) × Tells O.number O.stands_for (entry number c (O.is_starved reply.now)) seat.old.me }
+        requires tells { (c : O.Call) × (J.said ≡ entry number c (O.is_starved reply.now) ∷ []) × Tells O.number O.stands_for object (entry number c (O.is_starved reply.now)) seat.old.me }
         ensures table { seat.new.table_id ≡ seat.old.table_id }
-        ensures passed { seat.new.me ≡ (view seat.old.me.0.object (past number (J.said ++ seen_in seat.old.me.0.pasts) ∷ []) None false, []) }
+        ensures told { seat.new.me ≡ (view seat.old.me.0.object (past number (J.said ++ seen_in seat.old.me.0.pasts) ∷ []) None false, []) }
     {
         let shared = &self.table.shared;
+        drop(shared.exchange(seat, 0, Some(object)));
         let turn = shared.fetch_add::<PassOn<J>>(seat, 1, 1);
+        self.wake(turn);
+    }
+
+    /// Wakes who waits for the turn after this one, if a ticket for it was drawn.
+    fn wake(&self, turn: u64) {
+        let shared = &self.table.shared;
         if shared.peek(0) != turn.wrapping_add(1) {
             shared.wake_all(1);
         }

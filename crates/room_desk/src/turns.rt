@@ -4,18 +4,26 @@ use crate::object::Object;
 use crate::view::View;
 use atomic_table::{Join, Play, Split, TableRule};
 use std::marker::{Brand, PhantomData};
+use std::snapshot::Snapshot;
 
-/// The rule: one history, with tickets and a turn. Its key is how many passes the desk was set up with.
+/// What a desk was set up with: how many passes, and the object as it was.
+#[derive(Drop)]
+pub struct Beginning<O> {
+    pub(crate) passes: u32,
+    pub(crate) object: Snapshot<O>,
+}
+
+/// The rule: one history, with tickets and a turn.
 pub struct Turns<O> {
     marker: PhantomData<O>,
 }
 
-impl<O: Object> TableRule<Option<O>, View<O::Call>, u32> for Turns<O> {
+impl<O: Object> TableRule<Option<O>, View<O::Call>, Beginning<O>> for Turns<O> {
     ghost use Rattle.room_desk.specs.Turns.{Desked, untold};
 
-    ghost holds = { λ count. Desked O.number O.stands_for count };
+    ghost holds = { λ b. Desked O.number O.stands_for b.passes };
 
-    ghost first = { λ count. untold count };
+    ghost first = { λ b. untold b.passes };
 }
 
 /// The empty slot is taken.
@@ -65,7 +73,7 @@ impl<O: Object, J: Said<O::Call>> Play<Option<O>, View<O::Call>> for PassOn<J> {
     ghost then = { Passes J.said };
 }
 
-/// The entry that passing the turn on adds. Each call of a program picks it.
+/// The entry that passing the turn on adds. The proof of each call picks it.
 pub trait Said<C> {
     ghost use Rattle.std.specs.Prelude.{List};
     ghost use Rattle.room_desk.specs.Entry.{Entry};
@@ -79,7 +87,7 @@ impl<C> Said<C> for Brand {
     ghost said = { [] };
 }
 
-/// The call that a turn is for. Each call of a program picks it.
+/// The call that a turn is for. The proof of each call picks it.
 pub trait Asked<C> {
     ghost use Rattle.std.specs.Prelude.{List};
 

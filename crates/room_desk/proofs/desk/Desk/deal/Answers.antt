@@ -1,6 +1,6 @@
-use Rattle.std.proofs.Common.{◌≡◌, ◌≢◌, ◌<◌, ◌+◌, ◌-◌, ◌∷◌, ◌++◌, List, [], None, Some, false, Option, refl, ap, sym, subst, ◌∙◌, arith}
+use Rattle.std.proofs.Common.{◌≡◌, ◌<◌, ◌+◌, ◌-◌, ◌∷◌, ◌++◌, List, [], None, Some, false, Option, refl, ap, sym, subst, ◌∙◌, arith}
 use Rattle.atomic_table.specs.Table.{Me}
-use Rattle.room_desk.specs.History.{SetUp, DeskId, Held, held, dealt}
+use Rattle.room_desk.specs.History.{SetUp, Held, held}
 use Rattle.room_desk.specs.Turns.{Past, View, fresh, past, view, seen_in}
 use Rattle.room_desk.specs.Plays.{Rests, noted, left_of, right_of}
 use Rattle.room_desk.proofs.Ends.{fresh_next, fresh_apart, dealt_next}
@@ -21,7 +21,7 @@ split_seat-seat-requires g c =
     )
 
 pub invariant_of-push : goal.invariant_of-push
-invariant_of-push g c = 
+invariant_of-push g c =
     let k = c.loop-number.number in
     let n = c.args.self.now.passes in
     let kept = c.loop-number.invariant in
@@ -29,8 +29,8 @@ invariant_of-push g c =
     let lt : k < c.self.inside.passes = c.loop-number-test.true in
     let object = c.args.self.now.desk.object in
     let is : c.split_seat-seat.result.me ≡ (view (Some object) (past k [] ∷ []) None false, []) =
-      c.split_seat-seat.ensures.4 ∙ (ap (λ (x : Me (Option g.row.O.Denot) (View g.row.O-Call.Denot)). (right_of x.0, [])) kept.1
-      ∙ ap (λ (l : List (Past g.row.O-Call.Denot)). (right_of (view (Some object) l None false), [])) (fresh_next k n (omega arith))) in
+    c.split_seat-seat.ensures.4 ∙ (ap (λ (x : Me (Option g.row.O.Denot) (View g.row.O-Call.Denot)). (right_of x.0, [])) kept.1
+    ∙ ap (λ (l : List (Past g.row.O-Call.Denot)). (right_of (view (Some object) l None false), [])) (fresh_next k n (omega arith))) in
     subst (λ (x : Me (Option g.row.O.Denot) (View g.row.O-Call.Denot)). Rests k x) (sym is) refl
 
 pub loop-number-preserved : goal.loop-number-preserved
@@ -43,14 +43,14 @@ loop-number-preserved g c =
     let object = c.args.self.now.desk.object in
     let next = fresh_next {C = g.row.O-Call.Denot} k n (omega arith) in
     let is : c.split_seat-seat.result.me ≡ (view (Some object) (past k [] ∷ []) None false, []) =
-      c.split_seat-seat.ensures.4 ∙ (ap (λ (x : Me (Option g.row.O.Denot) (View g.row.O-Call.Denot)). (right_of x.0, [])) kept.1
-      ∙ ap (λ (l : List (Past g.row.O-Call.Denot)). (right_of (view (Some object) l None false), [])) next) in
+    c.split_seat-seat.ensures.4 ∙ (ap (λ (x : Me (Option g.row.O.Denot) (View g.row.O-Call.Denot)). (right_of x.0, [])) kept.1
+    ∙ ap (λ (l : List (Past g.row.O-Call.Denot)). (right_of (view (Some object) l None false), [])) next) in
     let pass : held (record { table = c.split_seat-seat.result.table_id; object = noted c.split_seat-seat.result.me.0.object }) k (seen_in c.split_seat-seat.result.me.0.pasts) ≡ held c.args.self.now.desk k [] =
-      λ i. held (record { table = (c.split_seat-seat.ensures.3 ∙ kept.0) i; object = noted (is i).0.object }) k (seen_in (is i).0.pasts) in (
+    λ i. held (record { table = (c.split_seat-seat.ensures.3 ∙ kept.0) i; object = noted (is i).0.object }) k (seen_in (is i).0.pasts) in (
       c.split_seat-seat.ensures.0 ∙ kept.0,
       c.split_seat-seat.ensures.2 ∙ (ap (λ (x : Me (Option g.row.O.Denot) (View g.row.O-Call.Denot)). (left_of x.0, x.1)) kept.1
-        ∙ ap (λ (l : List (Past g.row.O-Call.Denot)). (left_of (view (Some object) l None false), [])) next),
+          ∙ ap (λ (l : List (Past g.row.O-Call.Denot)). (left_of (view (Some object) l None false), [])) next),
       c.in_ok-push.ensures.items
-        ∙ (ap (λ (p : Held g.row.O-Call.Denot). c.loop-number.passes.items ++ p ∷ []) pass
-        ∙ (ap (λ (l : List (Held g.row.O-Call.Denot)). l ++ held c.args.self.now.desk k [] ∷ []) kept.2 ∙ sym (dealt_next c.args.self.now.desk k))),
+          ∙ (ap (λ (p : Held g.row.O-Call.Denot). c.loop-number.passes.items ++ p ∷ []) pass
+          ∙ (ap (λ (l : List (Held g.row.O-Call.Denot)). l ++ held c.args.self.now.desk k [] ∷ []) kept.2 ∙ sym (dealt_next c.args.self.now.desk k))),
     )

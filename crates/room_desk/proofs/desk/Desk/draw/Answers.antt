@@ -1,4 +1,4 @@
-use Rattle.std.proofs.Common.{ap, sym, ◌∙◌, arith, length, ◌<◌, ◌≡◌}
+use Rattle.std.proofs.Common.{ap, sym, ◌∙◌, arith, length, ◌≡◌}
 use Rattle.room_desk.specs.History.{SetUp}
 use Rattle.room_desk.specs.Plays.{noted}
 use Rattle.room_desk.proofs.Draw.{draws}

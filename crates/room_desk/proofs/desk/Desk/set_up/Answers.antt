@@ -1,5 +1,3 @@
-use Rattle.std.proofs.Common.{ap, ◌∙◌}
-use Rattle.room_desk.specs.History.{dealt}
 use Rattle.room_desk.proofs.Closing.{all_dealt}
 use Rattle.room_desk.proofs.desk.Desk.set_up.Goals as goal
 

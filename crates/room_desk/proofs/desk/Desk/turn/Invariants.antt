@@ -3,5 +3,5 @@ use Rattle.room_desk.specs.Entry.{entry}
 use Rattle.room_desk.proofs.desk.Desk.turn.Given as goal
 
 -- what is passed on is the call that the turn is for, with its reply's want of memory
-abbrev pub ghosts-pass_on : goal.ghosts-pass_on
-ghosts-pass_on g a = record { said = map (λ c. entry a.number c (g.O.Object.is_starved a.reply.now)) g.J.Asked.asked }
+abbrev pub ghosts-leave : goal.ghosts-leave
+ghosts-leave g a = record { said = map (λ c. entry a.number c (g.O.Object.is_starved a.reply.now)) g.J.Asked.asked }

@@ -1,7 +1,5 @@
-use Rattle.std.proofs.Common.{ap, sym, subst, ◌∙◌, arith, ◌<◌, ◌≡◌, Option}
-use Rattle.atomic_table.specs.Table.{Me}
+use Rattle.std.proofs.Common.{ap, sym, subst, ◌∙◌, arith}
 use Rattle.room_desk.specs.History.{SetUp}
-use Rattle.room_desk.specs.Turns.{View}
 use Rattle.room_desk.specs.Plays.{noted, Waits}
 use Rattle.room_desk.proofs.Trying.{tries}
 use Rattle.room_desk.proofs.desk.Desk.wait.Goals as goal

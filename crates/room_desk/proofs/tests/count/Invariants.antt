@@ -1,0 +1,6 @@
+use Rattle.std.proofs.Common.{◌≡◌}
+use Rattle.room_desk.proofs.tests.count.Given as goal
+
+-- the pass stays one of its desk
+abbrev pub invariant-loop : goal.invariant-loop
+invariant-loop g l = l.pass.desk ≡ l.fn.pass.desk
