@@ -1,0 +1,6 @@
+pub mod UpdateLaws
+pub mod RuleLaws
+pub mod Follows
+pub mod Joins
+pub mod SessionLaws
+pub mod JudgeLaws
