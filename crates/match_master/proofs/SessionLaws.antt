@@ -94,9 +94,9 @@ pub put_at : (es : List (ℕ × Session)) (pass i : ℕ) (w : Session) → posit
 put_at es pass i w h = sym (insert_entry-first nat_eq pass w es i (Found-position (nat_eq pass) es i h).first)
 
 -- what is shown at a key
-pub lookup-shown : (es : List (ℕ × Session)) (pass : ℕ) → lookup (nat_eq pass) (all_shown es) ≡ option_map shown_of (lookup (nat_eq pass) es)
-lookup-shown [] pass = refl
-lookup-shown (x ∷ es) pass = by (nat_eq pass x.0) (lookup-shown es pass)
+pub lookup_shown : (es : List (ℕ × Session)) (pass : ℕ) → lookup (nat_eq pass) (all_shown es) ≡ option_map shown_of (lookup (nat_eq pass) es)
+lookup_shown [] pass = refl
+lookup_shown (x ∷ es) pass = by (nat_eq pass x.0) (lookup_shown es pass)
   where
     by : (b : Bool) → lookup (nat_eq pass) (all_shown es) ≡ option_map shown_of (lookup (nat_eq pass) es)
         → (if b then Some (shown_of x.1) else lookup (nat_eq pass) (all_shown es)) ≡ option_map shown_of (if b then Some x.1 else lookup (nat_eq pass) es)
@@ -151,5 +151,5 @@ none_of (Some v) h = absurd (true≢false (sym h))
 pub taken_out : (es : List (ℕ × Session)) (pass i : ℕ) (v w : Session) → lookup (nat_eq pass) es ≡ Some v → position (nat_eq pass) (keys_of es) ≡ Some i → shown_of w ≡ record { viewer = v.viewer; bytes = [] }
     → TakesOut pass v.waiting.items (lookup (nat_eq pass) (all_shown es)) (all_shown es) (all_shown (set_value_at es i w))
 taken_out es pass i v w found at emptied =
-    subst (λ o. TakesOut pass v.waiting.items o (all_shown es) (all_shown (set_value_at es i w))) (sym (lookup-shown es pass ∙ ap (option_map shown_of) found))
+    subst (λ o. TakesOut pass v.waiting.items o (all_shown es) (all_shown (set_value_at es i w))) (sym (lookup_shown es pass ∙ ap (option_map shown_of) found))
         (refl, ap all_shown (put_at es pass i w at) ∙ shown_put es pass w ∙ ap (insert_entry nat_eq (all_shown es) pass) emptied)

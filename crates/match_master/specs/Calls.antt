@@ -49,15 +49,22 @@ serials_created serials (Ok m) = m.serial
 serials_created serials (Err why) = serials
 
 -- a seat and a key may attach to a match that has the seat; a spectator needs none
-abbrev pub admit : {X G : Type 0} → Match X G → Option (ℕ × List ℕ) → Result (Option ℕ) RoomReply
-admit m None = Ok None
-admit m (Some claim) = if nat_lt claim.0 m.seats then Ok (Some claim.0) else Err reply.Unauthorized
+abbrev pub admit : ℕ → Option (ℕ × List ℕ) → Result (Option ℕ) RoomReply
+admit seats None = Ok None
+admit seats (Some claim) = if nat_lt claim.0 seats then Ok (Some claim.0) else Err reply.Unauthorized
 
--- who an Attach lets in, or why it lets nobody in
+-- who an Attach lets in to the match of a serial and a number of seats, or why it lets nobody in
+abbrev pub attach_at : Option (ℕ × ℕ) → Option (Option ℕ) → ℕ → Option (ℕ × List ℕ) → Result (Option ℕ) RoomReply
+attach_at at (Some viewer) serial claim = Err reply.AlreadyAttached
+attach_at None None serial claim = Err reply.NoMatch
+attach_at (Some at) None serial claim = if at.0 == serial then admit at.1 claim else Err reply.NoMatch
+
+abbrev pub serial_and_seats : {X G : Type 0} → Option (Match X G) → Option (ℕ × ℕ)
+serial_and_seats None = None
+serial_and_seats (Some m) = Some (m.serial, m.seats)
+
 abbrev pub attach : {X G : Type 0} → Option (Match X G) → Option (Option ℕ) → ℕ → Option (ℕ × List ℕ) → Result (Option ℕ) RoomReply
-attach standing (Some viewer) serial claim = Err reply.AlreadyAttached
-attach None None serial claim = Err reply.NoMatch
-attach (Some m) None serial claim = if m.serial == serial then admit m claim else Err reply.NoMatch
+attach standing attached serial claim = attach_at (serial_and_seats standing) attached serial claim
 
 abbrev pub attach_reply : Result (Option ℕ) RoomReply → RoomReply
 attach_reply (Ok viewer) = reply.Attached

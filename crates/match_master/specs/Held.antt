@@ -51,23 +51,23 @@ stored None bytes = None
 stored (Some viewer) bytes = Some (record { viewer = viewer; bytes = bytes })
 
 module _ {X G : Type 0} (rules : X → Rules G) where
+  -- what holds of each match that is kept
+  pub record IsKept (k : Kept X G) : Type 0 where
+    pub sound : IsSound (rules k.game) k.state
+    pub serial : 1 ≤ k.serial
+
+  abbrev pub KeptInOrder : Option (Kept X G) → Type 0
+  KeptInOrder None = Unit {0}
+  KeptInOrder (Some k) = IsKept k
+
   -- what is kept of a match
   abbrev pub kept_of : Match X G → Kept X G
   kept_of m = record { game = m.game; seats = m.seats; serial = m.serial; state = standing_at (rules m.game) m.first m.accepted; log = log_of rules m }
-
-  pub record IsInOrder (m : Match X G) : Type 0 where
-    pub sound : IsSound (rules m.game) (standing_at (rules m.game) m.first m.accepted)
-    pub serial : 1 ≤ m.serial
-
-  abbrev pub MatchInOrder : Option (Match X G) → Type 0
-  MatchInOrder None = Unit {0}
-  MatchInOrder (Some m) = IsInOrder m
 
   -- the Book holds this count of matches, this match, these attachments, and these lines of each
   pub record Holds (held : Held X G) (serials : ℕ) (standing : Option (Match X G)) (attached : ℕ → Option (Option ℕ)) (pieces : ℕ → List Piece) : Type 0 where
     pub serials_held : held.serials ≡ serials
     pub match_held : held.kept ≡ option_map kept_of standing
-    pub in_order : MatchInOrder standing
     pub sessions_held : (pass : ℕ) → lookup (nat_eq pass) held.sessions ≡ stored (attached pass) (waiting (pieces pass))
 
   abbrev pub bytes_waiting : Option (Option ℕ) → List ℕ → Option (List ℕ)

@@ -24,3 +24,7 @@ module _ {X G : Type 0} (rules : X → Rules G) (room : ℕ) where
   abbrev pub IsJudged : Match X G → Option ℕ → Submission → Judged G → Type 0
   IsJudged m viewer s (Refused reason) = broken rules room m viewer s ≡ Some reason
   IsJudged m viewer s (Accepts state entry) = IsAccepted m viewer s state entry
+
+abbrev pub JudgedInOrder : {G : Type 0} → Rules G → Judged G → Type 0
+JudgedInOrder rules (Refused reason) = Unit {0}
+JudgedInOrder rules (Accepts state entry) = IsSound rules state

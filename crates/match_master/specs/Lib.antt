@@ -13,3 +13,4 @@ pub mod Steps
 pub mod Shown
 pub mod Held
 pub mod Judged
+pub mod Does

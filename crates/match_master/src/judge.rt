@@ -6,7 +6,7 @@ ghost use Rattle.match_master.specs.Match.{Match, entry_on};
 ghost use Rattle.match_master.specs.Admitted.{IsAdmitted};
 ghost use Rattle.match_master.specs.Held.{kept_of};
 ghost use Rattle.match_master.specs.Rule.{public};
-ghost use Rattle.match_master.specs.Judged.{IsJudged};
+ghost use Rattle.match_master.specs.Judged.{IsJudged, JudgedInOrder};
 ghost use Rattle.match_master.specs.Verdict.{reason_of, is_named, public_broken};
 
 use crate::kept::Kept;
@@ -42,7 +42,8 @@ pub fn judge<X: Game>(
     submission: &Submission,
 ) -> Result<Judged<X::G>, NoMemory>
     requires { IsSound (X.rules kept.now.game) kept.now.state }
-    ensures { IfOk result (λ judged. (m : Match X X.G) → kept.now ≡ kept_of X.rules m → IsJudged X.rules room m viewer submission.now judged) }
+    ensures sound { IfOk result (JudgedInOrder (X.rules kept.now.game)) }
+    ensures judged { IfOk result (λ judged. (m : Match X X.G) → kept.now ≡ kept_of X.rules m → IsJudged X.rules room m viewer submission.now judged) }
 {
     match check(room, kept, viewer, submission) {
         Some(reason) => Ok(Judged::Refused(reason)),
@@ -89,7 +90,8 @@ fn play<X: Game>(
 ) -> Result<Judged<X::G>, NoMemory>
     requires sound { IsSound (X.rules kept.now.game) kept.now.state }
     requires admitted { IsAdmitted (X.rules kept.now.game).sheet kept.now.state.table.ctx kept.now.state.number viewer submission.now.asked }
-    ensures { IfOk result (λ judged. (m : Match X X.G) → kept.now ≡ kept_of X.rules m → public_broken X.rules room m viewer submission.now ≡ None → IsJudged X.rules room m viewer submission.now judged) }
+    ensures sound { IfOk result (JudgedInOrder (X.rules kept.now.game)) }
+    ensures judged { IfOk result (λ judged. (m : Match X X.G) → kept.now ≡ kept_of X.rules m → public_broken X.rules room m viewer submission.now ≡ None → IsJudged X.rules room m viewer submission.now judged) }
 {
     let _room = room;
     let Some(seat) = viewer else { unreachable!(); };

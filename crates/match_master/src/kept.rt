@@ -1,6 +1,8 @@
 //! What a room keeps of the match that stands.
 
-use game_sheet::List;
+ghost use Rattle.std.specs.Prelude.{◌≡◌, ◌∷◌, ◌++◌, [], OnOk, OnErr};
+
+use game_sheet::{List, NoMemory};
 use move_log::Entry;
 use reducer::State;
 
@@ -17,4 +19,20 @@ pub struct Kept<X, G> {
     pub state: State<G>,
     /// The accepted actions, the oldest first.
     pub log: List<Entry>,
+}
+
+impl<X, G: Drop> Kept<X, G> {
+    /// Takes an accepted action in. Without memory nothing changes.
+    pub fn advance(&mut self, state: State<G>, entry: Entry) -> Result<(), NoMemory>
+        ensures ok { OnOk result (self.new ≡ record self.old { state = state; log = self.old.log ++ entry ∷ [] }) }
+        ensures err { OnErr result (self.new ≡ self.old) }
+    {
+        match self.log.push(entry) {
+            Ok(()) => {
+                self.state = state;
+                Ok(())
+            }
+            Err(_) => Err(NoMemory),
+        }
+    }
 }

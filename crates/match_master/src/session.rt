@@ -2,7 +2,7 @@
 
 ghost use Rattle.std.specs.Prelude.{◌≡◌, ◌+◌, ◌<◌, ◌≤◌, ◌^◌, ◌==◌, ◌∷◌, ◌++◌, [], ℕ, map, option_map, length, OnOk, OnErr, IfSome, MatchOption, None, Some, vec_len, vec_capacity, slice_get, if◌then◌else◌, nat_eq};
 ghost use Rattle.match_master.specs.declared.session.Session.{Session};
-ghost use Rattle.indexmap.specs.IndexMap.{get, insert_entry};
+ghost use Rattle.indexmap.specs.IndexMap.{insert_entry};
 ghost use Rattle.std.specs.Map.{lookup};
 ghost use Rattle.match_master.specs.Shown.{Shown, shown_of, all_shown, TakesOut, with_told, tell_all, tell_at, needs, HaveRoomTo, HaveRoomFrom};
 
@@ -24,8 +24,9 @@ pub struct Session {
 pub type Sessions = IndexMap<u32, Session>;
 
 /// Who looks by a pass, if it is attached.
+#[tactic(auto, using(crate::proofs::SessionLaws::lookup_shown))]
 pub fn viewer_of(sessions: &Sessions, pass: u32) -> Option<Option<Seat>>
-    ensures { result ≡ option_map (λ s. s.viewer) (get nat_eq sessions.now pass) }
+    ensures { result ≡ option_map (λ s. s.viewer) (lookup (nat_eq pass) (all_shown sessions.now.entries)) }
 {
     match sessions.get(&pass) {
         None => None,

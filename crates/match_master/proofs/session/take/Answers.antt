@@ -1,11 +1,11 @@
 use Rattle.std.proofs.Common.{◌≡◌, option_map, is_some, nat_eq, sym, ap, ◌∙◌, refl}
 use Rattle.match_master.specs.Shown.{shown_of}
-use Rattle.match_master.proofs.SessionLaws.{lookup-shown, none_of, taken_out}
+use Rattle.match_master.proofs.SessionLaws.{lookup_shown, none_of, taken_out}
 use Rattle.match_master.proofs.session.take.Goals as goal
 
 pub returns-in_default : goal.returns-in_default
 returns-in_default c =
-    (lookup-shown c.args.sessions.now.entries c.args.pass ∙ ap (option_map shown_of) (none_of _ (sym (ap is_some c.in_default.is) ∙ c.get_index_of.ensures.found)), refl)
+    (lookup_shown c.args.sessions.now.entries c.args.pass ∙ ap (option_map shown_of) (none_of _ (sym (ap is_some c.in_default.is) ∙ c.get_index_of.ensures.found)), refl)
 
 pub returns : goal.returns
 returns c =
