@@ -4,3 +4,5 @@ pub mod Follows
 pub mod Joins
 pub mod SessionLaws
 pub mod JudgeLaws
+pub mod BookLaws
+pub mod Advance

@@ -10,9 +10,10 @@ use Rattle.match_master.specs.declared.kept.Kept.{Kept}
 use Rattle.match_master.specs.declared.reply.RoomReply.{RoomReply}
 use Rattle.match_master.specs.declared.reply.RoomReply.TheVariants as answer
 use Rattle.match_master.specs.Calls.{create, create_reply, attach, attach_reply, submit_reply}
-use Rattle.match_master.specs.History.{serials_after, standing_after, attached_after}
+use Rattle.room_desk.specs.Entry.{Entry}
+use Rattle.match_master.specs.History.{serials_after, standing_after, attached_after, serials, standing, attached}
 use Rattle.match_master.specs.Match.{Match, log_of}
-use Rattle.match_master.specs.Reply.{taken}
+use Rattle.match_master.specs.Reply.{taken, waits}
 use Rattle.match_master.specs.Shown.{Shown}
 use Rattle.match_master.specs.Steps.{pieces_after}
 use Rattle.match_master.specs.Stream.{Piece, waiting}
@@ -91,3 +92,16 @@ module _ {X G : Type 0} (rules : X → Rules G) (room : ℕ) where
             × Holds rules held (serials_after rules room serials standing call) (standing_after rules room serials standing (attached pass) call)
                 (λ q. if pass == q then attached_after standing (attached q) call else attached q)
                 (λ q. pieces_after rules room standing (attached pass) (pass == q) (attached q) (pieces q) call))
+
+-- what is kept of an attachment for which these bytes wait
+abbrev pub stored_bytes : Option (Option ℕ) → Option (List ℕ) → Option Shown
+stored_bytes None bytes = None
+stored_bytes (Some viewer) None = None
+stored_bytes (Some viewer) (Some bytes) = Some (record { viewer = viewer; bytes = bytes })
+
+-- a Book stands for a history of its room: it holds how many matches the history made, what stands by it, and of each pass who
+-- looks and what waits of its stream
+pub record StandsFor {X G : Type 0} (rules : X → Rules G) (held : Held X G) (h : List (Entry (RoomCall X))) : Type 0 where
+  pub serials_held : held.serials ≡ serials rules held.room h
+  pub match_held : held.kept ≡ option_map (kept_of rules) (standing rules held.room h)
+  pub sessions_held : (pass : ℕ) → lookup (nat_eq pass) held.sessions ≡ stored_bytes (attached rules held.room h pass) (waits rules held.room h pass)
