@@ -6,3 +6,4 @@ pub mod SessionLaws
 pub mod JudgeLaws
 pub mod BookLaws
 pub mod Advance
+pub mod Stands

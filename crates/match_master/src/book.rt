@@ -9,7 +9,10 @@ ghost use Rattle.match_master.specs.declared.reply.RoomReply.TheVariants as answ
 ghost use Rattle.wire_json.specs.declared.verdict.Verdict.TheVariants as verdict;
 ghost use Rattle.match_master.specs.Calls.{create, create_reply, attach, attach_at, attach_reply};
 ghost use Rattle.match_master.specs.Match.{Match};
-ghost use Rattle.match_master.specs.Held.{Held, kept_of};
+ghost use Rattle.room_desk.specs.Entry.{Entry as Made};
+ghost use Rattle.match_master.specs.declared.call.RoomCall.{RoomCall as Asks};
+ghost use Rattle.match_master.specs.Reply.{reply};
+ghost use Rattle.match_master.specs.Held.{Held, StandsFor, kept_of, is_starved, may_starve};
 ghost use Rattle.match_master.specs.Does.{Does, SubmitDoes, viewer_in, with_refused, with_accepted, after_create, after_attach, after_take, taken_of, sync_text};
 
 use crate::call::RoomCall;
@@ -65,9 +68,43 @@ impl<X: Game + Drop> Book<X> {
         })
     }
 
+    /// Answers a call of a pass.
+    ///
+    /// A book that stands for a history of its room answers the reply to the entry of this call after it, and then stands
+    /// for the history with the entry. After `NoMemory` nothing has changed; a Take takes no memory.
+    pub fn apply(&mut self, pass: u32, call: RoomCall<X>) -> RoomReply
+        ensures room { self.new.room ≡ self.old.room }
+        ensures answered { (h : List (Made (Asks X))) → StandsFor X.rules self.old h → result ≡ reply X.rules self.old.room h (record { pass = pass; call = call; starved = is_starved result }) }
+        ensures stands { (h : List (Made (Asks X))) → StandsFor X.rules self.old h → StandsFor X.rules self.new (record { pass = pass; call = call; starved = is_starved result } ∷ h) }
+        ensures fed { is_starved result ≡ true → may_starve call ≡ true }
+    {
+        match call {
+            RoomCall::Create { game, seats, seed } => self.create(game, seats, &seed),
+            RoomCall::Attach { serial, viewer } => self.attach(pass, serial, viewer),
+            RoomCall::Submit {
+                name,
+                key,
+                number,
+                ticket,
+                asked,
+            } => self.submit(
+                pass,
+                Submission {
+                    name,
+                    key,
+                    number,
+                    ticket,
+                    asked,
+                },
+            ),
+            RoomCall::Take => self.take(pass),
+        }
+    }
+
     /// Makes a match where none stands.
     fn create(&mut self, game: X, seats: u8, seed: &[u8; 32]) -> RoomReply
-        ensures { (standing : Option (Match X X.G)) → self.old.kept ≡ option_map (kept_of X.rules) standing
+        ensures room { self.new.room ≡ self.old.room }
+        ensures does { (standing : Option (Match X X.G)) → self.old.kept ≡ option_map (kept_of X.rules) standing
             → Does self.old result self.new (create_reply (create X.rules self.old.serials standing game seats seed.now)) (after_create X.rules self.old (create X.rules self.old.serials standing game seats seed.now)) }
     {
         if self.kept.is_some() || self.serials == u64::MAX {
@@ -94,6 +131,8 @@ impl<X: Game + Drop> Book<X> {
 
     /// Hands out what waits for a pass.
     fn take(&mut self, pass: u32) -> RoomReply
+        ensures room { self.new.room ≡ self.old.room }
+        ensures fed { is_starved result ≡ false }
         ensures reply { result ≡ taken_of (lookup (nat_eq pass) self.old.sessions) }
         ensures after { self.new ≡ after_take self.old pass (lookup (nat_eq pass) self.old.sessions) }
     {
@@ -108,7 +147,8 @@ impl<X: Game + Drop> Book<X> {
 
     /// Tells a pass that its action was refused.
     fn refuse(&mut self, pass: u32, number: Number, reason: Reason, ticket: u32) -> RoomReply
-        ensures { Does self.old result self.new (answer.Verdict (verdict.No number reason)) (with_refused self.old pass number reason ticket) }
+        ensures room { self.new.room ≡ self.old.room }
+        ensures does { Does self.old result self.new (answer.Verdict (verdict.No number reason)) (with_refused self.old pass number reason ticket) }
     {
         let Ok(said) = line::no(self.alloc, number, reason, ticket) else { return RoomReply::NoMemory; };
         match session::reserve(&mut self.sessions, pass, said.len(), 0) {
@@ -124,7 +164,8 @@ impl<X: Game + Drop> Book<X> {
     fn accept(&mut self, pass: u32, state: State<X::G>, entry: Entry, ticket: u32) -> RoomReply
         requires kept { IsSome self.old.kept }
         requires sound { IfSome self.old.kept (λ k. IsSound (X.rules k.game) state) }
-        ensures { IfSome self.old.kept (λ k. Does self.old result self.new (answer.Verdict (verdict.Ok state.number)) (with_accepted X.rules self.old k pass state entry ticket)) }
+        ensures room { self.new.room ≡ self.old.room }
+        ensures does { IfSome self.old.kept (λ k. Does self.old result self.new (answer.Verdict (verdict.Ok state.number)) (with_accepted X.rules self.old k pass state entry ticket)) }
     {
         let Some(kept) = &self.kept else { unreachable!(); };
         let number = state.number();
@@ -139,7 +180,8 @@ impl<X: Game + Drop> Book<X> {
 
     /// Judges an action, and tells what became of it.
     fn submit(&mut self, pass: u32, submission: Submission) -> RoomReply
-        ensures { (standing : Option (Match X X.G)) → self.old.kept ≡ option_map (kept_of X.rules) standing
+        ensures room { self.new.room ≡ self.old.room }
+        ensures does { (standing : Option (Match X X.G)) → self.old.kept ≡ option_map (kept_of X.rules) standing
             → SubmitDoes X.rules self.old pass submission result self.new (viewer_in self.old pass) standing }
     {
         let Some(viewer) = session::viewer_of(&self.sessions, pass) else { return RoomReply::NotAttached; };
@@ -154,7 +196,8 @@ impl<X: Game + Drop> Book<X> {
 
     /// Attaches a pass to the match that stands.
     fn attach(&mut self, pass: u32, serial: u64, claim: Option<(Seat, Key)>) -> RoomReply
-        ensures { (standing : Option (Match X X.G)) → self.old.kept ≡ option_map (kept_of X.rules) standing
+        ensures room { self.new.room ≡ self.old.room }
+        ensures does { (standing : Option (Match X X.G)) → self.old.kept ≡ option_map (kept_of X.rules) standing
             → Does self.old result self.new (attach_reply (attach standing (viewer_in self.old pass) serial claim)) (after_attach X.rules self.old pass standing (attach standing (viewer_in self.old pass) serial claim)) }
     {
         let before = session::viewer_of(&self.sessions, pass);
@@ -167,7 +210,8 @@ impl<X: Game + Drop> Book<X> {
     /// Attaches a viewer to the match that stands.
     fn begin(&mut self, pass: u32, viewer: Option<Seat>) -> RoomReply
         requires { IsSome self.old.kept }
-        ensures { IfSome self.old.kept (λ k. Does self.old result self.new answer.Attached
+        ensures room { self.new.room ≡ self.old.room }
+        ensures does { IfSome self.old.kept (λ k. Does self.old result self.new answer.Attached
             (record self.old { sessions = insert_entry nat_eq self.old.sessions pass (record { viewer = viewer; bytes = sync_text X.rules self.old.room k viewer }) })) }
     {
         let Some(kept) = &self.kept else { unreachable!(); };
