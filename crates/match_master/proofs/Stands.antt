@@ -18,6 +18,10 @@ use Rattle.match_master.specs.Shown.{Shown}
 use Rattle.match_master.specs.Steps.{pieces, pieces_after}
 use Rattle.match_master.specs.Stream.{Item, Piece, waiting}
 use Rattle.player_sight.specs.SnapshotData.{Snap}
+use Rattle.match_master.specs.declared.submission.Submission.{Submission}
+use Rattle.match_master.specs.Calls.{create, create_reply, attach, attach_reply}
+use Rattle.match_master.specs.Does.{Does, SubmitDoes, viewer_in, after_create, after_attach, after_take, taken_of}
+use Rattle.match_master.proofs.Advance.{create_advances, attach_advances, submit_advances, take_advances}
 use Rattle.match_master.proofs.Joins.{Joined, joins}
 
 starved_is : (r : RoomReply) → is_starved r ≡ true → r ≡ answer.NoMemory
@@ -94,3 +98,38 @@ module _ {X G : Type 0} (rules : X → Rules G) where
   finish old new h pass call result e a =
       let done = answered_by old.room new h pass call result (is_starved result) refl a in
       (done.0, stands_at new (record { pass = pass; call = call; starved = is_starved result } ∷ h) old.room e done.1)
+
+  -- a call was answered, and the Book stands for the history with it
+  abbrev pub IsDone : Held X G → Held X G → List (Entry (RoomCall X)) → ℕ → RoomCall X → RoomReply → Type 0
+  IsDone old new h pass call result =
+      (result ≡ reply rules old.room h (record { pass = pass; call = call; starved = is_starved result })) × StandsFor rules new (record { pass = pass; call = call; starved = is_starved result } ∷ h)
+
+  done_as : (old new : Held X G) (h : List (Entry (RoomCall X))) (pass : ℕ) (call made : RoomCall X) (result : RoomReply) → call ≡ made → IsDone old new h pass made result → IsDone old new h pass call result
+  done_as old new h pass call made result e d = subst (λ c. IsDone old new h pass c result) (sym e) d
+
+  pub create_done : (old new : Held X G) (h : List (Entry (RoomCall X))) → StandsFor rules old h → (pass : ℕ) (game : X) (seats : ℕ) (seed : List ℕ) (call : RoomCall X) (result : RoomReply) → call ≡ Create game seats seed → new.room ≡ old.room
+      → ((st : Option (Match X G)) → old.kept ≡ option_map (kept_of rules) st → Does old result new (create_reply (create rules old.serials st game seats seed)) (after_create rules old (create rules old.serials st game seats seed)))
+      → IsDone old new h pass call result
+  create_done old new h s pass game seats seed call result e r d =
+      done_as old new h pass call (Create game seats seed) result e (finish old new h pass (Create game seats seed) result r
+          (create_advances rules old (serials rules old.room h) (standing rules old.room h) (attached rules old.room h) (pieces rules old.room h) (holds_at old h s) pass game seats seed result new (d (standing rules old.room h) s.match_held)))
+
+  pub attach_done : (old new : Held X G) (h : List (Entry (RoomCall X))) → StandsFor rules old h → (pass serial : ℕ) (claim : Option (ℕ × List ℕ)) (call : RoomCall X) (result : RoomReply) → call ≡ Attach serial claim → new.room ≡ old.room
+      → ((st : Option (Match X G)) → old.kept ≡ option_map (kept_of rules) st → Does old result new (attach_reply (attach st (viewer_in old pass) serial claim)) (after_attach rules old pass st (attach st (viewer_in old pass) serial claim)))
+      → IsDone old new h pass call result
+  attach_done old new h s pass serial claim call result e r d =
+      done_as old new h pass call (Attach serial claim) result e (finish old new h pass (Attach serial claim) result r
+          (attach_advances rules old (serials rules old.room h) (standing rules old.room h) (attached rules old.room h) (pieces rules old.room h) (holds_at old h s) pass serial claim result new (d (standing rules old.room h) s.match_held)))
+
+  pub submit_done : (old new : Held X G) (h : List (Entry (RoomCall X))) → StandsFor rules old h → (pass : ℕ) (sub : Submission) (call : RoomCall X) (result : RoomReply) → call ≡ Submit sub.name sub.key sub.number sub.ticket sub.asked → new.room ≡ old.room
+      → ((st : Option (Match X G)) → old.kept ≡ option_map (kept_of rules) st → SubmitDoes rules old pass sub result new (viewer_in old pass) st)
+      → IsDone old new h pass call result
+  submit_done old new h s pass sub call result e r d =
+      done_as old new h pass call (Submit sub.name sub.key sub.number sub.ticket sub.asked) result e (finish old new h pass (Submit sub.name sub.key sub.number sub.ticket sub.asked) result r
+          (submit_advances rules old (serials rules old.room h) (standing rules old.room h) (attached rules old.room h) (pieces rules old.room h) (holds_at old h s) pass sub result new (d (standing rules old.room h) s.match_held)))
+
+  pub take_done : (old new : Held X G) (h : List (Entry (RoomCall X))) → StandsFor rules old h → (pass : ℕ) (call : RoomCall X) (result : RoomReply) → call ≡ Take → new.room ≡ old.room
+      → result ≡ taken_of (lookup (nat_eq pass) old.sessions) → new ≡ after_take old pass (lookup (nat_eq pass) old.sessions) → is_starved result ≡ false → IsDone old new h pass call result
+  take_done old new h s pass call result e r t n f =
+      done_as old new h pass call Take result e (finish old new h pass Take result r
+          (take_advances rules old (serials rules old.room h) (standing rules old.room h) (attached rules old.room h) (pieces rules old.room h) (holds_at old h s) pass result new t n f))

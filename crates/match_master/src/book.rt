@@ -57,7 +57,8 @@ impl<X: Game + Drop> Book<X> {
     /// The book of a room in which nothing has happened. The room is 0 to 63.
     pub fn new(alloc: Global, room: u8) -> Result<Self, NoMemory>
         requires { room ≤ 63 }
-        ensures { IfOk result (λ b. b ≡ record { room = room; serials = 0; kept = None; sessions = [] }) }
+        ensures room { IfOk result (λ b. b.room ≡ room) }
+        ensures stands { IfOk result (λ b. StandsFor X.rules b []) }
     {
         Ok(Book {
             alloc,
