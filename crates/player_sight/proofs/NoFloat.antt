@@ -17,6 +17,7 @@ use Rattle.game_sheet.specs.declared.sheet.Sheet.{Sheet}
 use Rattle.move_log.specs.declared.entry.Entry.{Entry}
 use Rattle.player_sight.specs.Parts.{integer, natural, text_or_null, natural_or_null, phase_or_null, stage_or_null}
 use Rattle.player_sight.specs.EntryData.{event_data, act_data, entry_data, log_data}
+use Rattle.player_sight.specs.SnapshotData.{snapshot_object}
 use Rattle.player_sight.specs.CtxData.{with_row, active_data, over_data, ctx_data}
 
 of_text : (o : Option (List ℕ)) → has_float (text_or_null o) ≡ false
@@ -114,3 +115,6 @@ of_ctx sheet ctx =
 
 pub ctx_has_none : (sheet : Sheet) (ctx : Ctx) (d : Data) → d ≡ ctx_data sheet ctx → has_float d ≡ false
 ctx_has_none sheet ctx d is = ap has_float is ∙ of_ctx sheet ctx
+
+pub snapshot_has_none : (ctx g log v : Data) (number : ℕ) → v ≡ snapshot_object ctx g log number → has_float ctx ≡ false → has_float g ≡ false → has_float log ≡ false → has_float v ≡ false
+snapshot_has_none ctx g log v number e hc hg hl = rw (e, hc, hg, hl) refl

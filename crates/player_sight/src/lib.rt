@@ -4,9 +4,11 @@
 mod context;
 mod entries;
 mod parts;
+mod snapshots;
 
 pub use context::ctx_value;
 pub use entries::{entry_value, log_value};
+pub use snapshots::snapshot_value;
 
 #[cfg(test)]
 mod tests;

@@ -1,0 +1,267 @@
+-- What each call does to what a Book holds is what the call makes of the count, the match, the attachments and their lines.
+use Rattle.std.proofs.Common.{◌≡◌, ◌==◌, ℕ, ◌+◌, List, [], ◌∷◌, ◌++◌, Bool, true, false, if◌then◌else◌, nat_eq, MatchBool, Option, Some, None, option_map, Result, Ok, Err, refl, sym, ap, ◌∙◌, subst, arith, append-nil}
+use Rattle.std.specs.Map.{lookup}
+use Rattle.std.proofs.lemmas.Bool.Decides.{nat_tests}
+use Rattle.std.proofs.lemmas.Bool.{true≢false}
+use Rattle.indexmap.specs.IndexMap.{insert_entry}
+use Rattle.game_trait.specs.Rules.{Rules}
+use Rattle.wire_json.specs.declared.reason.Reason.{Reason}
+use Rattle.match_master.specs.declared.call.RoomCall.{RoomCall}
+use Rattle.match_master.specs.declared.call.RoomCall.TheVariants.{Create, Attach, Submit, Take}
+use Rattle.match_master.specs.declared.reply.RoomReply.{RoomReply}
+use Rattle.match_master.specs.declared.submission.Submission.{Submission}
+use Rattle.match_master.specs.Calls.{create, create_reply, created, serials_created, attach, attach_reply, submit_reply, submitted, verdict_reply, accepted_unless}
+use Rattle.match_master.specs.Does.{Does, SubmitDoes, viewer_in, after_create, after_attach, after_take, after_submission, taken_of}
+use Rattle.match_master.specs.Held.{Held, Holds, Advances, kept_of, stored, is_starved, answer_to}
+use Rattle.match_master.specs.History.{attached_by}
+use Rattle.match_master.specs.Lines.{ok_line, no_line}
+use Rattle.match_master.specs.Match.{Match, number_of}
+use Rattle.match_master.specs.Shown.{Shown, with_told, tell_all}
+use Rattle.match_master.specs.Steps.{and_own, told, told_where, begun_where, marked, sync_of, update_of}
+use Rattle.match_master.specs.Stream.{Piece, Line, Mark, waiting}
+use Rattle.match_master.specs.Verdict.{broken, accept}
+use Rattle.match_master.proofs.SessionLaws.{lookup-put, lookup-tell_all}
+
+match_map : (b : Bool) (P Q R S : Type 0) → (P → R) → (Q → S) → MatchBool b P Q → MatchBool b R S
+match_map true P Q R S f k x = f x
+match_map false P Q R S f k x = k x
+
+same_if : {A : Type 0} (b : Bool) (x : A) → (if b then x else x) ≡ x
+same_if true x = refl
+same_if false x = refl
+
+pass_is : (p q : ℕ) → (p == q) ≡ true → p ≡ q
+pass_is p q h = grind (arith, nat_tests)
+
+turned : (p q : ℕ) → (q == p) ≡ (p == q)
+turned p q = grind (arith, nat_tests)
+
+viewer_stored : (a : Option (Option ℕ)) (bytes : List ℕ) → option_map (λ (s : Shown). s.viewer) (stored a bytes) ≡ a
+viewer_stored None bytes = refl
+viewer_stored (Some viewer) bytes = refl
+
+module _ {X G : Type 0} (rules : X → Rules G) where
+  looks_at : (old : Held X G) (serials : ℕ) (standing : Option (Match X G)) (attached : ℕ → Option (Option ℕ)) (pieces : ℕ → List Piece) → Holds rules old serials standing attached pieces → (pass : ℕ) → viewer_in old pass ≡ attached pass
+  looks_at old serials standing attached pieces h pass = ap (option_map (λ (s : Shown). s.viewer)) (h.sessions_held pass) ∙ viewer_stored (attached pass) (waiting (pieces pass))
+
+  holds_same : (old : Held X G) (serials : ℕ) (standing : Option (Match X G)) (attached : ℕ → Option (Option ℕ)) (pieces : ℕ → List Piece) → Holds rules old serials standing attached pieces
+      → (new : Held X G) → new ≡ old → Holds rules new serials standing attached pieces
+  holds_same old serials standing attached pieces h new e = subst (λ b. Holds rules b serials standing attached pieces) (sym e) h
+
+  -- sessions that no call touches
+  holds_by : (held : Held X G) (serials : ℕ) (standing : Option (Match X G)) (attached : ℕ → Option (Option ℕ)) (pieces : ℕ → List Piece) (pass : ℕ) → Holds rules held serials standing attached pieces
+      → Holds rules held serials standing (λ q. if pass == q then attached q else attached q) pieces
+  holds_by held serials standing attached pieces pass h = record {
+    serials_held = h.serials_held;
+    match_held = h.match_held;
+    sessions_held = λ q. h.sessions_held q ∙ ap (λ a. stored a (waiting (pieces q))) (sym (same_if (pass == q) (attached q)))
+  }
+
+  holds_created : (old : Held X G) (serials : ℕ) (standing : Option (Match X G)) (attached : ℕ → Option (Option ℕ)) (pieces : ℕ → List Piece) → Holds rules old serials standing attached pieces
+      → (r : Result (Match X G) RoomReply) → Holds rules (after_create rules old r) (serials_created serials r) (created standing r) attached pieces
+  holds_created old serials standing attached pieces h (Ok m) = record { serials_held = refl; match_held = refl; sessions_held = h.sessions_held }
+  holds_created old serials standing attached pieces h (Err why) = h
+
+  pub create_advances : (old : Held X G) (serials : ℕ) (standing : Option (Match X G)) (attached : ℕ → Option (Option ℕ)) (pieces : ℕ → List Piece) → Holds rules old serials standing attached pieces
+      → (pass : ℕ) (game : X) (seats : ℕ) (seed : List ℕ) (reply : RoomReply) (new : Held X G)
+      → Does old reply new (create_reply (create rules old.serials standing game seats seed)) (after_create rules old (create rules old.serials standing game seats seed))
+      → Advances rules old.room new serials standing attached pieces pass (Create game seats seed) reply
+  create_advances old serials standing attached pieces h pass game seats seed reply new d =
+      match_map (is_starved reply) _ _ _ _ (holds_same old serials standing attached pieces h new)
+          (λ x. (x.0 ∙ ap (λ n. create_reply (create rules n standing game seats seed)) h.serials_held,
+              subst (λ b. Holds rules b (serials_created serials (create rules serials standing game seats seed)) (created standing (create rules serials standing game seats seed)) (λ q. if pass == q then attached q else attached q) pieces)
+                  (sym (x.1 ∙ ap (λ n. after_create rules old (create rules n standing game seats seed)) h.serials_held))
+                  (holds_by (after_create rules old (create rules serials standing game seats seed)) _ _ attached pieces pass (holds_created old serials standing attached pieces h (create rules serials standing game seats seed))))) d
+
+  taken_advances : (old : Held X G) (serials : ℕ) (standing : Option (Match X G)) (attached : ℕ → Option (Option ℕ)) (pieces : ℕ → List Piece) → Holds rules old serials standing attached pieces
+      → (pass : ℕ) (a : Option (Option ℕ)) → attached pass ≡ a
+      → (taken_of (stored a (waiting (pieces pass))) ≡ answer_to rules old.room serials standing a (pieces pass) Take)
+        × Holds rules (after_take old pass (stored a (waiting (pieces pass)))) serials standing (λ q. if pass == q then attached q else attached q) (λ q. marked rules old.room (pass == q) (attached q) (pieces q))
+  taken_advances old serials standing attached pieces h pass None e =
+      (refl, record { serials_held = h.serials_held; match_held = h.match_held; sessions_held = λ q. kept (pass == q) q refl })
+    where
+      kept : (b : Bool) (q : ℕ) → (pass == q) ≡ b → lookup (nat_eq q) old.sessions ≡ stored (if b then attached q else attached q) (waiting (marked rules old.room b (attached q) (pieces q)))
+      kept false q f = h.sessions_held q
+      kept true q f =
+          let none : attached q ≡ None = sym (ap attached (pass_is pass q f)) ∙ e in
+          h.sessions_held q ∙ rw none refl
+  taken_advances old serials standing attached pieces h pass (Some viewer) e =
+      (refl, record { serials_held = h.serials_held; match_held = h.match_held; sessions_held = λ q. lookup-put old.sessions pass q (record { viewer = viewer; bytes = [] }) ∙ kept (pass == q) q refl })
+    where
+      kept : (b : Bool) (q : ℕ) → (pass == q) ≡ b → (if b then Some (record { viewer = viewer; bytes = [] }) else lookup (nat_eq q) old.sessions) ≡ stored (if b then attached q else attached q) (waiting (marked rules old.room b (attached q) (pieces q)))
+      kept false q f = h.sessions_held q
+      kept true q f =
+          let some : attached q ≡ Some viewer = sym (ap attached (pass_is pass q f)) ∙ e in
+          rw some refl
+
+  pub take_advances : (old : Held X G) (serials : ℕ) (standing : Option (Match X G)) (attached : ℕ → Option (Option ℕ)) (pieces : ℕ → List Piece) → Holds rules old serials standing attached pieces
+      → (pass : ℕ) (reply : RoomReply) (new : Held X G) → reply ≡ taken_of (lookup (nat_eq pass) old.sessions) → new ≡ after_take old pass (lookup (nat_eq pass) old.sessions) → is_starved reply ≡ false
+      → Advances rules old.room new serials standing attached pieces pass Take reply
+  take_advances old serials standing attached pieces h pass reply new r n s =
+      let t = taken_advances old serials standing attached pieces h pass (attached pass) refl in
+      rw s (r ∙ ap taken_of (h.sessions_held pass) ∙ t.0,
+          subst (λ b. Holds rules b serials standing (λ q. if pass == q then attached q else attached q) (λ q. marked rules old.room (pass == q) (attached q) (pieces q)))
+              (sym (n ∙ ap (after_take old pass) (h.sessions_held pass))) t.1)
+
+  -- an Attach that lets nobody in
+  not_begun : (old : Held X G) (serials : ℕ) (standing : Option (Match X G)) (attached : ℕ → Option (Option ℕ)) (pieces : ℕ → List Piece) → Holds rules old serials standing attached pieces
+      → (pass serial : ℕ) (claim : Option (ℕ × List ℕ)) (why : RoomReply) → attach standing (attached pass) serial claim ≡ Err why
+      → Holds rules old serials standing (λ q. if pass == q then attached_by (attached q) (attach standing (attached q) serial claim) else attached q) (λ q. begun_where rules old.room (pass == q) standing (attached q) serial claim (pieces q))
+  not_begun old serials None attached pieces h pass serial claim why e = record { serials_held = h.serials_held; match_held = h.match_held; sessions_held = λ q. h.sessions_held q ∙ kept (pass == q) q refl }
+    where
+      kept : (b : Bool) (q : ℕ) → (pass == q) ≡ b → stored (attached q) (waiting (pieces q)) ≡ stored (if b then attached_by (attached q) (attach {X = X} {G = G} None (attached q) serial claim) else attached q) (waiting (begun_where rules old.room b None (attached q) serial claim (pieces q)))
+      kept false q f = refl
+      kept true q f = let same : attach {X = X} {G = G} None (attached q) serial claim ≡ Err why = ap (λ p. attach {X = X} {G = G} None (attached p) serial claim) (sym (pass_is pass q f)) ∙ e in rw same refl
+  not_begun old serials (Some m) attached pieces h pass serial claim why e = record { serials_held = h.serials_held; match_held = h.match_held; sessions_held = λ q. h.sessions_held q ∙ kept (pass == q) q refl }
+    where
+      kept : (b : Bool) (q : ℕ) → (pass == q) ≡ b → stored (attached q) (waiting (pieces q)) ≡ stored (if b then attached_by (attached q) (attach (Some m) (attached q) serial claim) else attached q) (waiting (begun_where rules old.room b (Some m) (attached q) serial claim (pieces q)))
+      kept false q f = refl
+      kept true q f = let same : attach (Some m) (attached q) serial claim ≡ Err why = ap (λ p. attach (Some m) (attached p) serial claim) (sym (pass_is pass q f)) ∙ e in rw same refl
+
+  -- an Attach that lets a viewer in
+  is_begun : (old : Held X G) (serials : ℕ) (m : Match X G) (attached : ℕ → Option (Option ℕ)) (pieces : ℕ → List Piece) → Holds rules old serials (Some m) attached pieces
+      → (pass serial : ℕ) (claim : Option (ℕ × List ℕ)) (viewer : Option ℕ) → attach (Some m) (attached pass) serial claim ≡ Ok viewer
+      → Holds rules (after_attach rules old pass (Some m) (Ok viewer)) serials (Some m) (λ q. if pass == q then attached_by (attached q) (attach (Some m) (attached q) serial claim) else attached q) (λ q. begun_where rules old.room (pass == q) (Some m) (attached q) serial claim (pieces q))
+  is_begun old serials m attached pieces h pass serial claim viewer e = record {
+      serials_held = h.serials_held;
+      match_held = h.match_held;
+      sessions_held = λ q. lookup-put old.sessions pass q (record { viewer = viewer; bytes = sync_of rules old.room m viewer }) ∙ kept (pass == q) q refl
+    }
+    where
+      kept : (b : Bool) (q : ℕ) → (pass == q) ≡ b → (if b then Some (record { viewer = viewer; bytes = sync_of rules old.room m viewer }) else lookup (nat_eq q) old.sessions)
+          ≡ stored (if b then attached_by (attached q) (attach (Some m) (attached q) serial claim) else attached q) (waiting (begun_where rules old.room b (Some m) (attached q) serial claim (pieces q)))
+      kept false q f = h.sessions_held q
+      kept true q f = let same : attach (Some m) (attached q) serial claim ≡ Ok viewer = ap (λ p. attach (Some m) (attached p) serial claim) (sym (pass_is pass q f)) ∙ e in rw same refl
+
+  attach_holds : (old : Held X G) (serials : ℕ) (standing : Option (Match X G)) (attached : ℕ → Option (Option ℕ)) (pieces : ℕ → List Piece) → Holds rules old serials standing attached pieces
+      → (pass serial : ℕ) (claim : Option (ℕ × List ℕ)) (r : Result (Option ℕ) RoomReply) → attach standing (attached pass) serial claim ≡ r
+      → Holds rules (after_attach rules old pass standing r) serials standing (λ q. if pass == q then attached_by (attached q) (attach standing (attached q) serial claim) else attached q) (λ q. begun_where rules old.room (pass == q) standing (attached q) serial claim (pieces q))
+  attach_holds old serials None attached pieces h pass serial claim (Err why) e = not_begun old serials None attached pieces h pass serial claim why e
+  attach_holds old serials (Some m) attached pieces h pass serial claim (Err why) e = not_begun old serials (Some m) attached pieces h pass serial claim why e
+  attach_holds old serials (Some m) attached pieces h pass serial claim (Ok viewer) e = is_begun old serials m attached pieces h pass serial claim viewer e
+  attach_holds old serials None attached pieces h pass serial claim (Ok viewer) e = absurd (nobody (attached pass) viewer e)
+    where
+      nobody : (a : Option (Option ℕ)) (viewer : Option ℕ) → attach {X = X} {G = G} None a serial claim ≡ Ok viewer → ⊥
+      nobody None viewer e = cc
+      nobody (Some v) viewer e = cc
+
+  pub attach_advances : (old : Held X G) (serials : ℕ) (standing : Option (Match X G)) (attached : ℕ → Option (Option ℕ)) (pieces : ℕ → List Piece) → Holds rules old serials standing attached pieces
+      → (pass serial : ℕ) (claim : Option (ℕ × List ℕ)) (reply : RoomReply) (new : Held X G)
+      → Does old reply new (attach_reply (attach standing (viewer_in old pass) serial claim)) (after_attach rules old pass standing (attach standing (viewer_in old pass) serial claim))
+      → Advances rules old.room new serials standing attached pieces pass (Attach serial claim) reply
+  attach_advances old serials standing attached pieces h pass serial claim reply new d =
+      let looks : viewer_in old pass ≡ attached pass = looks_at old serials standing attached pieces h pass in
+      match_map (is_starved reply) _ _ _ _ (holds_same old serials standing attached pieces h new)
+          (λ x. (x.0 ∙ ap (λ a. attach_reply (attach standing a serial claim)) looks,
+              subst (λ b. Holds rules b serials standing (λ q. if pass == q then attached_by (attached q) (attach standing (attached q) serial claim) else attached q) (λ q. begun_where rules old.room (pass == q) standing (attached q) serial claim (pieces q)))
+                  (sym (x.1 ∙ ap (λ a. after_attach rules old pass standing (attach standing a serial claim)) looks))
+                  (attach_holds old serials standing attached pieces h pass serial claim (attach standing (attached pass) serial claim) refl))) d
+
+  -- what each attachment holds after a submission
+  told_stored : (said all : List ℕ) (b : Bool) (a : Option (Option ℕ)) (ps qs : List Piece) → ((viewer : Option ℕ) → a ≡ Some viewer → with_told b said all (waiting ps) ≡ waiting qs)
+      → option_map (λ (s : Shown). let t : Shown = record { viewer = s.viewer; bytes = with_told b said all s.bytes } in t) (stored a (waiting ps)) ≡ stored a (waiting qs)
+  told_stored said all b None ps qs w = refl
+  told_stored said all b (Some viewer) ps qs w = ap (λ bytes. let t : Shown = record { viewer = viewer; bytes = bytes } in Some t) (w viewer refl)
+
+  no_told : (b : Bool) (said : List ℕ) (ps : List Piece) → with_told b said [] (waiting ps) ≡ waiting (and_own b said ps)
+  no_told true said ps = ap (λ x. x ++ said) (append-nil (waiting ps))
+  no_told false said ps = append-nil (waiting ps)
+
+  ok_told : (b : Bool) (said all : List ℕ) (ps : List Piece) → with_told b said all (waiting ps) ≡ waiting (and_own b said (Line all ∷ ps))
+  ok_told true said all ps = refl
+  ok_told false said all ps = refl
+
+  -- the lines for the session alone, and for all
+  abbrev said_of : Held X G → Match X G → Submission → Option Reason → List ℕ
+  said_of old m s (Some reason) = no_line (number_of m) reason s.ticket
+  said_of old m s None = ok_line (number_of m + 1) s.ticket
+
+  abbrev all_of : Held X G → Match X G → Option ℕ → Submission → Option Reason → List ℕ
+  all_of old m viewer s (Some reason) = []
+  all_of old m viewer s None = update_of rules old.room (accept rules m viewer s) viewer
+
+  abbrev told_as : ℕ → Match X G → Option ℕ → Submission → Option Reason → Bool → Option (Option ℕ) → List Piece → List Piece
+  told_as room m viewer s o b None ps = ps
+  told_as room m viewer s o b (Some looker) ps = told rules room m viewer s o b looker ps
+
+  told_is : (room : ℕ) (m : Match X G) (viewer : Option ℕ) (s : Submission) (b : Bool) (a : Option (Option ℕ)) (ps : List Piece)
+      → told_as room m viewer s (broken rules room m viewer s) b a ps ≡ told_where rules room (Some m) (Some viewer) s b a ps
+  told_is room m viewer s b None ps = refl
+  told_is room m viewer s b (Some looker) ps = refl
+
+  said_all : (old : Held X G) (pass : ℕ) (m : Match X G) (viewer : Option ℕ) (s : Submission) (o : Option Reason) (b : Bool) (a : Option (Option ℕ)) (ps : List Piece)
+      → option_map (λ (t : Shown). let u : Shown = record { viewer = t.viewer; bytes = with_told b (said_of old m s o) (all_of old m viewer s o) t.bytes } in u) (stored a (waiting ps))
+        ≡ stored a (waiting (told_as old.room m viewer s o b a ps))
+  said_all old pass m viewer s o b None ps = refl
+  said_all old pass m viewer s (Some reason) b (Some looker) ps =
+      ap (λ bytes. let t : Shown = record { viewer = looker; bytes = bytes } in Some t) (no_told b (no_line (number_of m) reason s.ticket) ps)
+  said_all old pass m viewer s None b (Some looker) ps =
+      ap (λ bytes. let t : Shown = record { viewer = looker; bytes = bytes } in Some t)
+          (ok_told b (ok_line (number_of m + 1) s.ticket) (update_of rules old.room (accept rules m viewer s) looker) ps)
+
+  submit_holds : (old : Held X G) (serials : ℕ) (m : Match X G) (attached : ℕ → Option (Option ℕ)) (pieces : ℕ → List Piece) → Holds rules old serials (Some m) attached pieces
+      → (pass : ℕ) (viewer : Option ℕ) (s : Submission) (o : Option Reason)
+      → Holds rules (after_submission rules old pass m viewer s o) serials (Some (accepted_unless rules old.room m viewer s o)) (λ q. if pass == q then attached q else attached q)
+          (λ q. told_as old.room m viewer s o (pass == q) (attached q) (pieces q))
+  submit_holds old serials m attached pieces h pass viewer s (Some reason) = record {
+    serials_held = h.serials_held;
+    match_held = h.match_held;
+    sessions_held = λ q. told_at q
+  }
+    where
+      told_at : (q : ℕ) → lookup (nat_eq q) (tell_all pass (no_line (number_of m) reason s.ticket) [] old.sessions)
+          ≡ stored (if pass == q then attached q else attached q) (waiting (told_as old.room m viewer s (Some reason) (pass == q) (attached q) (pieces q)))
+      told_at q = lookup-tell_all old.sessions pass q (no_line (number_of m) reason s.ticket) []
+          ∙ ap (option_map (λ (t : Shown). let u : Shown = record { viewer = t.viewer; bytes = with_told (q == pass) (no_line (number_of m) reason s.ticket) [] t.bytes } in u)) (h.sessions_held q)
+          ∙ said_all old pass m viewer s (Some reason) (q == pass) (attached q) (pieces q)
+          ∙ ap (λ b. stored (attached q) (waiting (told_as old.room m viewer s (Some reason) b (attached q) (pieces q)))) (turned pass q)
+          ∙ ap (λ a. stored a (waiting (told_as old.room m viewer s (Some reason) (pass == q) (attached q) (pieces q)))) (sym (same_if (pass == q) (attached q)))
+  submit_holds old serials m attached pieces h pass viewer s None = record {
+    serials_held = h.serials_held;
+    match_held = refl;
+    sessions_held = λ q. told_at q
+  }
+    where
+      told_at : (q : ℕ) → lookup (nat_eq q) (tell_all pass (ok_line (number_of m + 1) s.ticket) (update_of rules old.room (accept rules m viewer s) viewer) old.sessions)
+          ≡ stored (if pass == q then attached q else attached q) (waiting (told_as old.room m viewer s None (pass == q) (attached q) (pieces q)))
+      told_at q = lookup-tell_all old.sessions pass q (ok_line (number_of m + 1) s.ticket) (update_of rules old.room (accept rules m viewer s) viewer)
+          ∙ ap (option_map (λ (t : Shown). let u : Shown = record { viewer = t.viewer; bytes = with_told (q == pass) (ok_line (number_of m + 1) s.ticket) (update_of rules old.room (accept rules m viewer s) viewer) t.bytes } in u)) (h.sessions_held q)
+          ∙ said_all old pass m viewer s None (q == pass) (attached q) (pieces q)
+          ∙ ap (λ b. stored (attached q) (waiting (told_as old.room m viewer s None b (attached q) (pieces q)))) (turned pass q)
+          ∙ ap (λ a. stored a (waiting (told_as old.room m viewer s None (pass == q) (attached q) (pieces q)))) (sym (same_if (pass == q) (attached q)))
+
+  submit_by : (old : Held X G) (serials : ℕ) (standing : Option (Match X G)) (attached : ℕ → Option (Option ℕ)) (pieces : ℕ → List Piece) → Holds rules old serials standing attached pieces
+      → (pass : ℕ) (s : Submission) (reply : RoomReply) (new : Held X G) (a : Option (Option ℕ)) → SubmitDoes rules old pass s reply new a standing
+      → MatchBool (is_starved reply) (Holds rules new serials standing attached pieces)
+          ((reply ≡ submit_reply rules old.room standing a s)
+            × Holds rules new serials (submitted rules old.room standing a s) (λ q. if pass == q then attached q else attached q) (λ q. told_where rules old.room standing a s (pass == q) (attached q) (pieces q)))
+  submit_by old serials None attached pieces h pass s reply new None d =
+      match_map (is_starved reply) _ _ _ _ (holds_same old serials None attached pieces h new)
+          (λ x. (x.0, holds_same old serials None (λ q. if pass == q then attached q else attached q) pieces (holds_by old serials None attached pieces pass h) new x.1)) d
+  submit_by old serials None attached pieces h pass s reply new (Some viewer) d =
+      match_map (is_starved reply) _ _ _ _ (holds_same old serials None attached pieces h new)
+          (λ x. (x.0, holds_same old serials None (λ q. if pass == q then attached q else attached q) pieces (holds_by old serials None attached pieces pass h) new x.1)) d
+  submit_by old serials (Some m) attached pieces h pass s reply new None d =
+      match_map (is_starved reply) _ _ _ _ (holds_same old serials (Some m) attached pieces h new)
+          (λ x. (x.0, holds_same old serials (Some m) (λ q. if pass == q then attached q else attached q) pieces (holds_by old serials (Some m) attached pieces pass h) new x.1)) d
+  submit_by old serials (Some m) attached pieces h pass s reply new (Some viewer) d =
+      match_map (is_starved reply) _ _ _ _ (holds_same old serials (Some m) attached pieces h new)
+          (λ x. (x.0, holds_same (after_submission rules old pass m viewer s (broken rules old.room m viewer s)) serials (Some (accepted_unless rules old.room m viewer s (broken rules old.room m viewer s)))
+              (λ q. if pass == q then attached q else attached q) (λ q. told_where rules old.room (Some m) (Some viewer) s (pass == q) (attached q) (pieces q)) (by_telling (submit_holds old serials m attached pieces h pass viewer s (broken rules old.room m viewer s))) new x.1)) d
+    where
+      by_telling : Holds rules (after_submission rules old pass m viewer s (broken rules old.room m viewer s)) serials (Some (accepted_unless rules old.room m viewer s (broken rules old.room m viewer s))) (λ q. if pass == q then attached q else attached q)
+              (λ q. told_as old.room m viewer s (broken rules old.room m viewer s) (pass == q) (attached q) (pieces q))
+          → Holds rules (after_submission rules old pass m viewer s (broken rules old.room m viewer s)) serials (Some (accepted_unless rules old.room m viewer s (broken rules old.room m viewer s))) (λ q. if pass == q then attached q else attached q)
+              (λ q. told_where rules old.room (Some m) (Some viewer) s (pass == q) (attached q) (pieces q))
+      by_telling k = record {
+        serials_held = k.serials_held;
+        match_held = k.match_held;
+        sessions_held = λ q. k.sessions_held q ∙ ap (λ ps. stored (if pass == q then attached q else attached q) (waiting ps)) (told_is old.room m viewer s (pass == q) (attached q) (pieces q))
+      }
+
+  pub submit_advances : (old : Held X G) (serials : ℕ) (standing : Option (Match X G)) (attached : ℕ → Option (Option ℕ)) (pieces : ℕ → List Piece) → Holds rules old serials standing attached pieces
+      → (pass : ℕ) (s : Submission) (reply : RoomReply) (new : Held X G) → SubmitDoes rules old pass s reply new (viewer_in old pass) standing
+      → Advances rules old.room new serials standing attached pieces pass (Submit s.name s.key s.number s.ticket s.asked) reply
+  submit_advances old serials standing attached pieces h pass s reply new d =
+      submit_by old serials standing attached pieces h pass s reply new (attached pass)
+          (subst (λ a. SubmitDoes rules old pass s reply new a standing) (looks_at old serials standing attached pieces h pass) d)

@@ -1,0 +1,151 @@
+-- What the answer of a step says of a submission, and that a resolved act is in its sheet.
+use Rattle.std.proofs.Common.{◌≡◌, ◌<◌, ℕ, ℤ, nat_lt, List, [], ◌∷◌, length, position, Bool, true, false, if◌then◌else◌, Option, Some, None, option_map, Result, Ok, Err, refl, sym, ap, ◌∙◌, subst, arith}
+use Rattle.std.specs.List.{position_or_len}
+use Rattle.std.proofs.lemmas.Bool.Decides.{nat_tests}
+use Rattle.std.specs.Str.{bytes_eq}
+use Rattle.game_sheet.specs.declared.act.Act.{Act}
+use Rattle.game_sheet.specs.declared.act.Act.TheVariants.{Move, Event, Undo, Redo}
+use Rattle.game_sheet.specs.declared.act.Event.{Event as Happening}
+use Rattle.game_sheet.specs.declared.act.Event.TheVariants.{SetPhase, SetStage}
+use Rattle.game_sheet.specs.declared.act.EventKind.{EventKind}
+use Rattle.game_sheet.specs.declared.act.EventKind.TheVariants as kind
+use Rattle.game_sheet.specs.declared.refusal.GameRule.{GameRule}
+use Rattle.game_sheet.specs.declared.sheet.Sheet.{Sheet}
+use Rattle.game_trait.specs.InSheet.{ActInSheet, EventInSheet}
+use Rattle.game_trait.specs.Rules.{Rules}
+use Rattle.move_log.specs.declared.entry.Entry.{Entry}
+use Rattle.phase_flow.specs.Action.{once}
+use Rattle.phase_flow.specs.declared.table.Table.{Table}
+use Rattle.reducer.specs.Accepted.{Accepted}
+use Rattle.reducer.specs.Fold.{fold, refusal, standing as standing_at}
+use Rattle.reducer.specs.Sound.{IsSound}
+use Rattle.reducer.specs.Standing.{Standing}
+use Rattle.wire_json.specs.Resolve.{act_of, event_of, move_of, phase_of, stage_of}
+use Rattle.wire_json.specs.declared.asked.Asked.{Asked}
+use Rattle.wire_json.specs.declared.asked.Asked.TheVariants as asked
+use Rattle.wire_json.specs.declared.asked.AskedTo.{AskedTo}
+use Rattle.wire_json.specs.declared.asked.AskedTo.TheVariants as to
+use Rattle.wire_json.specs.declared.reason.Reason.{Reason}
+use Rattle.match_master.specs.declared.submission.Submission.{Submission}
+use Rattle.match_master.specs.declared.kept.Kept.{Kept}
+use Rattle.match_master.specs.Held.{kept_of}
+use Rattle.match_master.specs.Judged.{IsAccepted}
+use Rattle.match_master.specs.Match.{Match, number_of, table_of, entry_on}
+use Rattle.match_master.specs.Verdict.{broken, public_broken, game_broken, accept, with_act, answered, or_else, reason_of}
+
+chosen : (b : Bool) (n i : ℕ) → (if b then Some n else None) ≡ Some i → (b ≡ true) × (n ≡ i)
+chosen true n i h = (refl, cc)
+chosen false n i h = cc
+
+below_is : (m n : ℕ) → nat_lt m n ≡ true → m < n
+below_is m n h = grind (arith, nat_tests)
+
+within : {X : Type 0} (p : X → Bool) (xs : List X) (i : ℕ) → position p xs ≡ Some i → i < length xs
+within p xs i h =
+    let at = chosen (nat_lt (position_or_len p xs) (length xs)) (position_or_len p xs) i h in
+    subst (λ k. k < length xs) at.1 (below_is (position_or_len p xs) (length xs) at.0)
+
+move_within : (sheet : Sheet) (name : List ℕ) (i : ℕ) → move_of sheet name ≡ Some i → i < length sheet.moves
+unfolding move_of
+move_within sheet name i h = within (λ row. bytes_eq row.name name) sheet.moves i h
+
+phase_within : (sheet : Sheet) (name : List ℕ) (i : ℕ) → phase_of sheet name ≡ Some i → i < length sheet.phases
+unfolding phase_of
+phase_within sheet name i h = within (λ row. bytes_eq row.name name) sheet.phases i h
+
+stage_within : (sheet : Sheet) (name : List ℕ) (i : ℕ) → stage_of sheet name ≡ Some i → i < length sheet.stages
+unfolding stage_of
+stage_within sheet name i h = within (λ row. bytes_eq row.name name) sheet.stages i h
+
+abbrev SomeInSheet : Sheet → Option Act → Type 0
+SomeInSheet sheet None = Unit {0}
+SomeInSheet sheet (Some act) = ActInSheet sheet act
+
+abbrev SomeEventInSheet : Sheet → Option Happening → Type 0
+SomeEventInSheet sheet None = Unit {0}
+SomeEventInSheet sheet (Some event) = EventInSheet sheet event
+
+phase_in_sheet : (sheet : Sheet) (o : Option ℕ) → ((i : ℕ) → o ≡ Some i → i < length sheet.phases) → SomeEventInSheet sheet (option_map SetPhase o)
+phase_in_sheet sheet None h = tt
+phase_in_sheet sheet (Some i) h = h i refl
+
+stage_in_sheet : (sheet : Sheet) (o : Option ℕ) → ((i : ℕ) → o ≡ Some i → i < length sheet.stages) → SomeEventInSheet sheet (option_map SetStage o)
+stage_in_sheet sheet None h = tt
+stage_in_sheet sheet (Some i) h = h i refl
+
+event_in_sheet : (sheet : Sheet) (k : EventKind) (t : AskedTo) → SomeEventInSheet sheet (event_of sheet k t)
+event_in_sheet sheet kind.SetPhase (to.Name name) = phase_in_sheet sheet (phase_of sheet name) (phase_within sheet name)
+event_in_sheet sheet kind.SetStage (to.Name name) = stage_in_sheet sheet (stage_of sheet name) (stage_within sheet name)
+event_in_sheet sheet kind.EndTurn to.Nothing = tt
+event_in_sheet sheet kind.EndTurn (to.Seat seat) = tt
+event_in_sheet sheet kind.EndPhase to.Nothing = tt
+event_in_sheet sheet kind.EndStage to.Nothing = tt
+event_in_sheet sheet kind.EndGame to.Nothing = tt
+event_in_sheet sheet k t = tt
+
+mapped_event : (sheet : Sheet) (o : Option Happening) → SomeEventInSheet sheet o → SomeInSheet sheet (option_map Event o)
+mapped_event sheet None h = tt
+mapped_event sheet (Some event) h = h
+
+mapped_move : (sheet : Sheet) (args : List ℤ) (o : Option ℕ) → ((i : ℕ) → o ≡ Some i → i < length sheet.moves) → SomeInSheet sheet (option_map (λ id. Move id args) o)
+mapped_move sheet args None h = tt
+mapped_move sheet args (Some i) h = h i refl
+
+all_in_sheet : (sheet : Sheet) (a : Asked) → SomeInSheet sheet (act_of sheet a)
+all_in_sheet sheet (asked.Move name args) = mapped_move sheet args (move_of sheet name) (move_within sheet name)
+all_in_sheet sheet (asked.Event k t) = mapped_event sheet (event_of sheet k t) (event_in_sheet sheet k t)
+all_in_sheet sheet asked.Undo = tt
+all_in_sheet sheet asked.Redo = tt
+
+-- a resolved act is in its sheet
+pub act_in_sheet : (sheet : Sheet) (a : Asked) (act : Act) → act_of sheet a ≡ Some act → ActInSheet sheet act
+act_in_sheet sheet a act h = subst (SomeInSheet sheet) h (all_in_sheet sheet a)
+
+ok_refusal : {G : Type 0} (r : Result (Table G) GameRule) (t : Table G) → r ≡ Ok t → refusal r ≡ None
+ok_refusal r t h = rw h refl
+
+err_refusal : {G : Type 0} (r : Result (Table G) GameRule) (rule : GameRule) → r ≡ Err rule → refusal r ≡ Some rule
+err_refusal r rule h = rw h refl
+
+module _ {X G : Type 0} (rules : X → Rules G) (room : ℕ) where
+  with_deed : (m : Match X G) (viewer : Option ℕ) (o : Option Act) (seat : ℕ) (act : Act) → viewer ≡ Some seat → o ≡ Some act → with_act rules m viewer o ≡ record m { accepted = record { seat = seat; act = act } ∷ m.accepted }
+  with_deed m viewer o seat act p q = rw (p, q) refl
+
+  answered_is : (m : Match X G) (viewer : Option ℕ) (o : Option Act) (seat : ℕ) (act : Act) → viewer ≡ Some seat → o ≡ Some act → answered rules m viewer o ≡ refusal (once (rules m.game) (table_of rules m) seat act)
+  answered_is m viewer o seat act p q = rw (p, q) refl
+
+  game_is : (m : Match X G) (viewer : Option ℕ) (s : Submission) (seat : ℕ) (act : Act) (r : Option GameRule) → viewer ≡ Some seat → act_of (rules m.game).sheet s.asked ≡ Some act
+      → refusal (once (rules m.game) (table_of rules m) seat act) ≡ r → public_broken rules room m viewer s ≡ None → broken rules room m viewer s ≡ option_map reason_of r
+  game_is m viewer s seat act r p q h n =
+      ap (λ b. or_else b (game_broken rules m viewer s)) n ∙ ap (option_map reason_of) (answered_is m viewer (act_of (rules m.game).sheet s.asked) seat act p q ∙ h)
+
+  pub accepted_is : (m : Match X G) (viewer : Option ℕ) (s : Submission) (seat : ℕ) (act : Act) (next : Standing G) (entry : Entry) → viewer ≡ Some seat → act_of (rules m.game).sheet s.asked ≡ Some act
+      → public_broken rules room m viewer s ≡ None → once (rules m.game) (table_of rules m) seat act ≡ Ok next.table
+      → next ≡ standing_at (rules m.game) m.first (record { seat = seat; act = act } ∷ m.accepted) → IsSound (rules m.game) next → entry ≡ entry_on (table_of rules m) (number_of m) (record { seat = seat; act = act })
+      → IsAccepted rules room m viewer s next entry
+  accepted_is m viewer s seat act next entry p q n o st sound e = record {
+    deed = record { seat = seat; act = act };
+    unbroken = game_is m viewer s seat act None p q (ok_refusal (once (rules m.game) (table_of rules m) seat act) next.table o) n;
+    match_is = with_deed m viewer (act_of (rules m.game).sheet s.asked) seat act p q;
+    state_is = st;
+    sound = sound;
+    entry_is = e
+  }
+
+  pub refused_is : (m : Match X G) (viewer : Option ℕ) (s : Submission) (seat : ℕ) (act : Act) (rule : GameRule) → viewer ≡ Some seat → act_of (rules m.game).sheet s.asked ≡ Some act
+      → public_broken rules room m viewer s ≡ None → once (rules m.game) (table_of rules m) seat act ≡ Err rule → broken rules room m viewer s ≡ Some (reason_of rule)
+  refused_is m viewer s seat act rule p q n o = game_is m viewer s seat act (Some rule) p q (err_refusal (once (rules m.game) (table_of rules m) seat act) rule o) n
+
+  -- the same, of what is kept of the match
+  pub accepted_at : (m : Match X G) (kept : Kept X G) → kept_of rules m ≡ kept → (viewer : Option ℕ) (s : Submission) (seat : ℕ) (act : Act) (next : Standing G) (entry : Entry) → viewer ≡ Some seat
+      → act_of (rules kept.game).sheet s.asked ≡ Some act → once (rules kept.game) kept.state.table seat act ≡ Ok next.table
+      → ((first : Table G) (accepted : List Accepted) → kept.state ≡ standing_at (rules kept.game) first accepted → next ≡ standing_at (rules kept.game) first (record { seat = seat; act = act } ∷ accepted))
+      → IsSound (rules kept.game) next → entry ≡ entry_on kept.state.table kept.state.number (record { seat = seat; act = act }) → public_broken rules room m viewer s ≡ None
+      → IsAccepted rules room m viewer s next entry
+  accepted_at m kept e =
+      subst (λ (k : Kept X G). (viewer : Option ℕ) (s : Submission) (seat : ℕ) (act : Act) (next : Standing G) (entry : Entry) → viewer ≡ Some seat
+          → act_of (rules k.game).sheet s.asked ≡ Some act → once (rules k.game) k.state.table seat act ≡ Ok next.table
+          → ((first : Table G) (accepted : List Accepted) → k.state ≡ standing_at (rules k.game) first accepted → next ≡ standing_at (rules k.game) first (record { seat = seat; act = act } ∷ accepted))
+          → IsSound (rules k.game) next → entry ≡ entry_on k.state.table k.state.number (record { seat = seat; act = act }) → public_broken rules room m viewer s ≡ None
+          → IsAccepted rules room m viewer s next entry) e
+          (λ viewer s seat act next entry p q o st sound en n. accepted_is m viewer s seat act next entry p q n o (st m.first m.accepted refl) sound en)

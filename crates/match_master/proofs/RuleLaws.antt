@@ -1,0 +1,62 @@
+-- What follows where no rule is broken: the submission is a seat's, and the sheet has what it asks for.
+use Rattle.std.proofs.Common.{◌≡◌, ◌<◌, ◌≤◌, ℕ, ◌+◌, ◌==◌, Bool, true, false, not, ◌&&◌, if◌then◌else◌, List, [], ◌∷◌, Option, Some, None, refl, sym, ap, ◌∙◌, subst, arith}
+use Rattle.std.proofs.lemmas.Bool.{true≢false}
+use Rattle.game_sheet.specs.declared.act.Act.{Act}
+use Rattle.game_sheet.specs.declared.ctx.Ctx.{Ctx}
+use Rattle.game_sheet.specs.declared.sheet.Sheet.{Sheet}
+use Rattle.game_trait.specs.Rules.{Rules}
+use Rattle.wire_json.specs.Resolve.{act_of}
+use Rattle.wire_json.specs.declared.asked.Asked.{Asked}
+use Rattle.wire_json.specs.declared.reason.Reason.{Reason}
+use Rattle.wire_json.specs.declared.reason.Reason.TheVariants.{NoMatch, Unauthorized}
+use Rattle.match_master.specs.Admitted.{IsAdmitted}
+use Rattle.match_master.specs.Match.{Match, number_of, table_of}
+use Rattle.match_master.specs.Rule.{public, first_broken, has_act, seat_rules, viewer_rules, most_actions}
+use Rattle.match_master.specs.declared.submission.Submission.{Submission}
+use Rattle.match_master.specs.Verdict.{broken, public_broken, game_broken, or_else, is_named}
+
+abbrev NoneHolds : List (Bool × Reason) → Type 0
+NoneHolds [] = Unit {0}
+NoneHolds (rule ∷ rules) = (rule.0 ≡ false) × NoneHolds rules
+
+apart : (r : Reason) → Some r ≡ None → ⊥
+apart r h = cc
+
+none_holds : (rules : List (Bool × Reason)) → first_broken rules ≡ None → NoneHolds rules
+none_holds [] h = tt
+none_holds ((true, r) ∷ rules) h = absurd (apart r h)
+none_holds ((false, r) ∷ rules) h = (refl, none_holds rules h)
+
+known_act : (sheet : Sheet) (ctx : Ctx) (seat : ℕ) (a : Asked) (o : Option Act) → not (has_act sheet ctx seat a o) ≡ false → (act : Act) × (o ≡ Some act)
+known_act sheet ctx seat a None h = cc
+known_act sheet ctx seat a (Some act) h = (act, refl)
+
+not_false : (b : Bool) → not b ≡ false → b ≡ true
+not_false true h = refl
+not_false false h = cc
+
+seat_admitted : (sheet : Sheet) (ctx : Ctx) (number seat : ℕ) (a : Asked) (at : ℕ) → NoneHolds (seat_rules sheet ctx number seat a at) → IsAdmitted sheet ctx number (Some seat) a
+seat_admitted sheet ctx number seat a at h =
+    let found : (act : Act) × (act_of sheet a ≡ Some act) = known_act sheet ctx seat a (act_of sheet a) h.1.1.1.1.0 in
+    record {
+      seat = seat;
+      act = found.0;
+      viewer_is = refl;
+      act_is = found.1;
+      below = h.1.0;
+      has = subst (λ o. has_act sheet ctx seat a o ≡ true) found.1 (not_false (has_act sheet ctx seat a (act_of sheet a)) h.1.1.1.1.0)
+    }
+
+spectator_refused : NoneHolds ((true, Unauthorized) ∷ []) → ⊥
+spectator_refused h = true≢false h.0
+
+pub public_admits : (sheet : Sheet) (ctx : Ctx) (number : ℕ) (same : Bool) (viewer : Option ℕ) (fits : Bool) (a : Asked) (at : ℕ) → public sheet ctx number same viewer fits a at ≡ None → IsAdmitted sheet ctx number viewer a
+unfolding public
+public_admits sheet ctx number same None fits a at h =
+    absurd (spectator_refused ((none_holds ((not same, NoMatch) ∷ viewer_rules sheet ctx number None fits a at) h).1))
+public_admits sheet ctx number same (Some seat) fits a at h =
+    seat_admitted sheet ctx number seat a at ((none_holds ((not same, NoMatch) ∷ viewer_rules sheet ctx number (Some seat) fits a at) h).1.1)
+
+pub or_none : (p g : Option Reason) → or_else p g ≡ None → (p ≡ None) × (g ≡ None)
+or_none None g h = (refl, h)
+or_none (Some r) g h = absurd (apart r h)

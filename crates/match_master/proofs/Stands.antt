@@ -1,0 +1,135 @@
+-- A Book that stands for a history answers the reply to the next entry, and then stands for the history with it.
+use Rattle.std.proofs.Common.{◌≡◌, ◌==◌, ℕ, List, [], ◌∷◌, Bool, true, false, if◌then◌else◌, nat_eq, MatchBool, Option, Some, None, option_map, refl, sym, ap, ◌∙◌, subst}
+use Rattle.std.proofs.lemmas.Bool.{true≢false}
+use Rattle.std.specs.Map.{lookup}
+use Rattle.room_desk.specs.Entry.{Entry}
+use Rattle.game_trait.specs.Rules.{Rules}
+use Rattle.match_master.specs.declared.call.RoomCall.{RoomCall}
+use Rattle.match_master.specs.declared.call.RoomCall.TheVariants.{Create, Attach, Submit, Take}
+use Rattle.match_master.specs.declared.reply.RoomReply.{RoomReply}
+use Rattle.match_master.specs.declared.reply.RoomReply.TheVariants as answer
+use Rattle.match_master.specs.Held.{Held, Holds, Advances, StandsFor, stored, stored_bytes, is_starved, answer_to, bytes_waiting, kept_of}
+use Rattle.match_master.specs.History.{serials, standing, attached, serials_after, standing_after, attached_after}
+use Rattle.match_master.specs.Match.{Match}
+use Rattle.match_master.specs.Own.{own}
+use Rattle.match_master.specs.Reply.{waits, lines_waiting, reply, reply_to, taken}
+use Rattle.match_master.specs.Sight.{sight}
+use Rattle.match_master.specs.Shown.{Shown}
+use Rattle.match_master.specs.Steps.{pieces, pieces_after}
+use Rattle.match_master.specs.Stream.{Item, Piece, waiting}
+use Rattle.player_sight.specs.SnapshotData.{Snap}
+use Rattle.match_master.specs.declared.submission.Submission.{Submission}
+use Rattle.match_master.specs.Calls.{create, create_reply, attach, attach_reply}
+use Rattle.match_master.specs.Does.{Does, SubmitDoes, viewer_in, after_create, after_attach, after_take, taken_of}
+use Rattle.match_master.proofs.Advance.{create_advances, attach_advances, submit_advances, take_advances}
+use Rattle.match_master.proofs.Joins.{Joined, joins}
+
+starved_is : (r : RoomReply) → is_starved r ≡ true → r ≡ answer.NoMemory
+starved_is answer.NoMemory h = refl
+starved_is (answer.Created serial) h = absurd (true≢false (sym h))
+starved_is answer.Attached h = absurd (true≢false (sym h))
+starved_is (answer.Verdict verdict) h = absurd (true≢false (sym h))
+starved_is (answer.Taken bytes end) h = absurd (true≢false (sym h))
+starved_is answer.Busy h = absurd (true≢false (sym h))
+starved_is answer.BadSeats h = absurd (true≢false (sym h))
+starved_is answer.NoStart h = absurd (true≢false (sym h))
+starved_is answer.NoMatch h = absurd (true≢false (sym h))
+starved_is answer.AlreadyAttached h = absurd (true≢false (sym h))
+starved_is answer.Unauthorized h = absurd (true≢false (sym h))
+starved_is answer.NotAttached h = absurd (true≢false (sym h))
+
+module _ {X G : Type 0} (rules : X → Rules G) (room : ℕ) where
+  lines_are : (h : List (Entry (RoomCall X))) (pass : ℕ) (st : Option (Match X G)) (at : Option (Option ℕ)) (ps : List Piece) → Joined rules room st at ps (sight rules room h pass) (own rules room h pass)
+      → lines_waiting rules room h pass st at ≡ bytes_waiting rules at (waiting ps)
+  lines_are h pass None None ps j = refl
+  lines_are h pass (Some m) None ps j = refl
+  lines_are h pass None (Some viewer) ps j = absurd j
+  lines_are h pass (Some m) (Some viewer) ps j = ap (λ qs. Some (waiting qs)) (sym j.is)
+
+  -- what waits for a pass is what is kept for it
+  pub waits_is : (h : List (Entry (RoomCall X))) (pass : ℕ) → waits rules room h pass ≡ bytes_waiting rules (attached rules room h pass) (waiting (pieces rules room h pass))
+  waits_is h pass = lines_are h pass (standing rules room h) (attached rules room h pass) (pieces rules room h pass) (joins rules room h pass)
+
+  stored_is : (a : Option (Option ℕ)) (bytes : List ℕ) → stored_bytes a (bytes_waiting rules a bytes) ≡ stored a bytes
+  stored_is None bytes = refl
+  stored_is (Some viewer) bytes = refl
+
+  pub kept_is : (h : List (Entry (RoomCall X))) (pass : ℕ) → stored_bytes (attached rules room h pass) (waits rules room h pass) ≡ stored (attached rules room h pass) (waiting (pieces rules room h pass))
+  kept_is h pass = ap (stored_bytes (attached rules room h pass)) (waits_is h pass) ∙ stored_is (attached rules room h pass) (waiting (pieces rules room h pass))
+
+  answer_is : (h : List (Entry (RoomCall X))) (pass : ℕ) (call : RoomCall X)
+      → answer_to rules room (serials rules room h) (standing rules room h) (attached rules room h pass) (pieces rules room h pass) call ≡ reply_to rules room h pass call
+  answer_is h pass (Create game seats seed) = refl
+  answer_is h pass (Attach serial claim) = refl
+  answer_is h pass (Submit name key number ticket asked) = refl
+  answer_is h pass Take = ap taken (sym (waits_is h pass))
+
+  pub holds_of : (held : Held X G) (h : List (Entry (RoomCall X))) → held.room ≡ room → held.serials ≡ serials rules room h → held.kept ≡ option_map (kept_of rules) (standing rules room h)
+      → ((pass : ℕ) → lookup (nat_eq pass) held.sessions ≡ stored_bytes (attached rules room h pass) (waits rules room h pass))
+      → Holds rules held (serials rules room h) (standing rules room h) (attached rules room h) (pieces rules room h)
+  holds_of held h r s m e = record { serials_held = s; match_held = m; sessions_held = λ pass. e pass ∙ kept_is h pass }
+
+module _ {X G : Type 0} (rules : X → Rules G) where
+  pub stands_at : (held : Held X G) (h : List (Entry (RoomCall X))) (room : ℕ) → held.room ≡ room → Holds rules held (serials rules room h) (standing rules room h) (attached rules room h) (pieces rules room h) → StandsFor rules held h
+  stands_at held h room e =
+      subst (λ n. Holds rules held (serials rules n h) (standing rules n h) (attached rules n h) (pieces rules n h) → StandsFor rules held h) e
+          (λ k. record { serials_held = k.serials_held; match_held = k.match_held; sessions_held = λ pass. k.sessions_held pass ∙ sym (kept_is rules held.room h pass) })
+
+  pub holds_at : (held : Held X G) (h : List (Entry (RoomCall X))) → StandsFor rules held h → Holds rules held (serials rules held.room h) (standing rules held.room h) (attached rules held.room h) (pieces rules held.room h)
+  holds_at held h s = holds_of rules held.room held h refl s.serials_held s.match_held s.sessions_held
+
+  answered_by : (room : ℕ) (new : Held X G) (h : List (Entry (RoomCall X))) (pass : ℕ) (call : RoomCall X) (result : RoomReply) (b : Bool) → is_starved result ≡ b
+      → MatchBool b (Holds rules new (serials rules room h) (standing rules room h) (attached rules room h) (pieces rules room h))
+          ((result ≡ answer_to rules room (serials rules room h) (standing rules room h) (attached rules room h pass) (pieces rules room h pass) call)
+            × Holds rules new (serials_after rules room (serials rules room h) (standing rules room h) call) (standing_after rules room (serials rules room h) (standing rules room h) (attached rules room h pass) call)
+                (λ q. if pass == q then attached_after (standing rules room h) (attached rules room h q) call else attached rules room h q)
+                (λ q. pieces_after rules room (standing rules room h) (attached rules room h pass) (pass == q) (attached rules room h q) (pieces rules room h q) call))
+      → (result ≡ reply rules room h (record { pass = pass; call = call; starved = b }))
+        × Holds rules new (serials rules room (record { pass = pass; call = call; starved = b } ∷ h)) (standing rules room (record { pass = pass; call = call; starved = b } ∷ h))
+            (attached rules room (record { pass = pass; call = call; starved = b } ∷ h)) (pieces rules room (record { pass = pass; call = call; starved = b } ∷ h))
+  unfolding reply
+  answered_by room new h pass call result true s k = (starved_is result s, k)
+  answered_by room new h pass call result false s k = (k.0 ∙ answer_is rules room h pass call, k.1)
+
+  -- the reply to the entry, and that the Book then stands for the history with it
+  pub finish : (old new : Held X G) (h : List (Entry (RoomCall X))) (pass : ℕ) (call : RoomCall X) (result : RoomReply) → new.room ≡ old.room
+      → Advances rules old.room new (serials rules old.room h) (standing rules old.room h) (attached rules old.room h) (pieces rules old.room h) pass call result
+      → (result ≡ reply rules old.room h (record { pass = pass; call = call; starved = is_starved result })) × StandsFor rules new (record { pass = pass; call = call; starved = is_starved result } ∷ h)
+  finish old new h pass call result e a =
+      let done = answered_by old.room new h pass call result (is_starved result) refl a in
+      (done.0, stands_at new (record { pass = pass; call = call; starved = is_starved result } ∷ h) old.room e done.1)
+
+  -- a call was answered, and the Book stands for the history with it
+  abbrev pub IsDone : Held X G → Held X G → List (Entry (RoomCall X)) → ℕ → RoomCall X → RoomReply → Type 0
+  IsDone old new h pass call result =
+      (result ≡ reply rules old.room h (record { pass = pass; call = call; starved = is_starved result })) × StandsFor rules new (record { pass = pass; call = call; starved = is_starved result } ∷ h)
+
+  done_as : (old new : Held X G) (h : List (Entry (RoomCall X))) (pass : ℕ) (call made : RoomCall X) (result : RoomReply) → call ≡ made → IsDone old new h pass made result → IsDone old new h pass call result
+  done_as old new h pass call made result e d = subst (λ c. IsDone old new h pass c result) (sym e) d
+
+  pub create_done : (old new : Held X G) (h : List (Entry (RoomCall X))) → StandsFor rules old h → (pass : ℕ) (game : X) (seats : ℕ) (seed : List ℕ) (call : RoomCall X) (result : RoomReply) → call ≡ Create game seats seed → new.room ≡ old.room
+      → ((st : Option (Match X G)) → old.kept ≡ option_map (kept_of rules) st → Does old result new (create_reply (create rules old.serials st game seats seed)) (after_create rules old (create rules old.serials st game seats seed)))
+      → IsDone old new h pass call result
+  create_done old new h s pass game seats seed call result e r d =
+      done_as old new h pass call (Create game seats seed) result e (finish old new h pass (Create game seats seed) result r
+          (create_advances rules old (serials rules old.room h) (standing rules old.room h) (attached rules old.room h) (pieces rules old.room h) (holds_at old h s) pass game seats seed result new (d (standing rules old.room h) s.match_held)))
+
+  pub attach_done : (old new : Held X G) (h : List (Entry (RoomCall X))) → StandsFor rules old h → (pass serial : ℕ) (claim : Option (ℕ × List ℕ)) (call : RoomCall X) (result : RoomReply) → call ≡ Attach serial claim → new.room ≡ old.room
+      → ((st : Option (Match X G)) → old.kept ≡ option_map (kept_of rules) st → Does old result new (attach_reply (attach st (viewer_in old pass) serial claim)) (after_attach rules old pass st (attach st (viewer_in old pass) serial claim)))
+      → IsDone old new h pass call result
+  attach_done old new h s pass serial claim call result e r d =
+      done_as old new h pass call (Attach serial claim) result e (finish old new h pass (Attach serial claim) result r
+          (attach_advances rules old (serials rules old.room h) (standing rules old.room h) (attached rules old.room h) (pieces rules old.room h) (holds_at old h s) pass serial claim result new (d (standing rules old.room h) s.match_held)))
+
+  pub submit_done : (old new : Held X G) (h : List (Entry (RoomCall X))) → StandsFor rules old h → (pass : ℕ) (sub : Submission) (call : RoomCall X) (result : RoomReply) → call ≡ Submit sub.name sub.key sub.number sub.ticket sub.asked → new.room ≡ old.room
+      → ((st : Option (Match X G)) → old.kept ≡ option_map (kept_of rules) st → SubmitDoes rules old pass sub result new (viewer_in old pass) st)
+      → IsDone old new h pass call result
+  submit_done old new h s pass sub call result e r d =
+      done_as old new h pass call (Submit sub.name sub.key sub.number sub.ticket sub.asked) result e (finish old new h pass (Submit sub.name sub.key sub.number sub.ticket sub.asked) result r
+          (submit_advances rules old (serials rules old.room h) (standing rules old.room h) (attached rules old.room h) (pieces rules old.room h) (holds_at old h s) pass sub result new (d (standing rules old.room h) s.match_held)))
+
+  pub take_done : (old new : Held X G) (h : List (Entry (RoomCall X))) → StandsFor rules old h → (pass : ℕ) (call : RoomCall X) (result : RoomReply) → call ≡ Take → new.room ≡ old.room
+      → result ≡ taken_of (lookup (nat_eq pass) old.sessions) → new ≡ after_take old pass (lookup (nat_eq pass) old.sessions) → is_starved result ≡ false → IsDone old new h pass call result
+  take_done old new h s pass call result e r t n f =
+      done_as old new h pass call Take result e (finish old new h pass Take result r
+          (take_advances rules old (serials rules old.room h) (standing rules old.room h) (attached rules old.room h) (pieces rules old.room h) (holds_at old h s) pass result new t n f))

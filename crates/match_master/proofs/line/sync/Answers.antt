@@ -1,0 +1,9 @@
+use Rattle.std.proofs.Common.{◌≡◌, IfOk, sym, ap, ◌∙◌, subst}
+use Rattle.wire_json.specs.ServerText.{text}
+use Rattle.wire_json.specs.declared.server.ServerMsg.TheVariants.{Sync}
+use Rattle.match_master.proofs.line.sync.Goals as goal
+
+pub returns : goal.returns
+returns g c =
+    let shown = rw (c.sheet.ensures.value, c.number.ensures, c.ctx.ensures, c.in_ok-g.ensures.value, c.g.ensures) at c.in_ok-value.ensures.value in
+    subst (λ d. IfOk c.write_server.result (λ line. line.items ≡ text (Sync c.args.name c.args.viewer d))) (c.new.ensures ∙ shown) c.write_server.ensures.text

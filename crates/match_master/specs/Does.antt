@@ -1,0 +1,82 @@
+-- What each call does to what a Book holds.
+use Rattle.std.specs.Prelude.{◌≡◌, ◌+◌, ℕ, nat_eq, List, [], ◌∷◌, ◌++◌, Bool, MatchBool, Option, Some, None, option_map, Result, Ok, Err}
+use Rattle.std.specs.Map.{lookup}
+use Rattle.indexmap.specs.IndexMap.{insert_entry}
+use Rattle.game_trait.specs.Rules.{Rules}
+use Rattle.move_log.specs.declared.entry.Entry.{Entry}
+use Rattle.player_sight.specs.CtxData.{ctx_data}
+use Rattle.player_sight.specs.EntryData.{entry_data}
+use Rattle.reducer.specs.Standing.{Standing}
+use Rattle.wire_json.specs.ServerText.{text}
+use Rattle.wire_json.specs.declared.reason.Reason.{Reason}
+use Rattle.wire_json.specs.declared.server.ServerMsg.TheVariants as message
+use Rattle.wire_json.specs.declared.verdict.Verdict.TheVariants as verdict
+use Rattle.match_master.specs.declared.kept.Kept.{Kept}
+use Rattle.match_master.specs.declared.reply.RoomReply.{RoomReply}
+use Rattle.match_master.specs.declared.reply.RoomReply.TheVariants as answer
+use Rattle.match_master.specs.declared.submission.Submission.{Submission}
+use Rattle.match_master.specs.Calls.{create, create_reply, attach, attach_reply, verdict_reply}
+use Rattle.match_master.specs.Held.{Held, kept_of, is_starved}
+use Rattle.match_master.specs.Lines.{sync_line, ok_line, no_line}
+use Rattle.match_master.specs.Match.{Match, number_of}
+use Rattle.match_master.specs.Reply.{taken}
+use Rattle.match_master.specs.Shown.{Shown, tell_all}
+use Rattle.match_master.specs.Steps.{sync_of, update_of}
+use Rattle.match_master.specs.Verdict.{broken, accept}
+
+-- the line of an action that led to a state
+abbrev pub update_text : {G : Type 0} → Rules G → Standing G → Entry → List ℕ
+update_text rules state entry =
+    text (message.Update (ctx_data rules.sheet state.table.ctx) (entry_data rules.sheet entry) (rules.value state.table.g) state.number)
+
+abbrev pub viewer_in : {X G : Type 0} → Held X G → ℕ → Option (Option ℕ)
+viewer_in held pass = option_map (λ (s : Shown). s.viewer) (lookup (nat_eq pass) held.sessions)
+
+-- unless there was no memory, the reply is this one, and the Book then holds this
+abbrev pub Does : {X G : Type 0} → Held X G → RoomReply → Held X G → RoomReply → Held X G → Type 0
+Does old reply new wanted held = MatchBool (is_starved reply) (new ≡ old) ((reply ≡ wanted) × (new ≡ held))
+
+abbrev pub with_refused : {X G : Type 0} → Held X G → ℕ → ℕ → Reason → ℕ → Held X G
+with_refused held pass number reason ticket = record held { sessions = tell_all pass (no_line number reason ticket) [] held.sessions }
+
+module _ {X G : Type 0} (rules : X → Rules G) where
+  abbrev pub with_accepted : Held X G → Kept X G → ℕ → Standing G → Entry → ℕ → Held X G
+  with_accepted held k pass state entry ticket = record held {
+    kept = Some (record k { state = state; log = k.log ++ entry ∷ [] });
+    sessions = tell_all pass (ok_line state.number ticket) (update_text (rules k.game) state entry) held.sessions
+  }
+
+  abbrev pub after_submission : Held X G → ℕ → Match X G → Option ℕ → Submission → Option Reason → Held X G
+  after_submission held pass m viewer s (Some reason) = with_refused held pass (number_of m) reason s.ticket
+  after_submission held pass m viewer s None = record held {
+    kept = Some (kept_of rules (accept rules m viewer s));
+    sessions = tell_all pass (ok_line (number_of m + 1) s.ticket) (update_of rules held.room (accept rules m viewer s) viewer) held.sessions
+  }
+
+  abbrev pub SubmitDoes : Held X G → ℕ → Submission → RoomReply → Held X G → Option (Option ℕ) → Option (Match X G) → Type 0
+  SubmitDoes old pass s reply new None standing = Does old reply new answer.NotAttached old
+  SubmitDoes old pass s reply new (Some viewer) None = Does old reply new answer.NotAttached old
+  SubmitDoes old pass s reply new (Some viewer) (Some m) =
+      Does old reply new (verdict_reply (number_of m) (broken rules old.room m viewer s)) (after_submission old pass m viewer s (broken rules old.room m viewer s))
+
+  abbrev pub after_create : Held X G → Result (Match X G) RoomReply → Held X G
+  after_create held (Ok m) = record held { serials = m.serial; kept = Some (kept_of rules m) }
+  after_create held (Err why) = held
+
+  -- the line that begins a session, by what is kept of the match
+  abbrev pub sync_text : ℕ → Kept X G → Option ℕ → List ℕ
+  sync_text room k viewer = sync_line (rules k.game).sheet (record { room = room; serial = k.serial }) viewer
+      (record { number = k.state.number; ctx = k.state.table.ctx; g = (rules k.game).value k.state.table.g; log = k.log })
+
+  abbrev pub after_attach : Held X G → ℕ → Option (Match X G) → Result (Option ℕ) RoomReply → Held X G
+  after_attach held pass None viewer = held
+  after_attach held pass (Some m) (Err why) = held
+  after_attach held pass (Some m) (Ok viewer) = record held { sessions = insert_entry nat_eq held.sessions pass (record { viewer = viewer; bytes = sync_of rules held.room m viewer }) }
+
+abbrev pub after_take : {X G : Type 0} → Held X G → ℕ → Option Shown → Held X G
+after_take held pass None = held
+after_take held pass (Some shown) = record held { sessions = insert_entry nat_eq held.sessions pass (record shown { bytes = [] }) }
+
+abbrev pub taken_of : Option Shown → RoomReply
+taken_of None = answer.NotAttached
+taken_of (Some shown) = answer.Taken shown.bytes None

@@ -1,0 +1,16 @@
+pub mod Rule
+pub mod Match
+pub mod Admitted
+pub mod Verdict
+pub mod Lines
+pub mod Stream
+pub mod Calls
+pub mod History
+pub mod Sight
+pub mod Own
+pub mod Reply
+pub mod Steps
+pub mod Shown
+pub mod Held
+pub mod Judged
+pub mod Does

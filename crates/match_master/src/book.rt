@@ -1,0 +1,264 @@
+//! A room's book: its one match, who is attached, and what waits for each.
+
+ghost use Rattle.std.specs.Prelude.{◌≡◌, ◌≤◌, ◌<◌, ◌∷◌, ℕ, List, [], Option, None, Some, IfOk, true, false, MatchBool, MatchOption, IsSome, IfSome, nat_lt, if◌then◌else◌, option_map, nat_eq};
+ghost use Rattle.std.specs.Map.{lookup};
+ghost use Rattle.indexmap.specs.IndexMap.{insert_entry};
+ghost use Rattle.reducer.specs.Sound.{IsSound};
+ghost use Rattle.match_master.specs.declared.kept.Kept.{Kept as Keeps};
+ghost use Rattle.match_master.specs.declared.reply.RoomReply.TheVariants as answer;
+ghost use Rattle.wire_json.specs.declared.verdict.Verdict.TheVariants as verdict;
+ghost use Rattle.match_master.specs.Calls.{create, create_reply, attach, attach_at, attach_reply};
+ghost use Rattle.match_master.specs.Match.{Match};
+ghost use Rattle.room_desk.specs.Entry.{Entry as Made};
+ghost use Rattle.match_master.specs.declared.call.RoomCall.{RoomCall as Asks};
+ghost use Rattle.match_master.specs.Reply.{reply};
+ghost use Rattle.match_master.specs.Held.{Held, StandsFor, kept_of, is_starved, may_starve};
+ghost use Rattle.match_master.specs.Does.{Does, SubmitDoes, viewer_in, with_refused, with_accepted, after_create, after_attach, after_take, taken_of, sync_text};
+
+use crate::call::RoomCall;
+use crate::judge::{Judged, judge};
+use crate::kept::Kept;
+use crate::line;
+use crate::reply::RoomReply;
+use crate::session::{self, Sessions};
+use crate::submission::Submission;
+use game_sheet::{Bytes, Key, List, MatchName, NoMemory, Number, Seat};
+use game_trait::Game;
+use indexmap::IndexMap;
+use move_log::Entry;
+use reducer::{StartNo, State, start};
+use std::alloc::Global;
+use std::marker::Model;
+use wire_json::{Reason, Verdict};
+
+/// The book of one room. It answers one call at a time.
+#[derive(Drop)]
+pub struct Book<X: Game + Drop> {
+    alloc: Global,
+    room: u8,
+    serials: u64,
+    kept: Option<Kept<X, X::G>>,
+    sessions: Sessions,
+}
+
+impl<X: Game + Drop> Model for Book<X> {
+    ghost use Rattle.std.specs.Prelude.{◌≤◌};
+    ghost use Rattle.match_master.specs.Shown.{all_shown};
+    ghost use Rattle.match_master.specs.Held.{Held, KeptInOrder};
+
+    ghost Value = { Held X X.G };
+
+    ghost view = { λ b. record { room = b.room; serials = b.serials; kept = b.kept; sessions = all_shown b.sessions.entries } };
+
+    ghost invariant = { λ b. (b.room ≤ 63) × KeptInOrder X.rules b.kept };
+}
+
+impl<X: Game + Drop> Book<X> {
+    /// The book of a room in which nothing has happened. The room is 0 to 63.
+    pub fn new(alloc: Global, room: u8) -> Result<Self, NoMemory>
+        requires { room ≤ 63 }
+        ensures room { IfOk result (λ b. b.room ≡ room) }
+        ensures stands { IfOk result (λ b. StandsFor X.rules b []) }
+    {
+        Ok(Book {
+            alloc,
+            room,
+            serials: 0,
+            kept: None,
+            sessions: IndexMap::new(alloc),
+        })
+    }
+
+    /// Answers a call of a pass.
+    ///
+    /// A book that stands for a history of its room answers the reply to the entry of this call after it, and then stands
+    /// for the history with the entry. After `NoMemory` nothing has changed; a Take takes no memory.
+    pub fn apply(&mut self, pass: u32, call: RoomCall<X>) -> RoomReply
+        ensures room { self.new.room ≡ self.old.room }
+        ensures answered { (h : List (Made (Asks X))) → StandsFor X.rules self.old h → result ≡ reply X.rules self.old.room h (record { pass = pass; call = call; starved = is_starved result }) }
+        ensures stands { (h : List (Made (Asks X))) → StandsFor X.rules self.old h → StandsFor X.rules self.new (record { pass = pass; call = call; starved = is_starved result } ∷ h) }
+        ensures fed { is_starved result ≡ true → may_starve call ≡ true }
+    {
+        match call {
+            RoomCall::Create { game, seats, seed } => self.create(game, seats, &seed),
+            RoomCall::Attach { serial, viewer } => self.attach(pass, serial, viewer),
+            RoomCall::Submit {
+                name,
+                key,
+                number,
+                ticket,
+                asked,
+            } => self.submit(
+                pass,
+                Submission {
+                    name,
+                    key,
+                    number,
+                    ticket,
+                    asked,
+                },
+            ),
+            RoomCall::Take => self.take(pass),
+        }
+    }
+
+    /// Makes a match where none stands.
+    fn create(&mut self, game: X, seats: u8, seed: &[u8; 32]) -> RoomReply
+        ensures room { self.new.room ≡ self.old.room }
+        ensures does { (standing : Option (Match X X.G)) → self.old.kept ≡ option_map (kept_of X.rules) standing
+            → Does self.old result self.new (create_reply (create X.rules self.old.serials standing game seats seed.now)) (after_create X.rules self.old (create X.rules self.old.serials standing game seats seed.now)) }
+    {
+        if self.kept.is_some() || self.serials == u64::MAX {
+            return RoomReply::Busy;
+        }
+        match start(self.alloc, &game, seats, seed) {
+            Err(StartNo::BadSeats) => RoomReply::BadSeats,
+            Err(StartNo::NoStart(_)) => RoomReply::NoStart,
+            Err(StartNo::NoMemory) => RoomReply::NoMemory,
+            Ok(state) => {
+                let serial = self.serials + 1;
+                self.serials = serial;
+                self.kept = Some(Kept {
+                    game,
+                    seats,
+                    serial,
+                    state,
+                    log: List::new(self.alloc),
+                });
+                RoomReply::Created { serial }
+            }
+        }
+    }
+
+    /// Hands out what waits for a pass.
+    fn take(&mut self, pass: u32) -> RoomReply
+        ensures room { self.new.room ≡ self.old.room }
+        ensures fed { is_starved result ≡ false }
+        ensures reply { result ≡ taken_of (lookup (nat_eq pass) self.old.sessions) }
+        ensures after { self.new ≡ after_take self.old pass (lookup (nat_eq pass) self.old.sessions) }
+    {
+        match session::take(self.alloc, &mut self.sessions, pass) {
+            None => RoomReply::NotAttached,
+            Some(bytes) => RoomReply::Taken {
+                bytes: Bytes::from_vec(bytes),
+                end: None,
+            },
+        }
+    }
+
+    /// Tells a pass that its action was refused.
+    fn refuse(&mut self, pass: u32, number: Number, reason: Reason, ticket: u32) -> RoomReply
+        ensures room { self.new.room ≡ self.old.room }
+        ensures does { Does self.old result self.new (answer.Verdict (verdict.No number reason)) (with_refused self.old pass number reason ticket) }
+    {
+        let Ok(said) = line::no(self.alloc, number, reason, ticket) else { return RoomReply::NoMemory; };
+        match session::reserve(&mut self.sessions, pass, said.len(), 0) {
+            Err(_) => RoomReply::NoMemory,
+            Ok(()) => {
+                session::deliver(&mut self.sessions, pass, said.as_slice(), &[]);
+                RoomReply::Verdict(Verdict::No { number, reason })
+            }
+        }
+    }
+
+    /// Takes an accepted action in, and tells everybody.
+    fn accept(&mut self, pass: u32, state: State<X::G>, entry: Entry, ticket: u32) -> RoomReply
+        requires kept { IsSome self.old.kept }
+        requires sound { IfSome self.old.kept (λ k. IsSound (X.rules k.game) state) }
+        ensures room { self.new.room ≡ self.old.room }
+        ensures does { IfSome self.old.kept (λ k. Does self.old result self.new (answer.Verdict (verdict.Ok state.number)) (with_accepted X.rules self.old k pass state entry ticket)) }
+    {
+        let Some(kept) = &self.kept else { unreachable!(); };
+        let number = state.number();
+        let Ok(update) = line::update(self.alloc, &kept.game, &state, &entry) else { return RoomReply::NoMemory; };
+        let Ok(said) = line::ok(self.alloc, number, ticket) else { return RoomReply::NoMemory; };
+        let Ok(()) = session::reserve(&mut self.sessions, pass, said.len(), update.len()) else { return RoomReply::NoMemory; };
+        let Some(kept) = &mut self.kept else { unreachable!(); };
+        let Ok(()) = kept.advance(state, entry) else { return RoomReply::NoMemory; };
+        session::deliver(&mut self.sessions, pass, said.as_slice(), update.as_slice());
+        RoomReply::Verdict(Verdict::Ok { number })
+    }
+
+    /// Judges an action, and tells what became of it.
+    fn submit(&mut self, pass: u32, submission: Submission) -> RoomReply
+        ensures room { self.new.room ≡ self.old.room }
+        ensures does { (standing : Option (Match X X.G)) → self.old.kept ≡ option_map (kept_of X.rules) standing
+            → SubmitDoes X.rules self.old pass submission result self.new (viewer_in self.old pass) standing }
+    {
+        let Some(viewer) = session::viewer_of(&self.sessions, pass) else { return RoomReply::NotAttached; };
+        let Some(kept) = &self.kept else { return RoomReply::NotAttached; };
+        let number = kept.state.number();
+        match judge(self.alloc, self.room, kept, viewer, &submission) {
+            Err(_) => RoomReply::NoMemory,
+            Ok(Judged::Refused(reason)) => self.refuse(pass, number, reason, submission.ticket),
+            Ok(Judged::Accepted { state, entry }) => self.accept(pass, state, entry, submission.ticket),
+        }
+    }
+
+    /// Attaches a pass to the match that stands.
+    fn attach(&mut self, pass: u32, serial: u64, claim: Option<(Seat, Key)>) -> RoomReply
+        ensures room { self.new.room ≡ self.old.room }
+        ensures does { (standing : Option (Match X X.G)) → self.old.kept ≡ option_map (kept_of X.rules) standing
+            → Does self.old result self.new (attach_reply (attach standing (viewer_in self.old pass) serial claim)) (after_attach X.rules self.old pass standing (attach standing (viewer_in self.old pass) serial claim)) }
+    {
+        let before = session::viewer_of(&self.sessions, pass);
+        match admit(place_of(&self.kept), before, serial, &claim) {
+            Err(why) => why,
+            Ok(viewer) => self.begin(pass, viewer),
+        }
+    }
+
+    /// Attaches a viewer to the match that stands.
+    fn begin(&mut self, pass: u32, viewer: Option<Seat>) -> RoomReply
+        requires { IsSome self.old.kept }
+        ensures room { self.new.room ≡ self.old.room }
+        ensures does { IfSome self.old.kept (λ k. Does self.old result self.new answer.Attached
+            (record self.old { sessions = insert_entry nat_eq self.old.sessions pass (record { viewer = viewer; bytes = sync_text X.rules self.old.room k viewer }) })) }
+    {
+        let Some(kept) = &self.kept else { unreachable!(); };
+        let name = MatchName::new(self.room, kept.serial);
+        let Ok(line) = line::sync(self.alloc, &kept.game, name, viewer, &kept.state, kept.log.as_slice()) else { return RoomReply::NoMemory; };
+        match session::attach(&mut self.sessions, pass, viewer, line) {
+            Ok(()) => RoomReply::Attached,
+            Err(_) => RoomReply::NoMemory,
+        }
+    }
+}
+
+/// The serial and the seats of the match that is kept.
+fn place_of<X, G>(kept: &Option<Kept<X, G>>) -> Option<(u64, u8)>
+    ensures { result ≡ option_map (λ k. (k.serial, k.seats)) kept.now }
+{
+    match kept {
+        None => None,
+        Some(kept) => Some((kept.serial, kept.seats)),
+    }
+}
+
+/// Who an Attach lets look, or why it lets nobody in.
+fn admit(
+    at: Option<(u64, u8)>,
+    before: Option<Option<Seat>>,
+    serial: u64,
+    claim: &Option<(Seat, Key)>,
+) -> Result<Option<Seat>, RoomReply>
+    ensures { result ≡ attach_at at before serial claim.now }
+{
+    if before.is_some() {
+        return Err(RoomReply::AlreadyAttached);
+    }
+    let Some((standing, seats)) = at else { return Err(RoomReply::NoMatch); };
+    if standing != serial {
+        return Err(RoomReply::NoMatch);
+    }
+    match claim {
+        None => Ok(None),
+        Some((seat, _)) => {
+            if *seat < seats {
+                Ok(Some(*seat))
+            } else {
+                Err(RoomReply::Unauthorized)
+            }
+        }
+    }
+}

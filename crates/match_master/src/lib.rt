@@ -1,0 +1,17 @@
+//! A room: one match, who is attached to it, and what each of them is sent.
+#![tactic(auto)]
+
+mod book;
+mod call;
+mod judge;
+mod kept;
+mod line;
+mod reply;
+mod rule;
+mod session;
+mod submission;
+
+pub use book::Book;
+pub use call::RoomCall;
+pub use reply::RoomReply;
+pub use rule::public_rule;

@@ -1,0 +1,41 @@
+//! What a room replies.
+
+use game_sheet::{Bye, Bytes};
+use wire_json::Verdict;
+
+/// The reply to a call on a room.
+#[derive(Drop)]
+pub enum RoomReply {
+    /// A match was made.
+    Created {
+        /// Its serial, from 1.
+        serial: u64,
+    },
+    /// The pass is attached.
+    Attached,
+    /// What became of the action.
+    Verdict(Verdict),
+    /// What waited for the session.
+    Taken {
+        /// Whole lines, in order.
+        bytes: Bytes,
+        /// How the session ended, if it has.
+        end: Option<Bye>,
+    },
+    /// A match stands already, or the room has used up its serials.
+    Busy,
+    /// The game isn't played by that many seats.
+    BadSeats,
+    /// The game can't begin.
+    NoStart,
+    /// No such match stands.
+    NoMatch,
+    /// The pass is attached already.
+    AlreadyAttached,
+    /// The match has no such seat.
+    Unauthorized,
+    /// The pass isn't attached.
+    NotAttached,
+    /// There was no memory. Nothing has changed.
+    NoMemory,
+}
