@@ -1,10 +1,10 @@
 -- A trail keeps the struck list of its accepted calls, by recursion on the calls.
-use Rattle.std.proofs.Common.{◌≡◌, Bool, true, false, List, [], ◌∷◌, Option, Some, option_and_then, Result, Ok, Err, ap, sym, subst, ◌∙◌, refl}
+use Rattle.std.proofs.Common.{◌≡◌, Bool, true, false, List, [], ◌∷◌, Option, option_and_then, Result, Ok, Err, ap, sym, subst, ◌∙◌, refl}
 use Rattle.game_sheet.specs.declared.memory.NoMemory.{NoMemory}
 use Rattle.undo_redo.specs.Fold.{fold}
 use Rattle.undo_redo.specs.Kept.{Kept}
 use Rattle.undo_redo.specs.Moves.{Does, Undoes, Redoes}
-use Rattle.undo_redo.specs.Runs.{Made, Answered, Runs, Keeps, KeepsStruckList, accepted, with_accepted}
+use Rattle.undo_redo.specs.Runs.{Answered, Keeps, KeepsStruckList, accepted, with_accepted}
 use Rattle.undo_redo.specs.StruckList.{Call, advance, undo, redo, Struck, strike, struck, undo_last, redo_first}
 
 does : {S A : Type 0} (step : S → A → Option S) (opening : S) (s : Struck A) (act : A) (before after : Kept S A) → Keeps step opening s before → Does step act before after → Keeps step opening (strike (advance act) s) after

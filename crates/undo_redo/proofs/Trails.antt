@@ -1,5 +1,5 @@
 -- A trail stays a machine's after an undo and a redo.
-use Rattle.std.proofs.Common.{◌≡◌, ℕ, zero, suc, ◌≤◌, ◌+◌, ◌<◌, List, [], ◌∷◌, length, get_or, take, drop, reverse, All, Option, Some, IsSome, option_and_then, arith, ap, sym, subst, ◌∙◌, refl, add-one, drop-cons}
+use Rattle.std.proofs.Common.{◌≡◌, ℕ, zero, suc, ◌≤◌, ◌+◌, ◌<◌, List, [], ◌∷◌, length, get_or, take, drop, reverse, All, Option, Some, IfSome, IsSome, arith, ap, sym, subst, ◌∙◌, refl, add-one, drop-cons}
 use Rattle.std.proofs.lemmas.List.Elements.{All-cons, All-nil, All-more}
 use Rattle.undo_redo.specs.Fold.{fold, GoesOn}
 use Rattle.undo_redo.specs.IsTrail.{IsTrail}
@@ -65,9 +65,11 @@ undo_keeps step state_fits act_fits first now before acts count d h trail e fits
     }
 
 -- the same of a trail that is seen as its two lists
-pub redo_trail : {S A : Type 0} (step : S → A → Option S) (state_fits : S → Type 0) (act_fits : A → Type 0) (t : Kept S A) (first now next : S) (acts : List A) (count : ℕ) (act : A) → kept first now acts count ≡ t → count < length acts → act ≡ get_or acts count act → IsTrail step state_fits act_fits t → step t.now act ≡ Some next → state_fits next → IsTrail step state_fits act_fits (kept first next acts (count + 1))
-redo_trail step state_fits act_fits t first now next acts count act seen h is trail e fits =
-    redo_keeps step state_fits act_fits first now next acts count act h (subst (IsTrail step state_fits act_fits) (sym seen) trail) (ap (step now) (sym is) ∙ ap (λ u. step u.now act) seen ∙ e) fits
+pub redo_trail : {S A : Type 0} (step : S → A → Option S) (state_fits : S → Type 0) (act_fits : A → Type 0) (t : Kept S A) (first now state next : S) (told : Option S) (acts : List A) (count : ℕ) (act : A) → kept first now acts count ≡ t → count < length acts → act ≡ get_or acts count act → IsTrail step state_fits act_fits t → state ≡ t.now → told ≡ step state act → told ≡ Some next → IfSome told state_fits → IsTrail step state_fits act_fits (kept first next acts (count + 1))
+redo_trail step state_fits act_fits t first now state next told acts count act seen h is trail present steps some fits =
+    redo_keeps step state_fits act_fits first now next acts count act h (subst (IsTrail step state_fits act_fits) (sym seen) trail)
+    (ap (step now) (sym is) ∙ ap (λ u. step u.now act) seen ∙ ap (λ u. step u act) (sym present) ∙ sym steps ∙ some)
+    (subst (λ o. IfSome o state_fits) some fits)
 
 pub one_more : {S A : Type 0} (step : S → A → Option S) (state_fits : S → Type 0) (act_fits : A → Type 0) (t : Kept S A) (first now : S) (acts : List A) (count n : ℕ) → kept first now acts count ≡ t → count ≡ n + 1 → IsTrail step state_fits act_fits t → IsTrail step state_fits act_fits (kept first now acts (n + 1))
 one_more step state_fits act_fits t first now acts count n seen more trail =

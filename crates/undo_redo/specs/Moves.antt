@@ -1,5 +1,5 @@
 -- What each call does to a trail, by its answer. A call that answers no or has no memory leaves the trail.
-use Rattle.std.specs.Prelude.{◌≡◌, Bool, true, false, List, [], ◌∷◌, Option, Some, None, Result, Ok, Err}
+use Rattle.std.specs.Prelude.{◌≡◌, Bool, true, false, [], ◌∷◌, Option, Some, None, Result, Ok, Err}
 use Rattle.game_sheet.specs.declared.memory.NoMemory.{NoMemory}
 use Rattle.undo_redo.specs.Fold.{fold}
 use Rattle.undo_redo.specs.Kept.{Kept}

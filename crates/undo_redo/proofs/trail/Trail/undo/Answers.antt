@@ -1,5 +1,5 @@
 -- Each answer speaks of the acts done but the last one, at the values that the trail holds.
-use Rattle.std.proofs.Common.{◌≡◌, ◌+◌, ◌-◌, ◌<◌, All, IsSome, Some, length, reverse, take, arith, ap, sym, subst, ◌∙◌, unwrap_or}
+use Rattle.std.proofs.Common.{◌≡◌, ◌+◌, ◌-◌, ◌<◌, All, IsSome, Some, length, reverse, take, arith, sym, subst, unwrap_or}
 use Rattle.undo_redo.specs.Fold.{fold}
 use Rattle.undo_redo.proofs.Trails.{one_more, undo_fits, undo_goes, undo_keeps, undo_moves, one_of}
 use Rattle.undo_redo.proofs.trail.Trail.undo.Goals as goal
