@@ -54,7 +54,7 @@ module _ {X G : Type 0} (rules : X → Rules G) where
   holds_by held serials standing attached pieces pass h = record {
     serials_held = h.serials_held;
     match_held = h.match_held;
-    sessions_held = λ q. h.sessions_held q ∙ ap (λ a. stored a (waiting (pieces q))) (sym (same_if (pass == q) (attached q)))
+    sessions_held = λ q. h.sessions_held q ∙ ap (λ a. stored a (waiting (pieces q))) (sym (same_if (pass == q) (attached q)));
   }
 
   holds_created : (old : Held X G) (serials : ℕ) (standing : Option (Match X G)) (attached : ℕ → Option (Option ℕ)) (pieces : ℕ → List Piece) → Holds rules old serials standing attached pieces
@@ -68,15 +68,17 @@ module _ {X G : Type 0} (rules : X → Rules G) where
       → Advances rules old.room new serials standing attached pieces pass (Create game seats seed) reply
   create_advances old serials standing attached pieces h pass game seats seed reply new d =
       match_map (is_starved reply) _ _ _ _ (holds_same old serials standing attached pieces h new)
-          (λ x. (x.0 ∙ ap (λ n. create_reply (create rules n standing game seats seed)) h.serials_held,
-              subst (λ b. Holds rules b (serials_created serials (create rules serials standing game seats seed)) (created standing (create rules serials standing game seats seed)) (λ q. if pass == q then attached q else attached q) pieces)
-                  (sym (x.1 ∙ ap (λ n. after_create rules old (create rules n standing game seats seed)) h.serials_held))
-                  (holds_by (after_create rules old (create rules serials standing game seats seed)) _ _ attached pieces pass (holds_created old serials standing attached pieces h (create rules serials standing game seats seed))))) d
+      (λ x. (
+        x.0 ∙ ap (λ n. create_reply (create rules n standing game seats seed)) h.serials_held,
+        subst (λ b. Holds rules b (serials_created serials (create rules serials standing game seats seed)) (created standing (create rules serials standing game seats seed)) (λ q. if pass == q then attached q else attached q) pieces)
+            (sym (x.1 ∙ ap (λ n. after_create rules old (create rules n standing game seats seed)) h.serials_held))
+            (holds_by (after_create rules old (create rules serials standing game seats seed)) _ _ attached pieces pass (holds_created old serials standing attached pieces h (create rules serials standing game seats seed))),
+      )) d
 
   taken_advances : (old : Held X G) (serials : ℕ) (standing : Option (Match X G)) (attached : ℕ → Option (Option ℕ)) (pieces : ℕ → List Piece) → Holds rules old serials standing attached pieces
       → (pass : ℕ) (a : Option (Option ℕ)) → attached pass ≡ a
       → (taken_of (stored a (waiting (pieces pass))) ≡ answer_to rules old.room serials standing a (pieces pass) Take)
-        × Holds rules (after_take old pass (stored a (waiting (pieces pass)))) serials standing (λ q. if pass == q then attached q else attached q) (λ q. marked rules old.room (pass == q) (attached q) (pieces q))
+      × Holds rules (after_take old pass (stored a (waiting (pieces pass)))) serials standing (λ q. if pass == q then attached q else attached q) (λ q. marked rules old.room (pass == q) (attached q) (pieces q))
   taken_advances old serials standing attached pieces h pass None e =
       (refl, record { serials_held = h.serials_held; match_held = h.match_held; sessions_held = λ q. kept (pass == q) q refl })
     where
@@ -99,9 +101,11 @@ module _ {X G : Type 0} (rules : X → Rules G) where
       → Advances rules old.room new serials standing attached pieces pass Take reply
   take_advances old serials standing attached pieces h pass reply new r n s =
       let t = taken_advances old serials standing attached pieces h pass (attached pass) refl in
-      rw s (r ∙ ap taken_of (h.sessions_held pass) ∙ t.0,
-          subst (λ b. Holds rules b serials standing (λ q. if pass == q then attached q else attached q) (λ q. marked rules old.room (pass == q) (attached q) (pieces q)))
-              (sym (n ∙ ap (after_take old pass) (h.sessions_held pass))) t.1)
+      rw s (
+        r ∙ ap taken_of (h.sessions_held pass) ∙ t.0,
+        subst (λ b. Holds rules b serials standing (λ q. if pass == q then attached q else attached q) (λ q. marked rules old.room (pass == q) (attached q) (pieces q)))
+            (sym (n ∙ ap (after_take old pass) (h.sessions_held pass))) t.1,
+      )
 
   -- an Attach that lets nobody in
   not_begun : (old : Held X G) (serials : ℕ) (standing : Option (Match X G)) (attached : ℕ → Option (Option ℕ)) (pieces : ℕ → List Piece) → Holds rules old serials standing attached pieces
@@ -123,10 +127,10 @@ module _ {X G : Type 0} (rules : X → Rules G) where
       → (pass serial : ℕ) (claim : Option (ℕ × List ℕ)) (viewer : Option ℕ) → attach (Some m) (attached pass) serial claim ≡ Ok viewer
       → Holds rules (after_attach rules old pass (Some m) (Ok viewer)) serials (Some m) (λ q. if pass == q then attached_by (attached q) (attach (Some m) (attached q) serial claim) else attached q) (λ q. begun_where rules old.room (pass == q) (Some m) (attached q) serial claim (pieces q))
   is_begun old serials m attached pieces h pass serial claim viewer e = record {
-      serials_held = h.serials_held;
-      match_held = h.match_held;
-      sessions_held = λ q. lookup-put old.sessions pass q (record { viewer = viewer; bytes = sync_of rules old.room m viewer }) ∙ kept (pass == q) q refl
-    }
+    serials_held = h.serials_held;
+    match_held = h.match_held;
+    sessions_held = λ q. lookup-put old.sessions pass q (record { viewer = viewer; bytes = sync_of rules old.room m viewer }) ∙ kept (pass == q) q refl;
+  }
     where
       kept : (b : Bool) (q : ℕ) → (pass == q) ≡ b → (if b then Some (record { viewer = viewer; bytes = sync_of rules old.room m viewer }) else lookup (nat_eq q) old.sessions)
           ≡ stored (if b then attached_by (attached q) (attach (Some m) (attached q) serial claim) else attached q) (waiting (begun_where rules old.room b (Some m) (attached q) serial claim (pieces q)))
@@ -152,10 +156,12 @@ module _ {X G : Type 0} (rules : X → Rules G) where
   attach_advances old serials standing attached pieces h pass serial claim reply new d =
       let looks : viewer_in old pass ≡ attached pass = looks_at old serials standing attached pieces h pass in
       match_map (is_starved reply) _ _ _ _ (holds_same old serials standing attached pieces h new)
-          (λ x. (x.0 ∙ ap (λ a. attach_reply (attach standing a serial claim)) looks,
-              subst (λ b. Holds rules b serials standing (λ q. if pass == q then attached_by (attached q) (attach standing (attached q) serial claim) else attached q) (λ q. begun_where rules old.room (pass == q) standing (attached q) serial claim (pieces q)))
-                  (sym (x.1 ∙ ap (λ a. after_attach rules old pass standing (attach standing a serial claim)) looks))
-                  (attach_holds old serials standing attached pieces h pass serial claim (attach standing (attached pass) serial claim) refl))) d
+      (λ x. (
+        x.0 ∙ ap (λ a. attach_reply (attach standing a serial claim)) looks,
+        subst (λ b. Holds rules b serials standing (λ q. if pass == q then attached_by (attached q) (attach standing (attached q) serial claim) else attached q) (λ q. begun_where rules old.room (pass == q) standing (attached q) serial claim (pieces q)))
+            (sym (x.1 ∙ ap (λ a. after_attach rules old pass standing (attach standing a serial claim)) looks))
+            (attach_holds old serials standing attached pieces h pass serial claim (attach standing (attached pass) serial claim) refl),
+      )) d
 
   -- what each attachment holds after a submission
   told_stored : (said all : List ℕ) (b : Bool) (a : Option (Option ℕ)) (ps qs : List Piece) → ((viewer : Option ℕ) → a ≡ Some viewer → with_told b said all (waiting ps) ≡ waiting qs)
@@ -191,22 +197,22 @@ module _ {X G : Type 0} (rules : X → Rules G) where
 
   said_all : (old : Held X G) (pass : ℕ) (m : Match X G) (viewer : Option ℕ) (s : Submission) (o : Option Reason) (b : Bool) (a : Option (Option ℕ)) (ps : List Piece)
       → option_map (λ (t : Shown). let u : Shown = record { viewer = t.viewer; bytes = with_told b (said_of old m s o) (all_of old m viewer s o) t.bytes } in u) (stored a (waiting ps))
-        ≡ stored a (waiting (told_as old.room m viewer s o b a ps))
+      ≡ stored a (waiting (told_as old.room m viewer s o b a ps))
   said_all old pass m viewer s o b None ps = refl
   said_all old pass m viewer s (Some reason) b (Some looker) ps =
       ap (λ bytes. let t : Shown = record { viewer = looker; bytes = bytes } in Some t) (no_told b (no_line (number_of m) reason s.ticket) ps)
   said_all old pass m viewer s None b (Some looker) ps =
       ap (λ bytes. let t : Shown = record { viewer = looker; bytes = bytes } in Some t)
-          (ok_told b (ok_line (number_of m + 1) s.ticket) (update_of rules old.room (accept rules m viewer s) looker) ps)
+      (ok_told b (ok_line (number_of m + 1) s.ticket) (update_of rules old.room (accept rules m viewer s) looker) ps)
 
   submit_holds : (old : Held X G) (serials : ℕ) (m : Match X G) (attached : ℕ → Option (Option ℕ)) (pieces : ℕ → List Piece) → Holds rules old serials (Some m) attached pieces
       → (pass : ℕ) (viewer : Option ℕ) (s : Submission) (o : Option Reason)
       → Holds rules (after_submission rules old pass m viewer s o) serials (Some (accepted_unless rules old.room m viewer s o)) (λ q. if pass == q then attached q else attached q)
-          (λ q. told_as old.room m viewer s o (pass == q) (attached q) (pieces q))
+      (λ q. told_as old.room m viewer s o (pass == q) (attached q) (pieces q))
   submit_holds old serials m attached pieces h pass viewer s (Some reason) = record {
     serials_held = h.serials_held;
     match_held = h.match_held;
-    sessions_held = λ q. told_at q
+    sessions_held = λ q. told_at q;
   }
     where
       told_at : (q : ℕ) → lookup (nat_eq q) (tell_all pass (no_line (number_of m) reason s.ticket) [] old.sessions)
@@ -219,7 +225,7 @@ module _ {X G : Type 0} (rules : X → Rules G) where
   submit_holds old serials m attached pieces h pass viewer s None = record {
     serials_held = h.serials_held;
     match_held = refl;
-    sessions_held = λ q. told_at q
+    sessions_held = λ q. told_at q;
   }
     where
       told_at : (q : ℕ) → lookup (nat_eq q) (tell_all pass (ok_line (number_of m + 1) s.ticket) (update_of rules old.room (accept rules m viewer s) viewer) old.sessions)
@@ -233,30 +239,33 @@ module _ {X G : Type 0} (rules : X → Rules G) where
   submit_by : (old : Held X G) (serials : ℕ) (standing : Option (Match X G)) (attached : ℕ → Option (Option ℕ)) (pieces : ℕ → List Piece) → Holds rules old serials standing attached pieces
       → (pass : ℕ) (s : Submission) (reply : RoomReply) (new : Held X G) (a : Option (Option ℕ)) → SubmitDoes rules old pass s reply new a standing
       → MatchBool (is_starved reply) (Holds rules new serials standing attached pieces)
-          ((reply ≡ submit_reply rules old.room standing a s)
-            × Holds rules new serials (submitted rules old.room standing a s) (λ q. if pass == q then attached q else attached q) (λ q. told_where rules old.room standing a s (pass == q) (attached q) (pieces q)))
+      ((reply ≡ submit_reply rules old.room standing a s)
+      × Holds rules new serials (submitted rules old.room standing a s) (λ q. if pass == q then attached q else attached q) (λ q. told_where rules old.room standing a s (pass == q) (attached q) (pieces q)))
   submit_by old serials None attached pieces h pass s reply new None d =
       match_map (is_starved reply) _ _ _ _ (holds_same old serials None attached pieces h new)
-          (λ x. (x.0, holds_same old serials None (λ q. if pass == q then attached q else attached q) pieces (holds_by old serials None attached pieces pass h) new x.1)) d
+      (λ x. (x.0, holds_same old serials None (λ q. if pass == q then attached q else attached q) pieces (holds_by old serials None attached pieces pass h) new x.1)) d
   submit_by old serials None attached pieces h pass s reply new (Some viewer) d =
       match_map (is_starved reply) _ _ _ _ (holds_same old serials None attached pieces h new)
-          (λ x. (x.0, holds_same old serials None (λ q. if pass == q then attached q else attached q) pieces (holds_by old serials None attached pieces pass h) new x.1)) d
+      (λ x. (x.0, holds_same old serials None (λ q. if pass == q then attached q else attached q) pieces (holds_by old serials None attached pieces pass h) new x.1)) d
   submit_by old serials (Some m) attached pieces h pass s reply new None d =
       match_map (is_starved reply) _ _ _ _ (holds_same old serials (Some m) attached pieces h new)
-          (λ x. (x.0, holds_same old serials (Some m) (λ q. if pass == q then attached q else attached q) pieces (holds_by old serials (Some m) attached pieces pass h) new x.1)) d
+      (λ x. (x.0, holds_same old serials (Some m) (λ q. if pass == q then attached q else attached q) pieces (holds_by old serials (Some m) attached pieces pass h) new x.1)) d
   submit_by old serials (Some m) attached pieces h pass s reply new (Some viewer) d =
       match_map (is_starved reply) _ _ _ _ (holds_same old serials (Some m) attached pieces h new)
-          (λ x. (x.0, holds_same (after_submission rules old pass m viewer s (broken rules old.room m viewer s)) serials (Some (accepted_unless rules old.room m viewer s (broken rules old.room m viewer s)))
-              (λ q. if pass == q then attached q else attached q) (λ q. told_where rules old.room (Some m) (Some viewer) s (pass == q) (attached q) (pieces q)) (by_telling (submit_holds old serials m attached pieces h pass viewer s (broken rules old.room m viewer s))) new x.1)) d
+      (λ x. (
+        x.0,
+        holds_same (after_submission rules old pass m viewer s (broken rules old.room m viewer s)) serials (Some (accepted_unless rules old.room m viewer s (broken rules old.room m viewer s)))
+            (λ q. if pass == q then attached q else attached q) (λ q. told_where rules old.room (Some m) (Some viewer) s (pass == q) (attached q) (pieces q)) (by_telling (submit_holds old serials m attached pieces h pass viewer s (broken rules old.room m viewer s))) new x.1,
+      )) d
     where
       by_telling : Holds rules (after_submission rules old pass m viewer s (broken rules old.room m viewer s)) serials (Some (accepted_unless rules old.room m viewer s (broken rules old.room m viewer s))) (λ q. if pass == q then attached q else attached q)
-              (λ q. told_as old.room m viewer s (broken rules old.room m viewer s) (pass == q) (attached q) (pieces q))
+          (λ q. told_as old.room m viewer s (broken rules old.room m viewer s) (pass == q) (attached q) (pieces q))
           → Holds rules (after_submission rules old pass m viewer s (broken rules old.room m viewer s)) serials (Some (accepted_unless rules old.room m viewer s (broken rules old.room m viewer s))) (λ q. if pass == q then attached q else attached q)
-              (λ q. told_where rules old.room (Some m) (Some viewer) s (pass == q) (attached q) (pieces q))
+          (λ q. told_where rules old.room (Some m) (Some viewer) s (pass == q) (attached q) (pieces q))
       by_telling k = record {
         serials_held = k.serials_held;
         match_held = k.match_held;
-        sessions_held = λ q. k.sessions_held q ∙ ap (λ ps. stored (if pass == q then attached q else attached q) (waiting ps)) (told_is old.room m viewer s (pass == q) (attached q) (pieces q))
+        sessions_held = λ q. k.sessions_held q ∙ ap (λ ps. stored (if pass == q then attached q else attached q) (waiting ps)) (told_is old.room m viewer s (pass == q) (attached q) (pieces q));
       }
 
   pub submit_advances : (old : Held X G) (serials : ℕ) (standing : Option (Match X G)) (attached : ℕ → Option (Option ℕ)) (pieces : ℕ → List Piece) → Holds rules old serials standing attached pieces
@@ -264,4 +273,4 @@ module _ {X G : Type 0} (rules : X → Rules G) where
       → Advances rules old.room new serials standing attached pieces pass (Submit s.name s.key s.number s.ticket s.asked) reply
   submit_advances old serials standing attached pieces h pass s reply new d =
       submit_by old serials standing attached pieces h pass s reply new (attached pass)
-          (subst (λ a. SubmitDoes rules old pass s reply new a standing) (looks_at old serials standing attached pieces h pass) d)
+      (subst (λ a. SubmitDoes rules old pass s reply new a standing) (looks_at old serials standing attached pieces h pass) d)

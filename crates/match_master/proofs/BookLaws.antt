@@ -43,28 +43,28 @@ module _ {X G : Type 0} (rules : X → Rules G) where
   -- the state, the log and the lines after an accepted action are those of the match that has grown by it
   grown_is : (old : Held X G) (pass ticket : ℕ) (m : Match X G) (viewer : Option ℕ) (a : Accepted)
       → with_accepted rules old (kept_of rules m) pass (standing_at (rules m.game) m.first (a ∷ m.accepted)) (entry_on (table_of rules m) (number_of m) a) ticket
-        ≡ record old {
-            kept = Some (kept_of rules (record m { accepted = a ∷ m.accepted }));
-            sessions = tell_all pass (ok_line (number_of m + 1) ticket) (update_of rules old.room (record m { accepted = a ∷ m.accepted }) viewer) old.sessions
-          }
+      ≡ record old {
+        kept = Some (kept_of rules (record m { accepted = a ∷ m.accepted }));
+        sessions = tell_all pass (ok_line (number_of m + 1) ticket) (update_of rules old.room (record m { accepted = a ∷ m.accepted }) viewer) old.sessions;
+      }
   grown_is old pass ticket m viewer a =
       let grown : Match X G = record m { accepted = a ∷ m.accepted } in
       let held : List ℕ → List ℕ → Held X G = λ said update. record old { kept = Some (kept_of rules grown); sessions = tell_all pass said update old.sessions } in
       let state : Standing G = standing_at (rules m.game) m.first (a ∷ m.accepted) in
       let line : Data → List ℕ = λ d. text (message.Update (ctx_data (rules m.game).sheet state.table.ctx) d ((rules m.game).value state.table.g) state.number) in
       ap (λ n. held (ok_line n ticket) (line (entry_data (rules m.game).sheet (entry_on (table_of rules m) (number_of m) a)))) (sym (add-one (number_of m)))
-        ∙ ap (λ d. held (ok_line (number_of m + 1) ticket) (line d)) (sym (newest_last (rules m.game).sheet (log_of rules m) (entry_on (table_of rules m) (number_of m) a)))
+      ∙ ap (λ d. held (ok_line (number_of m + 1) ticket) (line d)) (sym (newest_last (rules m.game).sheet (log_of rules m) (entry_on (table_of rules m) (number_of m) a)))
 
   accepted_held : (old : Held X G) (pass : ℕ) (m : Match X G) (viewer : Option ℕ) (s : Submission) (state : Standing G) (entry : Entry) → IsAccepted rules old.room m viewer s state entry
       → with_accepted rules old (kept_of rules m) pass state entry s.ticket ≡ after_submission rules old pass m viewer s None
   accepted_held old pass m viewer s state entry i =
       ap (λ st. with_accepted rules old (kept_of rules m) pass st entry s.ticket) i.state_is
-        ∙ ap (λ en. with_accepted rules old (kept_of rules m) pass (standing_at (rules m.game) m.first (i.deed ∷ m.accepted)) en s.ticket) i.entry_is
-        ∙ grown_is old pass s.ticket m viewer i.deed
-        ∙ ap (λ (n : Match X G). let h : Held X G = record old {
-              kept = Some (kept_of rules n);
-              sessions = tell_all pass (ok_line (number_of m + 1) s.ticket) (update_of rules old.room n viewer) old.sessions
-            } in h) (sym i.match_is)
+      ∙ ap (λ en. with_accepted rules old (kept_of rules m) pass (standing_at (rules m.game) m.first (i.deed ∷ m.accepted)) en s.ticket) i.entry_is
+      ∙ grown_is old pass s.ticket m viewer i.deed
+      ∙ ap (λ (n : Match X G). let h : Held X G = record old {
+        kept = Some (kept_of rules n);
+        sessions = tell_all pass (ok_line (number_of m + 1) s.ticket) (update_of rules old.room n viewer) old.sessions;
+      } in h) (sym i.match_is)
 
   accept_does : (old : Held X G) (pass : ℕ) (m : Match X G) (viewer : Option ℕ) (s : Submission) (state : Standing G) (entry : Entry) (reply : RoomReply) (new : Held X G) → IsAccepted rules old.room m viewer s state entry
       → Does old reply new (answer.Verdict (verdict.Ok state.number)) (with_accepted rules old (kept_of rules m) pass state entry s.ticket)
@@ -72,8 +72,8 @@ module _ {X G : Type 0} (rules : X → Rules G) where
   accept_does old pass m viewer s state entry reply new i d =
       let number : state.number ≡ number_of m + 1 = ap (λ (st : Standing G). st.number) i.state_is ∙ sym (add-one (number_of m)) in
       subst (λ o. Does old reply new (verdict_reply (number_of m) o) (after_submission rules old pass m viewer s o)) (sym i.unbroken)
-          (subst (λ h. Does old reply new (answer.Verdict (verdict.Ok (number_of m + 1))) h) (accepted_held old pass m viewer s state entry i)
-              (subst (λ n. Does old reply new (answer.Verdict (verdict.Ok n)) (with_accepted rules old (kept_of rules m) pass state entry s.ticket)) number d))
+      (subst (λ h. Does old reply new (answer.Verdict (verdict.Ok (number_of m + 1))) h) (accepted_held old pass m viewer s state entry i)
+      (subst (λ n. Does old reply new (answer.Verdict (verdict.Ok n)) (with_accepted rules old (kept_of rules m) pass state entry s.ticket)) number d))
 
   -- an accepted submission, whatever match stands
   pub submit_does : (old : Held X G) (pass : ℕ) (k : Kept X G) (viewer : Option ℕ) (s : Submission) (state : Standing G) (entry : Entry) (reply : RoomReply) (new : Held X G) (standing : Option (Match X G))
@@ -83,4 +83,4 @@ module _ {X G : Type 0} (rules : X → Rules G) where
   submit_does old pass k viewer s state entry reply new None e h i d = absurd (none_kept k (sym e ∙ h))
   submit_does old pass k viewer s state entry reply new (Some m) e h i d =
       accept_does old pass m viewer s state entry reply new (i m (some_kept k (kept_of rules m) (sym e ∙ h)))
-          (subst (λ o. IfSome o (λ held. Does old reply new (answer.Verdict (verdict.Ok state.number)) (with_accepted rules old held pass state entry s.ticket))) h d)
+      (subst (λ o. IfSome o (λ held. Does old reply new (answer.Verdict (verdict.Ok state.number)) (with_accepted rules old held pass state entry s.ticket))) h d)

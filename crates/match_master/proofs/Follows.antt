@@ -66,7 +66,7 @@ module _ {X G : Type 0} (rules : X → Rules G) (room : ℕ) where
     top = refl;
     seen = (omega arith, tt);
     done = tt;
-    is = rw (later-none (rules m.game).sheet (number_of m) (snap rules m viewer ∷ []) (omega arith, tt)) refl
+    is = rw (later-none (rules m.game).sheet (number_of m) (snap rules m viewer ∷ []) (omega arith, tt)) refl;
   }
 
   -- one more item that leaves the number
@@ -84,7 +84,7 @@ module _ {X G : Type 0} (rules : X → Rules G) (room : ℕ) where
         top = f.top;
         seen = f.seen;
         done = (omega arith, omega arith, f.done);
-        is = rw (after, none, at, said, all) (ap (λ x. added ++ x) f.is)
+        is = rw (after, none, at, said, all) (ap (λ x. added ++ x) f.is);
       }
 
   -- one more accepted action, of another session
@@ -100,9 +100,9 @@ module _ {X G : Type 0} (rules : X → Rules G) (room : ℕ) where
       let low : start ≤ n = reached_by n (start_of (name_of rules room m) sheet viewer (oldest sight)) own m viewer f.done (oldest_upto n sight m viewer f.seen) in
       let newer : later_updates sheet start (top ∷ sight) ≡ Line (update_of rules room (grown m a) viewer) ∷ later_updates sheet start sight = later-newer sheet start top sight (omega arith) in
       let items : up_to_items (name_of rules room m) sheet viewer (top ∷ snap rules m viewer ∷ f.rest) own ≡ up_to_items (name_of rules room m) sheet viewer (snap rules m viewer ∷ f.rest) own
-          = items-newer (name_of rules room m) sheet viewer own n top (snap rules m viewer) f.rest f.done below in
+      = items-newer (name_of rules room m) sheet viewer own n top (snap rules m viewer) f.rest f.done below in
       let items_same : up_to_items (name_of rules room m) sheet viewer (top ∷ sight) own ≡ up_to_items (name_of rules room m) sheet viewer sight own
-          = subst (λ s. up_to_items (name_of rules room m) sheet viewer (top ∷ s) own ≡ up_to_items (name_of rules room m) sheet viewer s own) (sym f.top) items in
+      = subst (λ s. up_to_items (name_of rules room m) sheet viewer (top ∷ s) own ≡ up_to_items (name_of rules room m) sheet viewer s own) (sym f.top) items in
       let oldest_same : oldest (top ∷ sight) ≡ oldest sight = subst (λ s. oldest (top ∷ s) ≡ oldest s) (sym f.top) refl in
       record {
         rest = sight;
@@ -111,14 +111,14 @@ module _ {X G : Type 0} (rules : X → Rules G) (room : ℕ) where
         done = by_more n (number_of (grown m a)) own (omega arith) f.done;
         is = subst (λ (o : Option Snap). Line (update_of rules room (grown m a) viewer) ∷ ps
             ≡ later_updates sheet (reached (name_of rules room m) sheet viewer (start_of (name_of rules room m) sheet viewer o) own) (top ∷ sight) ++ up_to_items (name_of rules room m) sheet viewer (top ∷ sight) own) (sym oldest_same)
-            (rw (newer, items_same) (ap (λ x. Line (update_of rules room (grown m a) viewer) ∷ x) f.is))
+            (rw (newer, items_same) (ap (λ x. Line (update_of rules room (grown m a) viewer) ∷ x) f.is));
       }
 
   -- one more accepted action, of the session itself
   pub follows_own : (m : Match X G) (viewer : Option ℕ) (ps : List Piece) (sight : List Snap) (own : List Item) → Follows m viewer ps sight own
       → (a : Deed) (s : Submission) → broken_on (name_of rules room m) (rules m.game).sheet viewer (at_number (number_of m) (snap rules (grown m a) viewer ∷ sight)) s ≡ None
       → Follows (grown m a) viewer (Line (ok_line (number_of m + 1) s.ticket) ∷ Line (update_of rules room (grown m a) viewer) ∷ ps) (snap rules (grown m a) viewer ∷ sight)
-          (Submitted (number_of m) s false Accepted ∷ own)
+      (Submitted (number_of m) s false Accepted ∷ own)
   unfolding stream
   follows_own m viewer ps sight own f a s unbroken =
       let n : ℕ = number_of m in
@@ -131,9 +131,9 @@ module _ {X G : Type 0} (rules : X → Rules G) (room : ℕ) where
       let between : updates sheet start n (top ∷ sight) ≡ updates sheet start n sight = updates-newer sheet start n top sight (omega arith) in
       let all : updates sheet start n sight ≡ later_updates sheet start sight = updates-all sheet start n sight f.seen in
       let items : up_to_items (name_of rules room m) sheet viewer (top ∷ snap rules m viewer ∷ f.rest) own ≡ up_to_items (name_of rules room m) sheet viewer (snap rules m viewer ∷ f.rest) own
-          = items-newer (name_of rules room m) sheet viewer own n top (snap rules m viewer) f.rest f.done (omega arith) in
+      = items-newer (name_of rules room m) sheet viewer own n top (snap rules m viewer) f.rest f.done (omega arith) in
       let items_same : up_to_items (name_of rules room m) sheet viewer (top ∷ sight) own ≡ up_to_items (name_of rules room m) sheet viewer sight own
-          = subst (λ s. up_to_items (name_of rules room m) sheet viewer (top ∷ s) own ≡ up_to_items (name_of rules room m) sheet viewer s own) (sym f.top) items in
+      = subst (λ s. up_to_items (name_of rules room m) sheet viewer (top ∷ s) own ≡ up_to_items (name_of rules room m) sheet viewer s own) (sym f.top) items in
       let oldest_same : oldest (top ∷ sight) ≡ oldest sight = subst (λ s. oldest (top ∷ s) ≡ oldest s) (sym f.top) refl in
       record {
         rest = sight;
@@ -142,8 +142,8 @@ module _ {X G : Type 0} (rules : X → Rules G) (room : ℕ) where
         done = (omega arith, omega arith, by_more n (number_of (grown m a)) own (omega arith) f.done);
         is = subst (λ (o : Option Snap). Line (ok_line (n + 1) s.ticket) ∷ Line (update_of rules room (grown m a) viewer) ∷ ps
             ≡ later_updates sheet (n + 1) (top ∷ sight) ++ (says (name_of rules room m) sheet viewer (Submitted n s false Accepted) (top ∷ sight)
-                ++ (updates sheet (reached (name_of rules room m) sheet viewer (start_of (name_of rules room m) sheet viewer o) own) n (top ∷ sight) ++ up_to_items (name_of rules room m) sheet viewer (top ∷ sight) own))) (sym oldest_same)
-            (rw (none, unbroken, one, between, all, items_same) (ap (λ x. Line (ok_line (n + 1) s.ticket) ∷ Line (update_of rules room (grown m a) viewer) ∷ x) f.is))
+            ++ (updates sheet (reached (name_of rules room m) sheet viewer (start_of (name_of rules room m) sheet viewer o) own) n (top ∷ sight) ++ up_to_items (name_of rules room m) sheet viewer (top ∷ sight) own))) (sym oldest_same)
+            (rw (none, unbroken, one, between, all, items_same) (ap (λ x. Line (ok_line (n + 1) s.ticket) ∷ Line (update_of rules room (grown m a) viewer) ∷ x) f.is));
       }
 
   -- the public rule that the stream finds on the present snapshot is the one that the room finds

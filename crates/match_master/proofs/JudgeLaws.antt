@@ -129,7 +129,7 @@ module _ {X G : Type 0} (rules : X → Rules G) (room : ℕ) where
     match_is = with_deed m viewer (act_of (rules m.game).sheet s.asked) seat act p q;
     state_is = st;
     sound = sound;
-    entry_is = e
+    entry_is = e;
   }
 
   pub refused_is : (m : Match X G) (viewer : Option ℕ) (s : Submission) (seat : ℕ) (act : Act) (rule : GameRule) → viewer ≡ Some seat → act_of (rules m.game).sheet s.asked ≡ Some act
@@ -144,8 +144,8 @@ module _ {X G : Type 0} (rules : X → Rules G) (room : ℕ) where
       → IsAccepted rules room m viewer s next entry
   accepted_at m kept e =
       subst (λ (k : Kept X G). (viewer : Option ℕ) (s : Submission) (seat : ℕ) (act : Act) (next : Standing G) (entry : Entry) → viewer ≡ Some seat
-          → act_of (rules k.game).sheet s.asked ≡ Some act → once (rules k.game) k.state.table seat act ≡ Ok next.table
-          → ((first : Table G) (accepted : List Accepted) → k.state ≡ standing_at (rules k.game) first accepted → next ≡ standing_at (rules k.game) first (record { seat = seat; act = act } ∷ accepted))
-          → IsSound (rules k.game) next → entry ≡ entry_on k.state.table k.state.number (record { seat = seat; act = act }) → public_broken rules room m viewer s ≡ None
-          → IsAccepted rules room m viewer s next entry) e
-          (λ viewer s seat act next entry p q o st sound en n. accepted_is m viewer s seat act next entry p q n o (st m.first m.accepted refl) sound en)
+      → act_of (rules k.game).sheet s.asked ≡ Some act → once (rules k.game) k.state.table seat act ≡ Ok next.table
+      → ((first : Table G) (accepted : List Accepted) → k.state ≡ standing_at (rules k.game) first accepted → next ≡ standing_at (rules k.game) first (record { seat = seat; act = act } ∷ accepted))
+      → IsSound (rules k.game) next → entry ≡ entry_on k.state.table k.state.number (record { seat = seat; act = act }) → public_broken rules room m viewer s ≡ None
+      → IsAccepted rules room m viewer s next entry) e
+      (λ viewer s seat act next entry p q o st sound en n. accepted_is m viewer s seat act next entry p q n o (st m.first m.accepted refl) sound en)

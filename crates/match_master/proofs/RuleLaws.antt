@@ -44,7 +44,7 @@ seat_admitted sheet ctx number seat a at h =
       viewer_is = refl;
       act_is = found.1;
       below = h.1.0;
-      has = subst (λ o. has_act sheet ctx seat a o ≡ true) found.1 (not_false (has_act sheet ctx seat a (act_of sheet a)) h.1.1.1.1.0)
+      has = subst (λ o. has_act sheet ctx seat a o ≡ true) found.1 (not_false (has_act sheet ctx seat a (act_of sheet a)) h.1.1.1.1.0);
     }
 
 spectator_refused : NoneHolds ((true, Unauthorized) ∷ []) → ⊥

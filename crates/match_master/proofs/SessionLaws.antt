@@ -35,7 +35,7 @@ pub room_at : (es : List (ℕ × Session)) (i pass said all : ℕ) (v : Session)
 room_at [] i pass said all v own at r = absurd (none_is v at.held)
 room_at (x ∷ es) zero pass said all v own at r =
     subst (λ b. vec_len v.waiting + needs b said all ≤ vec_capacity v.waiting) (sym (at.owned x refl))
-        (subst (λ (s : Session). vec_len s.waiting + needs (x.0 == pass) said all ≤ vec_capacity s.waiting) (some_is x.1 v at.held) r.0)
+    (subst (λ (s : Session). vec_len s.waiting + needs (x.0 == pass) said all ≤ vec_capacity s.waiting) (some_is x.1 v at.held) r.0)
 room_at (x ∷ es) (suc i) pass said all v own at r = room_at es i pass said all v own (record { held = at.held; owned = at.owned }) r
 
 pub told_at : (es : List (ℕ × Session)) (i pass : ℕ) (said all : List ℕ) (v w : Session) (own : Bool) → IsAt es i v pass own → shown_of w ≡ record { viewer = v.viewer; bytes = with_told own said all v.waiting.items }
@@ -43,8 +43,8 @@ pub told_at : (es : List (ℕ × Session)) (i pass : ℕ) (said all : List ℕ) 
 told_at [] i pass said all v w own at h = refl
 told_at (x ∷ es) zero pass said all v w own at h =
     ap (λ s. (x.0, s) ∷ all_shown es)
-        (h ∙ ap (λ b. let s : Shown = record { viewer = v.viewer; bytes = with_told b said all v.waiting.items } in s) (at.owned x refl)
-           ∙ ap (λ (u : Session). let s : Shown = record { viewer = u.viewer; bytes = with_told (x.0 == pass) said all u.waiting.items } in s) (sym (some_is x.1 v at.held)))
+    (h ∙ ap (λ b. let s : Shown = record { viewer = v.viewer; bytes = with_told b said all v.waiting.items } in s) (at.owned x refl)
+    ∙ ap (λ (u : Session). let s : Shown = record { viewer = u.viewer; bytes = with_told (x.0 == pass) said all u.waiting.items } in s) (sym (some_is x.1 v at.held)))
 told_at (x ∷ es) (suc i) pass said all v w own at h = ap (λ l. shown_entry x ∷ l) (told_at es i pass said all v w own (record { held = at.held; owned = at.owned }) h)
 
 pub room_after : (es : List (ℕ × Session)) (i pass said all : ℕ) (w : Session) → HaveRoomFrom i pass said all es → HaveRoomFrom (suc i) pass said all (set_value_at es i w)
@@ -152,4 +152,4 @@ pub taken_out : (es : List (ℕ × Session)) (pass i : ℕ) (v w : Session) → 
     → TakesOut pass v.waiting.items (lookup (nat_eq pass) (all_shown es)) (all_shown es) (all_shown (set_value_at es i w))
 taken_out es pass i v w found at emptied =
     subst (λ o. TakesOut pass v.waiting.items o (all_shown es) (all_shown (set_value_at es i w))) (sym (lookup_shown es pass ∙ ap (option_map shown_of) found))
-        (refl, ap all_shown (put_at es pass i w at) ∙ shown_put es pass w ∙ ap (insert_entry nat_eq (all_shown es) pass) emptied)
+    (refl, ap all_shown (put_at es pass i w at) ∙ shown_put es pass w ∙ ap (insert_entry nat_eq (all_shown es) pass) emptied)

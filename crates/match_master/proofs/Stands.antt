@@ -73,20 +73,20 @@ module _ {X G : Type 0} (rules : X → Rules G) where
   pub stands_at : (held : Held X G) (h : List (Entry (RoomCall X))) (room : ℕ) → held.room ≡ room → Holds rules held (serials rules room h) (standing rules room h) (attached rules room h) (pieces rules room h) → StandsFor rules held h
   stands_at held h room e =
       subst (λ n. Holds rules held (serials rules n h) (standing rules n h) (attached rules n h) (pieces rules n h) → StandsFor rules held h) e
-          (λ k. record { serials_held = k.serials_held; match_held = k.match_held; sessions_held = λ pass. k.sessions_held pass ∙ sym (kept_is rules held.room h pass) })
+      (λ k. record { serials_held = k.serials_held; match_held = k.match_held; sessions_held = λ pass. k.sessions_held pass ∙ sym (kept_is rules held.room h pass) })
 
   pub holds_at : (held : Held X G) (h : List (Entry (RoomCall X))) → StandsFor rules held h → Holds rules held (serials rules held.room h) (standing rules held.room h) (attached rules held.room h) (pieces rules held.room h)
   holds_at held h s = holds_of rules held.room held h refl s.serials_held s.match_held s.sessions_held
 
   answered_by : (room : ℕ) (new : Held X G) (h : List (Entry (RoomCall X))) (pass : ℕ) (call : RoomCall X) (result : RoomReply) (b : Bool) → is_starved result ≡ b
       → MatchBool b (Holds rules new (serials rules room h) (standing rules room h) (attached rules room h) (pieces rules room h))
-          ((result ≡ answer_to rules room (serials rules room h) (standing rules room h) (attached rules room h pass) (pieces rules room h pass) call)
-            × Holds rules new (serials_after rules room (serials rules room h) (standing rules room h) call) (standing_after rules room (serials rules room h) (standing rules room h) (attached rules room h pass) call)
-                (λ q. if pass == q then attached_after (standing rules room h) (attached rules room h q) call else attached rules room h q)
-                (λ q. pieces_after rules room (standing rules room h) (attached rules room h pass) (pass == q) (attached rules room h q) (pieces rules room h q) call))
+      ((result ≡ answer_to rules room (serials rules room h) (standing rules room h) (attached rules room h pass) (pieces rules room h pass) call)
+      × Holds rules new (serials_after rules room (serials rules room h) (standing rules room h) call) (standing_after rules room (serials rules room h) (standing rules room h) (attached rules room h pass) call)
+      (λ q. if pass == q then attached_after (standing rules room h) (attached rules room h q) call else attached rules room h q)
+      (λ q. pieces_after rules room (standing rules room h) (attached rules room h pass) (pass == q) (attached rules room h q) (pieces rules room h q) call))
       → (result ≡ reply rules room h (record { pass = pass; call = call; starved = b }))
-        × Holds rules new (serials rules room (record { pass = pass; call = call; starved = b } ∷ h)) (standing rules room (record { pass = pass; call = call; starved = b } ∷ h))
-            (attached rules room (record { pass = pass; call = call; starved = b } ∷ h)) (pieces rules room (record { pass = pass; call = call; starved = b } ∷ h))
+      × Holds rules new (serials rules room (record { pass = pass; call = call; starved = b } ∷ h)) (standing rules room (record { pass = pass; call = call; starved = b } ∷ h))
+      (attached rules room (record { pass = pass; call = call; starved = b } ∷ h)) (pieces rules room (record { pass = pass; call = call; starved = b } ∷ h))
   unfolding reply
   answered_by room new h pass call result true s k = (starved_is result s, k)
   answered_by room new h pass call result false s k = (k.0 ∙ answer_is rules room h pass call, k.1)
@@ -112,24 +112,24 @@ module _ {X G : Type 0} (rules : X → Rules G) where
       → IsDone old new h pass call result
   create_done old new h s pass game seats seed call result e r d =
       done_as old new h pass call (Create game seats seed) result e (finish old new h pass (Create game seats seed) result r
-          (create_advances rules old (serials rules old.room h) (standing rules old.room h) (attached rules old.room h) (pieces rules old.room h) (holds_at old h s) pass game seats seed result new (d (standing rules old.room h) s.match_held)))
+      (create_advances rules old (serials rules old.room h) (standing rules old.room h) (attached rules old.room h) (pieces rules old.room h) (holds_at old h s) pass game seats seed result new (d (standing rules old.room h) s.match_held)))
 
   pub attach_done : (old new : Held X G) (h : List (Entry (RoomCall X))) → StandsFor rules old h → (pass serial : ℕ) (claim : Option (ℕ × List ℕ)) (call : RoomCall X) (result : RoomReply) → call ≡ Attach serial claim → new.room ≡ old.room
       → ((st : Option (Match X G)) → old.kept ≡ option_map (kept_of rules) st → Does old result new (attach_reply (attach st (viewer_in old pass) serial claim)) (after_attach rules old pass st (attach st (viewer_in old pass) serial claim)))
       → IsDone old new h pass call result
   attach_done old new h s pass serial claim call result e r d =
       done_as old new h pass call (Attach serial claim) result e (finish old new h pass (Attach serial claim) result r
-          (attach_advances rules old (serials rules old.room h) (standing rules old.room h) (attached rules old.room h) (pieces rules old.room h) (holds_at old h s) pass serial claim result new (d (standing rules old.room h) s.match_held)))
+      (attach_advances rules old (serials rules old.room h) (standing rules old.room h) (attached rules old.room h) (pieces rules old.room h) (holds_at old h s) pass serial claim result new (d (standing rules old.room h) s.match_held)))
 
   pub submit_done : (old new : Held X G) (h : List (Entry (RoomCall X))) → StandsFor rules old h → (pass : ℕ) (sub : Submission) (call : RoomCall X) (result : RoomReply) → call ≡ Submit sub.name sub.key sub.number sub.ticket sub.asked → new.room ≡ old.room
       → ((st : Option (Match X G)) → old.kept ≡ option_map (kept_of rules) st → SubmitDoes rules old pass sub result new (viewer_in old pass) st)
       → IsDone old new h pass call result
   submit_done old new h s pass sub call result e r d =
       done_as old new h pass call (Submit sub.name sub.key sub.number sub.ticket sub.asked) result e (finish old new h pass (Submit sub.name sub.key sub.number sub.ticket sub.asked) result r
-          (submit_advances rules old (serials rules old.room h) (standing rules old.room h) (attached rules old.room h) (pieces rules old.room h) (holds_at old h s) pass sub result new (d (standing rules old.room h) s.match_held)))
+      (submit_advances rules old (serials rules old.room h) (standing rules old.room h) (attached rules old.room h) (pieces rules old.room h) (holds_at old h s) pass sub result new (d (standing rules old.room h) s.match_held)))
 
   pub take_done : (old new : Held X G) (h : List (Entry (RoomCall X))) → StandsFor rules old h → (pass : ℕ) (call : RoomCall X) (result : RoomReply) → call ≡ Take → new.room ≡ old.room
       → result ≡ taken_of (lookup (nat_eq pass) old.sessions) → new ≡ after_take old pass (lookup (nat_eq pass) old.sessions) → is_starved result ≡ false → IsDone old new h pass call result
   take_done old new h s pass call result e r t n f =
       done_as old new h pass call Take result e (finish old new h pass Take result r
-          (take_advances rules old (serials rules old.room h) (standing rules old.room h) (attached rules old.room h) (pieces rules old.room h) (holds_at old h s) pass result new t n f))
+      (take_advances rules old (serials rules old.room h) (standing rules old.room h) (attached rules old.room h) (pieces rules old.room h) (holds_at old h s) pass result new t n f))

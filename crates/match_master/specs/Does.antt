@@ -43,14 +43,14 @@ module _ {X G : Type 0} (rules : X → Rules G) where
   abbrev pub with_accepted : Held X G → Kept X G → ℕ → Standing G → Entry → ℕ → Held X G
   with_accepted held k pass state entry ticket = record held {
     kept = Some (record k { state = state; log = k.log ++ entry ∷ [] });
-    sessions = tell_all pass (ok_line state.number ticket) (update_text (rules k.game) state entry) held.sessions
+    sessions = tell_all pass (ok_line state.number ticket) (update_text (rules k.game) state entry) held.sessions;
   }
 
   abbrev pub after_submission : Held X G → ℕ → Match X G → Option ℕ → Submission → Option Reason → Held X G
   after_submission held pass m viewer s (Some reason) = with_refused held pass (number_of m) reason s.ticket
   after_submission held pass m viewer s None = record held {
     kept = Some (kept_of rules (accept rules m viewer s));
-    sessions = tell_all pass (ok_line (number_of m + 1) s.ticket) (update_of rules held.room (accept rules m viewer s) viewer) held.sessions
+    sessions = tell_all pass (ok_line (number_of m + 1) s.ticket) (update_of rules held.room (accept rules m viewer s) viewer) held.sessions;
   }
 
   abbrev pub SubmitDoes : Held X G → ℕ → Submission → RoomReply → Held X G → Option (Option ℕ) → Option (Match X G) → Type 0

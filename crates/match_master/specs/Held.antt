@@ -88,10 +88,10 @@ module _ {X G : Type 0} (rules : X → Rules G) (room : ℕ) where
   abbrev pub Advances : Held X G → ℕ → Option (Match X G) → (ℕ → Option (Option ℕ)) → (ℕ → List Piece) → ℕ → RoomCall X → RoomReply → Type 0
   Advances held serials standing attached pieces pass call reply =
       MatchBool (is_starved reply) (Holds rules held serials standing attached pieces)
-          ((reply ≡ answer_to serials standing (attached pass) (pieces pass) call)
-            × Holds rules held (serials_after rules room serials standing call) (standing_after rules room serials standing (attached pass) call)
-                (λ q. if pass == q then attached_after standing (attached q) call else attached q)
-                (λ q. pieces_after rules room standing (attached pass) (pass == q) (attached q) (pieces q) call))
+      ((reply ≡ answer_to serials standing (attached pass) (pieces pass) call)
+      × Holds rules held (serials_after rules room serials standing call) (standing_after rules room serials standing (attached pass) call)
+      (λ q. if pass == q then attached_after standing (attached q) call else attached q)
+      (λ q. pieces_after rules room standing (attached pass) (pass == q) (attached q) (pieces q) call))
 
 -- what is kept of an attachment for which these bytes wait
 abbrev pub stored_bytes : Option (Option ℕ) → Option (List ℕ) → Option Shown

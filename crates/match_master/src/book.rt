@@ -151,7 +151,9 @@ impl<X: Game + Drop> Book<X> {
         ensures room { self.new.room ≡ self.old.room }
         ensures does { Does self.old result self.new (answer.Verdict (verdict.No number reason)) (with_refused self.old pass number reason ticket) }
     {
-        let Ok(said) = line::no(self.alloc, number, reason, ticket) else { return RoomReply::NoMemory; };
+        let Ok(said) = line::no(self.alloc, number, reason, ticket) else {
+            return RoomReply::NoMemory;
+        };
         match session::reserve(&mut self.sessions, pass, said.len(), 0) {
             Err(_) => RoomReply::NoMemory,
             Ok(()) => {
@@ -168,13 +170,25 @@ impl<X: Game + Drop> Book<X> {
         ensures room { self.new.room ≡ self.old.room }
         ensures does { IfSome self.old.kept (λ k. Does self.old result self.new (answer.Verdict (verdict.Ok state.number)) (with_accepted X.rules self.old k pass state entry ticket)) }
     {
-        let Some(kept) = &self.kept else { unreachable!(); };
+        let Some(kept) = &self.kept else {
+            unreachable!();
+        };
         let number = state.number();
-        let Ok(update) = line::update(self.alloc, &kept.game, &state, &entry) else { return RoomReply::NoMemory; };
-        let Ok(said) = line::ok(self.alloc, number, ticket) else { return RoomReply::NoMemory; };
-        let Ok(()) = session::reserve(&mut self.sessions, pass, said.len(), update.len()) else { return RoomReply::NoMemory; };
-        let Some(kept) = &mut self.kept else { unreachable!(); };
-        let Ok(()) = kept.advance(state, entry) else { return RoomReply::NoMemory; };
+        let Ok(update) = line::update(self.alloc, &kept.game, &state, &entry) else {
+            return RoomReply::NoMemory;
+        };
+        let Ok(said) = line::ok(self.alloc, number, ticket) else {
+            return RoomReply::NoMemory;
+        };
+        let Ok(()) = session::reserve(&mut self.sessions, pass, said.len(), update.len()) else {
+            return RoomReply::NoMemory;
+        };
+        let Some(kept) = &mut self.kept else {
+            unreachable!();
+        };
+        let Ok(()) = kept.advance(state, entry) else {
+            return RoomReply::NoMemory;
+        };
         session::deliver(&mut self.sessions, pass, said.as_slice(), update.as_slice());
         RoomReply::Verdict(Verdict::Ok { number })
     }
@@ -185,13 +199,22 @@ impl<X: Game + Drop> Book<X> {
         ensures does { (standing : Option (Match X X.G)) → self.old.kept ≡ option_map (kept_of X.rules) standing
             → SubmitDoes X.rules self.old pass submission result self.new (viewer_in self.old pass) standing }
     {
-        let Some(viewer) = session::viewer_of(&self.sessions, pass) else { return RoomReply::NotAttached; };
-        let Some(kept) = &self.kept else { return RoomReply::NotAttached; };
+        let Some(viewer) = session::viewer_of(&self.sessions, pass) else {
+            return RoomReply::NotAttached;
+        };
+        let Some(kept) = &self.kept else {
+            return RoomReply::NotAttached;
+        };
         let number = kept.state.number();
         match judge(self.alloc, self.room, kept, viewer, &submission) {
             Err(_) => RoomReply::NoMemory,
             Ok(Judged::Refused(reason)) => self.refuse(pass, number, reason, submission.ticket),
-            Ok(Judged::Accepted { state, entry }) => self.accept(pass, state, entry, submission.ticket),
+            Ok(Judged::Accepted { state, entry }) => self.accept(
+                pass,
+                state,
+                entry,
+                submission.ticket,
+            ),
         }
     }
 
@@ -215,9 +238,20 @@ impl<X: Game + Drop> Book<X> {
         ensures does { IfSome self.old.kept (λ k. Does self.old result self.new answer.Attached
             (record self.old { sessions = insert_entry nat_eq self.old.sessions pass (record { viewer = viewer; bytes = sync_text X.rules self.old.room k viewer }) })) }
     {
-        let Some(kept) = &self.kept else { unreachable!(); };
+        let Some(kept) = &self.kept else {
+            unreachable!();
+        };
         let name = MatchName::new(self.room, kept.serial);
-        let Ok(line) = line::sync(self.alloc, &kept.game, name, viewer, &kept.state, kept.log.as_slice()) else { return RoomReply::NoMemory; };
+        let Ok(line) = line::sync(
+            self.alloc,
+            &kept.game,
+            name,
+            viewer,
+            &kept.state,
+            kept.log.as_slice(),
+        ) else {
+            return RoomReply::NoMemory;
+        };
         match session::attach(&mut self.sessions, pass, viewer, line) {
             Ok(()) => RoomReply::Attached,
             Err(_) => RoomReply::NoMemory,
@@ -247,7 +281,9 @@ fn admit(
     if before.is_some() {
         return Err(RoomReply::AlreadyAttached);
     }
-    let Some((standing, seats)) = at else { return Err(RoomReply::NoMatch); };
+    let Some((standing, seats)) = at else {
+        return Err(RoomReply::NoMatch);
+    };
     if standing != serial {
         return Err(RoomReply::NoMatch);
     }

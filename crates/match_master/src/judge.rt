@@ -94,8 +94,12 @@ fn play<X: Game>(
     ensures judged { IfOk result (λ judged. (m : Match X X.G) → kept.now ≡ kept_of X.rules m → public_broken X.rules room m viewer submission.now ≡ None → IsJudged X.rules room m viewer submission.now judged) }
 {
     let _room = room;
-    let Some(seat) = viewer else { unreachable!(); };
-    let Some(act) = resolve(kept.game.sheet(), &submission.asked) else { unreachable!(); };
+    let Some(seat) = viewer else {
+        unreachable!();
+    };
+    let Some(act) = resolve(kept.game.sheet(), &submission.asked) else {
+        unreachable!();
+    };
     match step(alloc, &kept.game, &kept.state, seat, &act) {
         Ok(state) => {
             let entry = entry_on(&kept.state, seat, act);

@@ -55,18 +55,17 @@ pub fn take(alloc: Global, sessions: &mut Sessions, pass: u32) -> Option<Vec<u8>
     ensures { MatchOption result ((lookup (nat_eq pass) (all_shown sessions.old.entries) ≡ None) × (all_shown sessions.new.entries ≡ all_shown sessions.old.entries))
         (λ bytes. TakesOut pass bytes.items (lookup (nat_eq pass) (all_shown sessions.old.entries)) (all_shown sessions.old.entries) (all_shown sessions.new.entries)) }
 {
-    let Some(place) = sessions.get_index_of(&pass) else { return None; };
-    let Some(session) = sessions.get_index_mut(place) else { unreachable!(); };
+    let Some(place) = sessions.get_index_of(&pass) else {
+        return None;
+    };
+    let Some(session) = sessions.get_index_mut(place) else {
+        unreachable!();
+    };
     Some(mem::replace(&mut session.waiting, Vec::new(alloc)))
 }
 
 /// Makes room for what each attachment gains: `all` bytes, and `said` more for the pass's own. No attachment changes.
-pub fn reserve(
-    sessions: &mut Sessions,
-    pass: u32,
-    said: usize,
-    all: usize,
-) -> Result<(), NoMemory>
+pub fn reserve(sessions: &mut Sessions, pass: u32, said: usize, all: usize) -> Result<(), NoMemory>
     requires { all + said < 2 ^ 64 }
     ensures same { all_shown sessions.new.entries ≡ all_shown sessions.old.entries }
     ensures room { OnOk result (HaveRoomFrom 0 pass said all sessions.new.entries) }
@@ -103,7 +102,9 @@ fn reserve_at(
     ensures room { OnOk result (HaveRoomTo place pass said all sessions.old.entries → HaveRoomTo (place + 1) pass said all sessions.new.entries) }
 {
     let own = is_own(sessions, place, pass);
-    let Some(session) = sessions.get_index_mut(place) else { unreachable!(); };
+    let Some(session) = sessions.get_index_mut(place) else {
+        unreachable!();
+    };
     match session.waiting.reserve(gain(own, said, all)) {
         Ok(()) => Ok(()),
         Err(_) => Err(NoMemory),
@@ -126,7 +127,9 @@ fn deliver_at(sessions: &mut Sessions, place: usize, pass: u32, said: &[u8], all
     ensures room { HaveRoomFrom (place + 1) pass (length said.now) (length all.now) sessions.new.entries }
 {
     let own = is_own(sessions, place, pass);
-    let Some(session) = sessions.get_index_mut(place) else { unreachable!(); };
+    let Some(session) = sessions.get_index_mut(place) else {
+        unreachable!();
+    };
     tell(session, own, said, all);
 }
 

@@ -6,4 +6,4 @@ use Rattle.match_master.proofs.judge.judge.Goals as goal
 pub play-requires-clause-admitted : goal.play-requires-clause-admitted
 play-requires-clause-admitted g c =
     public_admits (g.X.Game.rules c.args.kept.now.game).sheet c.args.kept.now.state.table.ctx c.args.kept.now.state.number (is_named c.args.room c.args.kept.now.serial c.args.submission.now.name) c.args.viewer true
-        c.args.submission.now.asked c.args.submission.now.number (sym c.in-None.ensures)
+    c.args.submission.now.asked c.args.submission.now.number (sym c.in-None.ensures)

@@ -9,4 +9,4 @@ step-requires-clause-act g c =
 pub returns-in-Ok-clause-judged : goal.returns-in-Ok-clause-judged
 returns-in-Ok-clause-judged g c = λ m h n.
     accepted_at g.X.Game.rules c.args.room m c.args.kept.now (sym h) c.args.viewer c.args.submission.now c.in-Some.seat c.in-Some-resolve.act c.in-Ok.state c.entry_on-entry.result
-        c.in-Some.is (sym (rw c.sheet.ensures.value at c.in-Some-resolve.ensures)) c.in-Ok.ensures.answer.0 c.in-Ok.ensures.stands c.in-Ok.ensures.sound c.entry_on-entry.ensures n
+    c.in-Some.is (sym (rw c.sheet.ensures.value at c.in-Some-resolve.ensures)) c.in-Ok.ensures.answer.0 c.in-Ok.ensures.stands c.in-Ok.ensures.sound c.entry_on-entry.ensures n

@@ -12,6 +12,6 @@ returns g c =
     let entry = rw c.sheet-2.ensures.value at c.in_ok-entry.ensures.value in
     let value = rw c.g.ensures at c.in_ok-g.ensures.value in
     subst (λ n. IfOk c.write_server.result (λ line. line.items ≡ text (Update (ctx_data rules.sheet c.args.state.now.table.ctx) (entry_data rules.sheet c.args.entry.now) (rules.value c.args.state.now.table.g) n))) c.number.ensures
-        (subst (λ d. IfOk c.write_server.result (λ line. line.items ≡ text (Update (ctx_data rules.sheet c.args.state.now.table.ctx) (entry_data rules.sheet c.args.entry.now) d c.number.result))) (c.new-3.ensures ∙ value)
-            (subst (λ d. IfOk c.write_server.result (λ line. line.items ≡ text (Update (ctx_data rules.sheet c.args.state.now.table.ctx) d c.new-3.result c.number.result))) (c.new-2.ensures ∙ entry)
-                (subst (λ d. IfOk c.write_server.result (λ line. line.items ≡ text (Update d c.new-2.result c.new-3.result c.number.result))) (c.new.ensures ∙ ctx) c.write_server.ensures.text)))
+    (subst (λ d. IfOk c.write_server.result (λ line. line.items ≡ text (Update (ctx_data rules.sheet c.args.state.now.table.ctx) (entry_data rules.sheet c.args.entry.now) d c.number.result))) (c.new-3.ensures ∙ value)
+    (subst (λ d. IfOk c.write_server.result (λ line. line.items ≡ text (Update (ctx_data rules.sheet c.args.state.now.table.ctx) d c.new-3.result c.number.result))) (c.new-2.ensures ∙ entry)
+    (subst (λ d. IfOk c.write_server.result (λ line. line.items ≡ text (Update d c.new-2.result c.new-3.result c.number.result))) (c.new.ensures ∙ ctx) c.write_server.ensures.text)))
