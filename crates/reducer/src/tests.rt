@@ -1,7 +1,7 @@
 //! The reducer at a small game: two seats take stones from a pile, one a turn, and the match is drawn when none is left.
 
 ghost use Rattle.std.specs.Prelude.{◌≡◌, ◌+◌, ◌<◌, IfOk, length};
-ghost use Rattle.game_trait.specs.SheetFits.{SheetFits};
+ghost use Rattle.game_sheet.specs.SheetFits.{SheetFits};
 ghost use Rattle.reducer.specs.Sound.{IsSound};
 
 use crate::{StartNo, State, start, step};
