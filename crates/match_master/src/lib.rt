@@ -15,3 +15,4 @@ pub use book::Book;
 pub use call::RoomCall;
 pub use reply::RoomReply;
 pub use rule::public_rule;
+pub use submission::Submission;
