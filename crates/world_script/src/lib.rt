@@ -3,9 +3,15 @@
 
 mod chunk;
 mod command;
+mod exit;
 mod lines;
 mod next;
+mod room;
+mod script;
+mod stage;
 
 pub use command::{Command, command_of};
+pub use exit::Exit;
 pub use lines::Lines;
 pub use next::Next;
+pub use script::run_script;

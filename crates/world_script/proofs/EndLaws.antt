@@ -1,0 +1,153 @@
+-- How the answers to a line and to its reading end a run, or let it go on.
+use Rattle.std.proofs.Common.{◌≡◌, ◌≤◌, ◌+◌, ℕ, false, List, [], ◌++◌, Option, Some, None, IsSome, refl, sym, ap, ◌∙◌, subst, append-nil, arith}
+use Rattle.board_links.specs.Faults.{HasRisen}
+use Rattle.board_links.specs.Pieces.{told_bytes}
+use Rattle.match_master.specs.Held.{Held, StandsFor}
+use Rattle.match_master.specs.declared.call.RoomCall.{RoomCall}
+use Rattle.room_desk.specs.Entry.{Entry}
+use Rattle.table_games.specs.declared.board.Board.{Board}
+use Rattle.table_games.specs.declared.tic_tac_toe.TicTacToe.{TicTacToe}
+use Rattle.world_script.specs.Reading.{Answers, Raises, given_after}
+use Rattle.world_script.specs.Running.{Ends, ExitRaises, RanLine, RanRaises, Underway, StopsEarly, stop_at, end_at, tic_tac_toe_rules}
+use Rattle.world_script.specs.Reader.{Reader, fresh, to_come}
+use Rattle.world_script.specs.Transcript.{no_lines_yet}
+use Rattle.world_script.specs.ScriptLines.{Script, Ended, TooLong, TooMany, first_line, script}
+use Rattle.world_script.specs.declared.exit.Exit.{Exit}
+use Rattle.world_script.specs.declared.exit.Exit.TheVariants.{Done, BadLine, ReadFault, WriteFault, NoMemory}
+use Rattle.world_script.specs.declared.next.Next.{Next}
+use Rattle.world_script.specs.declared.next.Next.TheVariants as next
+use Rattle.world_script.specs.declared.script.Ran.{Ran}
+use Rattle.world_script.specs.declared.script.Ran.TheVariants as ran
+use Rattle.world_script.specs.declared.stage.Stage.{Stage}
+use Rattle.world_script.proofs.RunLaws.{begins, goes_on, some_game, nothing_played, stops, ends_at, ends_bad, breaks}
+
+exit_is : (a b : Exit) → Some a ≡ Some b → a ≡ b
+exit_is a b h = cc
+
+no_exit : (a : Exit) → None ≡ Some a → ⊥
+no_exit a h = cc
+
+some_exit : (a : Exit) → Some a ≡ None → ⊥
+some_exit a h = cc
+
+pub line_is : (n : Next) (given : ℕ) → stop_at n given ≡ None → n ≡ next.Line
+line_is next.Line given h = refl
+line_is next.End given h = absurd (some_exit Done h)
+line_is next.TooLong given h = absurd (some_exit (BadLine (given + 1)) h)
+line_is next.TooMany given h = absurd (some_exit (BadLine (given + 1)) h)
+line_is next.ReadFault given h = absurd (some_exit ReadFault h)
+line_is next.NoMemory given h = absurd (some_exit NoMemory h)
+
+pub done_is : (r : Ran) (line : ℕ) → end_at r line ≡ None → r ≡ ran.Done
+done_is ran.Done line h = refl
+done_is ran.BadLine line h = absurd (some_exit (BadLine line) h)
+done_is ran.WriteFault line h = absurd (some_exit WriteFault h)
+done_is ran.NoMemory line h = absurd (some_exit NoMemory h)
+
+risen_since : (first old new : ℕ) → first ≤ old → HasRisen old new → HasRisen first new
+risen_since first old new h r = omega arith
+
+pub stop_raises : (n : Next) (given : ℕ) (exit : Exit) (first old new sink_old sink_new : ℕ) → stop_at n given ≡ Some exit → first ≤ old → Raises n old new → ExitRaises exit first new sink_old sink_new
+stop_raises next.Line given exit first old new k l e h r = absurd (no_exit exit e)
+stop_raises next.End given exit first old new k l e h r = subst (λ x. ExitRaises x first new k l) (exit_is Done exit e) tt
+stop_raises next.TooLong given exit first old new k l e h r = subst (λ x. ExitRaises x first new k l) (exit_is (BadLine (given + 1)) exit e) tt
+stop_raises next.TooMany given exit first old new k l e h r = subst (λ x. ExitRaises x first new k l) (exit_is (BadLine (given + 1)) exit e) tt
+stop_raises next.ReadFault given exit first old new k l e h r = subst (λ x. ExitRaises x first new k l) (exit_is ReadFault exit e) (risen_since first old new h r)
+stop_raises next.NoMemory given exit first old new k l e h r = subst (λ x. ExitRaises x first new k l) (exit_is NoMemory exit e) tt
+
+pub end_raises : (n : Ran) (line : ℕ) (exit : Exit) (source_old source_new first old new : ℕ) → end_at n line ≡ Some exit → first ≤ old → RanRaises n old new → ExitRaises exit source_old source_new first new
+end_raises ran.Done line exit k l first old new e h r = absurd (no_exit exit e)
+end_raises ran.BadLine line exit k l first old new e h r = subst (λ x. ExitRaises x k l first new) (exit_is (BadLine line) exit e) tt
+end_raises ran.WriteFault line exit k l first old new e h r = subst (λ x. ExitRaises x k l first new) (exit_is WriteFault exit e) (risen_since first old new h r)
+end_raises ran.NoMemory line exit k l first old new e h r = subst (λ x. ExitRaises x k l first new) (exit_is NoMemory exit e) tt
+
+module _ (s : Script) (before : List ℕ) (book : Held TicTacToe Board) (hand : Option TicTacToe) (stage : Stage) (given : ℕ) where
+  pub stop_ends : (left : Script) (held : Option (List ℕ)) (u : Underway s before book hand stage given left held) (n : Next) (line : List ℕ) (after : Script) (exit : Exit) (now : ℕ)
+      → Answers n line left after → now ≡ given_after n given → stop_at n now ≡ Some exit → (game : TicTacToe) × Ends game s before held exit
+  stop_ends left held u next.Line line after exit now a g e = absurd (no_exit exit e)
+  stop_ends left held u next.End line after exit now a g e = (u.game, subst (λ x. Ends u.game s before held x) (exit_is Done exit e) (ends_at s before book hand stage given left held u Ended a.0))
+  stop_ends left held u next.TooLong line after exit now a g e =
+      (u.game, subst (λ x. Ends u.game s before held x) (ap (λ n. BadLine (n + 1)) (sym g) ∙ exit_is (BadLine (now + 1)) exit e) (ends_at s before book hand stage given left held u TooLong a.0))
+  stop_ends left held u next.TooMany line after exit now a g e =
+      (u.game, subst (λ x. Ends u.game s before held x) (ap (λ n. BadLine (n + 1)) (sym g) ∙ exit_is (BadLine (now + 1)) exit e) (ends_at s before book hand stage given left held u TooMany a.0))
+  stop_ends left held u next.ReadFault line after exit now a g e = (u.game, subst (λ x. Ends u.game s before held x) (exit_is ReadFault exit e) (stops s before book hand stage given left held u))
+  stop_ends left held u next.NoMemory line after exit now a g e = (u.game, subst (λ x. Ends u.game s before held x) (exit_is NoMemory exit e) (stops s before book hand stage given left held u))
+
+  same_held : (left : Script) (held : Option (List ℕ)) (u : Underway s before book hand stage given left held) (after : Option (List ℕ)) → after ≡ Some (told_bytes held) → held ≡ after
+  same_held left held u after e = u.added ∙ sym (e ∙ ap (λ h. Some (told_bytes h)) u.added)
+
+  pub end_ends : (line : List ℕ) (rest : Script) (held : Option (List ℕ)) (u : Underway s before book hand stage given (first_line line rest) held) (book' : Held TicTacToe Board) (hand' : Option TicTacToe) (after_stage : Stage) (after : Option (List ℕ)) (r : Ran) (exit : Exit) (now : ℕ)
+      → RanLine u.game u.h stage line book' hand' after_stage (told_bytes held) after r → now ≡ given + 1 → end_at r now ≡ Some exit → (game : TicTacToe) × Ends game s before after exit
+  end_ends line rest held u book' hand' after_stage after ran.Done exit now l g e = absurd (no_exit exit e)
+  end_ends line rest held u book' hand' after_stage after ran.BadLine exit now l g e = (
+    u.game,
+    subst (λ x. Ends u.game s before after x) (ap BadLine (sym g) ∙ exit_is (BadLine now) exit e)
+        (subst (λ h. Ends u.game s before h (BadLine (given + 1))) (same_held (first_line line rest) held u after l.1) (ends_bad s before book hand stage given line rest held u l.0)),
+  )
+  end_ends line rest held u book' hand' after_stage after ran.WriteFault exit now l g e =
+      (u.game, subst (λ x. Ends u.game s before after x) (exit_is WriteFault exit e) (breaks s before book hand stage given line rest held u after l))
+  end_ends line rest held u book' hand' after_stage after ran.NoMemory exit now l g e = (
+    u.game,
+    subst (λ x. Ends u.game s before after x) (exit_is NoMemory exit e)
+        (subst (λ h. Ends u.game s before h NoMemory) (same_held (first_line line rest) held u after l) (stops s before book hand stage given (first_line line rest) held u)),
+  )
+
+  -- the first line that is left, read and then run
+  pub line_ends : (left : Script) (held : Option (List ℕ)) (u : Underway s before book hand stage given left held) (n : Next) (count : ℕ) (line : List ℕ) (rest : Script)
+      → Answers n line left rest → stop_at n count ≡ None → (shown : List ℕ) → shown ≡ line
+      → (book' : Held TicTacToe Board) (hand' : Option TicTacToe) (next_stage : Stage) (after : Option (List ℕ)) (r : Ran) (exit : Exit) (now : ℕ)
+      → ((game : TicTacToe) (h : List (Entry (RoomCall TicTacToe))) → StandsFor tic_tac_toe_rules book h → (stage.opened ≡ false → hand ≡ Some game) → RanLine game h stage shown book' hand' next_stage (told_bytes held) after r)
+      → now ≡ given_after n given → end_at r now ≡ Some exit → (game : TicTacToe) × Ends game s before after exit
+  line_ends left held u next.Line count line rest a e shown w book' hand' next_stage after r exit now ran g x =
+      end_ends shown rest held here book' hand' next_stage after r exit now (ran here.game here.h here.stands here.at_hand) g x
+    where
+      here : Underway s before book hand stage given (first_line shown rest) held
+      here = subst (λ l. Underway s before book hand stage given l held) (a ∙ ap (λ l. first_line l rest) (sym w)) u
+  line_ends left held u next.End count line rest a e shown w book' hand' next_stage after r exit now ran g x = absurd (some_exit Done e)
+  line_ends left held u next.TooLong count line rest a e shown w book' hand' next_stage after r exit now ran g x = absurd (some_exit (BadLine (count + 1)) e)
+  line_ends left held u next.TooMany count line rest a e shown w book' hand' next_stage after r exit now ran g x = absurd (some_exit (BadLine (count + 1)) e)
+  line_ends left held u next.ReadFault count line rest a e shown w book' hand' next_stage after r exit now ran g x = absurd (some_exit ReadFault e)
+  line_ends left held u next.NoMemory count line rest a e shown w book' hand' next_stage after r exit now ran g x = absurd (some_exit NoMemory e)
+
+  pub line_runs : (left : Script) (held : Option (List ℕ)) (u : Underway s before book hand stage given left held) (n : Next) (count : ℕ) (line : List ℕ) (rest : Script)
+      → Answers n line left rest → stop_at n count ≡ None → (shown : List ℕ) → shown ≡ line
+      → (book' : Held TicTacToe Board) (hand' : Option TicTacToe) (next_stage : Stage) (after : Option (List ℕ)) (r : Ran) (ended now : ℕ)
+      → ((game : TicTacToe) (h : List (Entry (RoomCall TicTacToe))) → StandsFor tic_tac_toe_rules book h → (stage.opened ≡ false → hand ≡ Some game) → RanLine game h stage shown book' hand' next_stage (told_bytes held) after r)
+      → now ≡ given_after n given → end_at r ended ≡ None → Underway s before book' hand' next_stage now rest after
+  line_runs left held u next.Line count line rest a e shown w book' hand' next_stage after ran.Done ended now ran g x =
+      subst (λ n. Underway s before book' hand' next_stage n rest after) (sym g)
+      (goes_on s before book hand stage given shown rest held here book' hand' next_stage after (ran here.game here.h here.stands here.at_hand))
+    where
+      here : Underway s before book hand stage given (first_line shown rest) held
+      here = subst (λ l. Underway s before book hand stage given l held) (a ∙ ap (λ l. first_line l rest) (sym w)) u
+  line_runs left held u next.Line count line rest a e shown w book' hand' next_stage after ran.BadLine ended now ran g x = absurd (some_exit (BadLine ended) x)
+  line_runs left held u next.Line count line rest a e shown w book' hand' next_stage after ran.WriteFault ended now ran g x = absurd (some_exit WriteFault x)
+  line_runs left held u next.Line count line rest a e shown w book' hand' next_stage after ran.NoMemory ended now ran g x = absurd (some_exit NoMemory x)
+  line_runs left held u next.End count line rest a e shown w book' hand' next_stage after r ended now ran g x = absurd (some_exit Done e)
+  line_runs left held u next.TooLong count line rest a e shown w book' hand' next_stage after r ended now ran g x = absurd (some_exit (BadLine (count + 1)) e)
+  line_runs left held u next.TooMany count line rest a e shown w book' hand' next_stage after r ended now ran g x = absurd (some_exit (BadLine (count + 1)) e)
+  line_runs left held u next.ReadFault count line rest a e shown w book' hand' next_stage after r ended now ran g x = absurd (some_exit ReadFault e)
+  line_runs left held u next.NoMemory count line rest a e shown w book' hand' next_stage after r ended now ran g x = absurd (some_exit NoMemory e)
+
+some_bytes : (o : Option (List ℕ)) → IsSome o → o ≡ Some (told_bytes o)
+some_bytes (Some xs) e = refl
+some_bytes None e = cc
+
+-- a run in which nothing was read
+pub begins_with : (left : List ℕ) (book : Held TicTacToe Board) (hand : Option TicTacToe) → IsSome hand → StandsFor tic_tac_toe_rules book [] → (held : Option (List ℕ)) → IsSome held
+    → (reader : Reader) → reader ≡ fresh → Underway (script left) (told_bytes held) book hand no_lines_yet reader.given (to_come reader left) held
+begins_with left book (Some game) h stands held k reader e =
+    subst (λ r. Underway (script left) (told_bytes held) book (Some game) no_lines_yet r.given (to_come r left) held) (sym e)
+    (begins (script left) (told_bytes held) book game stands held (some_bytes held k))
+begins_with left book None h stands held k reader e = cc
+
+pub stops_at_once : (s : Script) (held : Option (List ℕ)) → IsSome held → (game : TicTacToe) × StopsEarly game s (told_bytes held) held
+stops_at_once s held k = (
+  some_game,
+  record {
+    done = [];
+    rest = s.lines;
+    lines = refl;
+    added = some_bytes held k ∙ ap Some (sym (ap (λ x. told_bytes held ++ x) (nothing_played some_game) ∙ append-nil (told_bytes held)));
+  },
+)

@@ -1,0 +1,7 @@
+use Rattle.board_links.specs.Pieces.{told_bytes}
+use Rattle.world_script.specs.ScriptLines.{script}
+use Rattle.world_script.proofs.EndLaws.{stops_at_once}
+use Rattle.world_script.proofs.script.run_script.Goals as goal
+
+pub returns-in-Err-clause-ends : goal.returns-in-Err-clause-ends
+returns-in-Err-clause-ends g c = λ l k. stops_at_once (script (told_bytes (g.S.Source.left c.args.source.now))) (g.K.Sink.held c.args.sink.now) k

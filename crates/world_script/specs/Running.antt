@@ -1,0 +1,127 @@
+-- How a run of a script ends, beside the script that was read and the bytes that the sink held before and holds after.
+use Rattle.std.specs.Prelude.{◌≡◌, ◌+◌, ℕ, Bool, false, IsSome, List, ◌++◌, take, Option, Some, None}
+use Rattle.game_trait.specs.Rules.{Rules}
+use Rattle.board_links.specs.Faults.{HasRisen}
+use Rattle.room_desk.specs.Entry.{Entry}
+use Rattle.match_master.specs.declared.call.RoomCall.{RoomCall}
+use Rattle.match_master.specs.Held.{Held, StandsFor}
+use Rattle.table_games.specs.declared.board.Board.{Board}
+use Rattle.world_script.specs.Forms.{step_of, stage_after}
+use Rattle.world_script.specs.declared.stage.Stage.{Stage}
+use Rattle.world_script.specs.declared.stage.Step.{Step}
+use Rattle.world_script.specs.declared.next.Next.{Next}
+use Rattle.world_script.specs.declared.next.Next.TheVariants as next
+use Rattle.world_script.specs.declared.script.Ran.{Ran}
+use Rattle.world_script.specs.declared.script.Ran.TheVariants as ran
+use Rattle.table_games.specs.TicTacToe.{tic_tac_toe}
+use Rattle.table_games.specs.declared.tic_tac_toe.TicTacToe.{TicTacToe}
+use Rattle.world_script.specs.ScriptLines.{Script}
+use Rattle.world_script.specs.Transcript.{transcript, bad_line, says, entry_of, history_with, printed, bad_from, no_lines_yet}
+use Rattle.world_script.specs.declared.exit.Exit.{Exit}
+use Rattle.world_script.specs.declared.exit.Exit.TheVariants.{Done, Usage, ReadFault, WriteFault, BadLine, NoMemory}
+
+-- the rules of the room in which a script is played
+abbrev pub tic_tac_toe_rules : TicTacToe → Rules Board
+tic_tac_toe_rules game = tic_tac_toe
+
+-- the transcript of lines in a room of tic-tac-toe
+abbrev pub played : TicTacToe → List (List ℕ) → List ℕ
+played game lines = transcript tic_tac_toe_rules game lines
+
+-- some first lines of the script were run, and no further one, and what they print was added
+pub record StopsEarly (game : TicTacToe) (s : Script) (before : List ℕ) (after : Option (List ℕ)) : Type 0 where
+  pub done : List (List ℕ)
+  pub rest : List (List ℕ)
+  pub lines : s.lines ≡ done ++ rest
+  pub added : after ≡ Some (before ++ played game done)
+
+-- a first part of the transcript was added
+pub record BreaksOff (game : TicTacToe) (s : Script) (before : List ℕ) (after : Option (List ℕ)) : Type 0 where
+  pub printed_bytes : List ℕ
+  pub missing : List ℕ
+  pub whole : printed_bytes ++ missing ≡ played game s.lines
+  pub added : after ≡ Some (before ++ printed_bytes)
+
+abbrev pub Ends : TicTacToe → Script → List ℕ → Option (List ℕ) → Exit → Type 0
+Ends game s before after Done = (bad_line s ≡ None) × (after ≡ Some (before ++ played game s.lines))
+Ends game s before after (BadLine line) = (bad_line s ≡ Some line) × (after ≡ Some (before ++ played game s.lines))
+Ends game s before after WriteFault = BreaksOff game s before after
+Ends game s before after ReadFault = StopsEarly game s before after
+Ends game s before after NoMemory = StopsEarly game s before after
+Ends game s before after Usage = ⊥
+
+-- a line in form made its entry and printed what that says; the game is still at hand where no match is open
+pub record RanOn (game : TicTacToe) (h : List (Entry (RoomCall TicTacToe))) (stage : Stage) (line : List ℕ) (book : Held TicTacToe Board) (left : Option TicTacToe) (next : Stage) (held : List ℕ) (after : Option (List ℕ)) : Type 0 where
+  pub step : Step
+  pub in_form : step_of stage line ≡ Some step
+  pub moved_on : next ≡ stage_after stage step
+  pub stands : StandsFor tic_tac_toe_rules book (history_with tic_tac_toe_rules game (entry_of tic_tac_toe_rules game step) h)
+  pub at_hand : next.opened ≡ false → left ≡ Some game
+  pub added : after ≡ Some (held ++ says tic_tac_toe_rules game step h)
+
+-- a line in form printed a first part of what it says
+pub record StoppedIn (game : TicTacToe) (h : List (Entry (RoomCall TicTacToe))) (stage : Stage) (line : List ℕ) (held : List ℕ) (after : Option (List ℕ)) : Type 0 where
+  pub step : Step
+  pub in_form : step_of stage line ≡ Some step
+  pub printed_bytes : ℕ
+  pub added : after ≡ Some (held ++ take printed_bytes (says tic_tac_toe_rules game step h))
+
+-- what one line came to, after a history and with these bytes held
+abbrev pub RanLine : TicTacToe → List (Entry (RoomCall TicTacToe)) → Stage → List ℕ → Held TicTacToe Board → Option TicTacToe → Stage → List ℕ → Option (List ℕ) → Ran → Type 0
+RanLine game h stage line book left next held after ran.Done = RanOn game h stage line book left next held after
+RanLine game h stage line book left next held after ran.BadLine = (step_of stage line ≡ None) × (after ≡ Some held)
+RanLine game h stage line book left next held after ran.WriteFault = StoppedIn game h stage line held after
+RanLine game h stage line book left next held after ran.NoMemory = after ≡ Some held
+
+-- a fault only where the count of faults rose
+abbrev pub RanRaises : Ran → ℕ → ℕ → Type 0
+RanRaises ran.Done old new = Unit {0}
+RanRaises ran.BadLine old new = Unit {0}
+RanRaises ran.WriteFault old new = HasRisen old new
+RanRaises ran.NoMemory old new = Unit {0}
+
+-- after a line the game is at hand where no match is open
+abbrev pub AtHand : Ran → Bool → Option TicTacToe → Type 0
+AtHand ran.Done opened game = opened ≡ false → IsSome game
+AtHand ran.BadLine opened game = Unit {0}
+AtHand ran.WriteFault opened game = Unit {0}
+AtHand ran.NoMemory opened game = Unit {0}
+
+-- what a run has come to: the lines that were run, the history that they made, and what they added. Whatever lines are still to
+-- come, the transcript is what was added, and then what those print from here on.
+pub record Underway (s : Script) (before : List ℕ) (book : Held TicTacToe Board) (hand : Option TicTacToe) (stage : Stage) (given : ℕ) (left : Script) (held : Option (List ℕ)) : Type 0 where
+  pub game : TicTacToe
+  pub h : List (Entry (RoomCall TicTacToe))
+  pub done : List (List ℕ)
+  pub gained : List ℕ
+  pub stands : StandsFor tic_tac_toe_rules book h
+  pub at_hand : stage.opened ≡ false → hand ≡ Some game
+  pub lines : s.lines ≡ done ++ left.lines
+  pub ending : s.ending ≡ left.ending
+  pub added : held ≡ Some (before ++ gained)
+  pub so_far : (rest : List (List ℕ)) → played game (done ++ rest) ≡ gained ++ printed tic_tac_toe_rules game rest stage h
+  pub bad : (rest : List (List ℕ)) → bad_from s.ending (done ++ rest) no_lines_yet 0 ≡ bad_from s.ending rest stage given
+
+-- a fault of the source or the sink only where its count of faults rose
+abbrev pub ExitRaises : Exit → ℕ → ℕ → ℕ → ℕ → Type 0
+ExitRaises Done source_old source_new sink_old sink_new = Unit {0}
+ExitRaises Usage source_old source_new sink_old sink_new = Unit {0}
+ExitRaises ReadFault source_old source_new sink_old sink_new = HasRisen source_old source_new
+ExitRaises WriteFault source_old source_new sink_old sink_new = HasRisen sink_old sink_new
+ExitRaises (BadLine line) source_old source_new sink_old sink_new = Unit {0}
+ExitRaises NoMemory source_old source_new sink_old sink_new = Unit {0}
+
+-- the end where no line came after so many, and the end at a line
+abbrev pub stop_at : Next → ℕ → Option Exit
+stop_at next.Line given = None
+stop_at next.End given = Some Done
+stop_at next.TooLong given = Some (BadLine (given + 1))
+stop_at next.TooMany given = Some (BadLine (given + 1))
+stop_at next.ReadFault given = Some ReadFault
+stop_at next.NoMemory given = Some NoMemory
+
+abbrev pub end_at : Ran → ℕ → Option Exit
+end_at ran.Done line = None
+end_at ran.BadLine line = Some (BadLine line)
+end_at ran.WriteFault line = Some WriteFault
+end_at ran.NoMemory line = Some NoMemory
