@@ -102,10 +102,10 @@ pub record Underway (s : Script) (before : List ℕ) (book : Held TicTacToe Boar
   pub so_far : (rest : List (List ℕ)) → played game (done ++ rest) ≡ gained ++ printed tic_tac_toe_rules game rest stage h
   pub bad : (rest : List (List ℕ)) → bad_from s.ending (done ++ rest) no_lines_yet 0 ≡ bad_from s.ending rest stage given
 
--- a fault of the source or the sink only where its count of faults rose
+-- a fault of the source or the sink only where its count of faults rose; a script that is run is no usage error
 abbrev pub ExitRaises : Exit → ℕ → ℕ → ℕ → ℕ → Type 0
 ExitRaises Done source_old source_new sink_old sink_new = Unit {0}
-ExitRaises Usage source_old source_new sink_old sink_new = Unit {0}
+ExitRaises Usage source_old source_new sink_old sink_new = ⊥
 ExitRaises ReadFault source_old source_new sink_old sink_new = HasRisen source_old source_new
 ExitRaises WriteFault source_old source_new sink_old sink_new = HasRisen sink_old sink_new
 ExitRaises (BadLine line) source_old source_new sink_old sink_new = Unit {0}

@@ -1,0 +1,62 @@
+//! What the program does with the words that it is called with.
+
+ghost use Rattle.std.specs.Prelude.{◌≡◌, ◌≤◌, IsSome, true, false};
+ghost use Rattle.board_links.specs.Pieces.{told_bytes};
+ghost use Rattle.table_games.specs.declared.tic_tac_toe.TicTacToe.{TicTacToe as Playing};
+ghost use Rattle.world_script.specs.Running.{Ends, ExitRaises};
+ghost use Rattle.world_script.specs.declared.exit.Exit.TheVariants.{Usage};
+ghost use Rattle.world_script.specs.ScriptLines.{script};
+ghost use Rattle.board_server.specs.Words.{asks_script, status};
+
+use board_links::{Sink, Source};
+use std::alloc::Global;
+use world_script::{Exit, run_script};
+
+/// Runs what the words after the program's name ask for: `script`, a script from a source to a sink.
+///
+/// `Usage` comes exactly where the words are not that one word, and then nothing was read or written. Where source and
+/// sink tell what they hold, `ends` says what was added to the sink and where each end comes.
+pub fn run<S: Source, K: Sink>(
+    alloc: Global,
+    words: &[String],
+    source: &mut S,
+    sink: &mut K,
+) -> Exit
+    ensures source_never_falls { S.faults source.old ≤ S.faults source.new }
+    ensures sink_never_falls { K.faults sink.old ≤ K.faults sink.new }
+    ensures usage { asks_script words.now ≡ false → result ≡ Usage }
+    ensures untouched_source { asks_script words.now ≡ false → source.new ≡ source.old }
+    ensures untouched_sink { asks_script words.now ≡ false → sink.new ≡ sink.old }
+    ensures raises { asks_script words.now ≡ true → ExitRaises result (S.faults source.old) (S.faults source.new) (K.faults sink.old) (K.faults sink.new) }
+    ensures ends { asks_script words.now ≡ true → IsSome (S.left source.old) → IsSome (K.held sink.old)
+        → (game : Playing) × Ends game (script (told_bytes (S.left source.old))) (told_bytes (K.held sink.old)) (K.held sink.new) result }
+{
+    if is_script(words) {
+        run_script(alloc, source, sink)
+    } else {
+        Exit::Usage
+    }
+}
+
+fn is_script(words: &[String]) -> bool
+    ensures { result ≡ asks_script words.now }
+{
+    match words {
+        [word] => word.as_bytes() == b"script".as_slice(),
+        _ => false,
+    }
+}
+
+/// The status that a process ends with after a run.
+pub fn status(exit: Exit) -> u8
+    ensures { result ≡ status exit }
+{
+    match exit {
+        Exit::Done => 0,
+        Exit::Usage => 1,
+        Exit::ReadFault => 2,
+        Exit::WriteFault => 3,
+        Exit::BadLine { .. } => 4,
+        Exit::NoMemory => 7,
+    }
+}

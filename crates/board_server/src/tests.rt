@@ -1,0 +1,91 @@
+//! Runs whose input or status is not that of the stored run.
+
+use crate::run::{run, status};
+use board_links::{MemorySink, MemorySource};
+use game_sheet::{List, NoMemory};
+use std::alloc::Global;
+use std::test::Fail;
+use world_script::Exit;
+
+const WIN: &[u8] = b"open tic-tac-toe 2
+s0 {\"key\":\"00000000000000000000000000000000\",\"match\":\"0-1\",\"seat\":0,\"type\":\"sync\"}
+t0
+";
+
+fn source(alloc: Global, script: &[u8], failing: &[u64]) -> Result<MemorySource, NoMemory> {
+    let bytes = Vec::from_slice(alloc, script)?;
+    Ok(MemorySource::new(bytes, List::from_slice(alloc, failing)?))
+}
+
+fn words(alloc: Global, word: &str) -> Result<Vec<String>, NoMemory> {
+    let mut words = Vec::new(alloc);
+    words.push(String::from_str(alloc, word)?)?;
+    Ok(words)
+}
+
+/// The end of a run of `script`, and what it printed.
+fn played(
+    alloc: Global,
+    script: &[u8],
+    failing_reads: &[u64],
+    failing_writes: &[u64],
+) -> Result<(Exit, Vec<u8>), NoMemory> {
+    let mut source = source(alloc, script, failing_reads)?;
+    let mut sink = MemorySink::new(alloc, List::from_slice(alloc, failing_writes)?);
+    let exit = run(
+        alloc,
+        words(alloc, "script")?.as_slice(),
+        &mut source,
+        &mut sink,
+    );
+    Ok((exit, Vec::from_slice(alloc, sink.bytes())?))
+}
+
+#[test]
+fn an_empty_script_prints_nothing(rt: HostRuntime) -> Result<(), Fail> {
+    let (exit, printed) = played(rt.alloc(), b"", &[], &[])?;
+    assert_eq!(rt; exit, Exit::Done);
+    assert_eq!(rt; printed.as_slice(), b"".as_slice());
+    Ok(())
+}
+
+#[test]
+fn a_failing_source_ends_the_run(rt: HostRuntime) -> Result<(), Fail> {
+    let (exit, printed) = played(rt.alloc(), WIN, &[1], &[])?;
+    assert_eq!(rt; exit, Exit::ReadFault);
+    assert_eq!(rt; printed.as_slice(), b"".as_slice());
+    Ok(())
+}
+
+#[test]
+fn a_failing_sink_ends_the_run(rt: HostRuntime) -> Result<(), Fail> {
+    let (exit, printed) = played(rt.alloc(), WIN, &[], &[2])?;
+    assert_eq!(rt; exit, Exit::WriteFault);
+    assert_eq!(rt; printed.as_slice(), b"open 0-1\n".as_slice());
+    Ok(())
+}
+
+#[test]
+fn the_first_line_in_no_form_ends_the_run(rt: HostRuntime) -> Result<(), Fail> {
+    let (exit, printed) = played(rt.alloc(), b"open tic-tac-toe 2\n\nt7\nt0\n", &[], &[])?;
+    assert_eq!(rt; exit, Exit::BadLine { line: 3 });
+    assert_eq!(rt; printed.as_slice(), b"open 0-1\n".as_slice());
+    Ok(())
+}
+
+#[test]
+fn other_words_are_a_usage_error(rt: HostRuntime) -> Result<(), Fail> {
+    let alloc = rt.alloc();
+    let mut source = source(alloc, WIN, &[])?;
+    let mut sink = MemorySink::new(alloc, List::new(alloc));
+    let exit = run(
+        alloc,
+        words(alloc, "scripts")?.as_slice(),
+        &mut source,
+        &mut sink,
+    );
+    assert_eq!(rt; exit, Exit::Usage);
+    assert_eq!(rt; sink.bytes(), b"".as_slice());
+    assert_eq!(rt; status(exit), 1);
+    Ok(())
+}
