@@ -7,9 +7,13 @@ use std::alloc::Global;
 use std::test::Fail;
 use world_script::Exit;
 
-const WIN: &[u8] = b"open tic-tac-toe 2
+const SCRIPT: &[u8] = b"open tic-tac-toe 2
 s0 {\"key\":\"00000000000000000000000000000000\",\"match\":\"0-1\",\"seat\":0,\"type\":\"sync\"}
 t0
+";
+
+const TRANSCRIPT: &[u8] = b"open 0-1
+0 {\"match\":\"0-1\",\"seat\":0,\"snapshot\":{\"ctx\":{\"activePlayers\":null,\"currentPlayer\":0,\"gameover\":null,\"numMoves\":0,\"numPlayers\":2,\"phase\":null,\"playOrder\":[0,1],\"playOrderPos\":0,\"turn\":1},\"g\":{\"cells\":[null,null,null,null,null,null,null,null,null]},\"log\":[],\"number\":0},\"type\":\"sync\"}
 ";
 
 fn source(alloc: Global, script: &[u8], failing: &[u64]) -> Result<MemorySource, NoMemory> {
@@ -50,18 +54,27 @@ fn an_empty_script_prints_nothing(rt: HostRuntime) -> Result<(), Fail> {
 }
 
 #[test]
-fn a_failing_source_ends_the_run(rt: HostRuntime) -> Result<(), Fail> {
-    let (exit, printed) = played(rt.alloc(), WIN, &[1], &[])?;
+fn a_script_prints_its_transcript(rt: HostRuntime) -> Result<(), Fail> {
+    let (exit, printed) = played(rt.alloc(), SCRIPT, &[], &[])?;
+    assert_eq!(rt; exit, Exit::Done);
+    assert_eq!(rt; printed.as_slice(), TRANSCRIPT);
+    Ok(())
+}
+
+#[test]
+fn a_failing_source_ends_the_run_after_the_lines_before(rt: HostRuntime) -> Result<(), Fail> {
+    let (exit, printed) = played(rt.alloc(), SCRIPT, &[2], &[])?;
     assert_eq!(rt; exit, Exit::ReadFault);
-    assert_eq!(rt; printed.as_slice(), b"".as_slice());
+    assert_eq!(rt; printed.as_slice(), TRANSCRIPT);
     Ok(())
 }
 
 #[test]
 fn a_failing_sink_ends_the_run(rt: HostRuntime) -> Result<(), Fail> {
-    let (exit, printed) = played(rt.alloc(), WIN, &[], &[2])?;
+    let (exit, printed) = played(rt.alloc(), SCRIPT, &[], &[1])?;
     assert_eq!(rt; exit, Exit::WriteFault);
-    assert_eq!(rt; printed.as_slice(), b"open 0-1\n".as_slice());
+    assert_eq!(rt; printed.as_slice(), b"".as_slice());
+    assert_eq!(rt; status(exit), 3);
     Ok(())
 }
 
@@ -76,7 +89,7 @@ fn the_first_line_in_no_form_ends_the_run(rt: HostRuntime) -> Result<(), Fail> {
 #[test]
 fn other_words_are_a_usage_error(rt: HostRuntime) -> Result<(), Fail> {
     let alloc = rt.alloc();
-    let mut source = source(alloc, WIN, &[])?;
+    let mut source = source(alloc, SCRIPT, &[])?;
     let mut sink = MemorySink::new(alloc, List::new(alloc));
     let exit = run(
         alloc,
