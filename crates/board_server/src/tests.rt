@@ -1,4 +1,6 @@
-//! Runs whose input or status is not that of the stored run.
+//! Runs in memory.
+
+mod win;
 
 use crate::run::{run, status};
 use board_links::{MemorySink, MemorySource};
@@ -58,6 +60,14 @@ fn a_script_prints_its_transcript(rt: HostRuntime) -> Result<(), Fail> {
     let (exit, printed) = played(rt.alloc(), SCRIPT, &[], &[])?;
     assert_eq!(rt; exit, Exit::Done);
     assert_eq!(rt; printed.as_slice(), TRANSCRIPT);
+    Ok(())
+}
+
+#[test]
+fn a_match_is_won(rt: HostRuntime) -> Result<(), Fail> {
+    let (exit, printed) = played(rt.alloc(), win::SCRIPT, &[], &[])?;
+    assert_eq!(rt; exit, Exit::Done);
+    assert_eq!(rt; printed.as_slice(), win::TRANSCRIPT);
     Ok(())
 }
 
