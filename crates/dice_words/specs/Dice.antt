@@ -11,11 +11,11 @@ pub record Rolled (n face : ℕ) (before after : List ℕ) : Type 0 where
   pub drawn : before ≡ word ∷ after
   pub shown : face ≡ die n word
 
--- the list after exchanges at the places i, i - 1 and so on down to 1, and the words left; none where the words run out
+-- the list after the exchanges at place i, then i - 1 and so on down to 1, and the words left; none where the words run out
 unfoldable pub shuffled_from : ℕ → List ℕ → List ℕ → Option (List ℕ × List ℕ)
 shuffled_from zero list left = Some (list, left)
 shuffled_from (suc i) list [] = None
-shuffled_from (suc i) list (word ∷ left) = shuffled_from i (swap list (i + 1) (die (i + 2) word - 1)) left
+shuffled_from (suc i) list (word ∷ left) = let place = suc i in shuffled_from i (swap list place (die (place + 1) word - 1)) left
 
 -- a whole shuffle: it begins at the last place
 abbrev pub shuffled : List ℕ → List ℕ → Option (List ℕ × List ℕ)

@@ -27,9 +27,9 @@ impl Model for Stream {
     ghost view = { λ s. record { source = (s.seed, s.number); place = s.place } };
 
     ghost invariant = { λ s. s.generator ≡ record {
-        key = key_of s.seed;
-        stream = s.number;
-        word_pos = s.place;
+      key = key_of s.seed;
+      stream = s.number;
+      word_pos = s.place;
     } };
 }
 
@@ -65,6 +65,7 @@ impl Stream {
     }
 
     /// The next word. After the last place of 64 bits comes place 0.
+    #[tactic(auto, unfolding(crate::specs::Words::word))]
     pub fn next(&mut self) -> u32
         ensures word { result ≡ word self.old.source.0 self.old.source.1 self.old.place }
         ensures moved { self.new ≡ record self.old { place = (self.old.place + 1) % 2 ^ 64 } }

@@ -35,6 +35,7 @@ impl Model for Tape {
 
 impl Tape {
     /// A tape of a stream of a seed that begins an action at a place. Places count 32-bit words from 0.
+    #[tactic(auto, using(crate::proofs::WordsLemmas::length_words))]
     pub fn live(seed: [u8; 32], stream: u64, place: u64) -> Tape
         ensures value { result ≡ live seed stream place }
         ensures whole { length result.left ≡ 256 }
@@ -58,8 +59,10 @@ impl Tape {
     }
 
     /// Begins a new action at the place of the next word, with 256 words to draw again.
+    #[tactic(auto, using(crate::proofs::WordsLemmas::length_words))]
     pub fn begin(&mut self)
         ensures value { self.new ≡ begun self.old.source (place_of self.old) }
+        ensures same_source { self.new.source ≡ self.old.source }
         ensures whole { IfSome self.old.source (λ _. length self.new.left ≡ 256) }
     {
         let place = self.place();
@@ -108,15 +111,15 @@ impl Tape {
     pub fn shuffle(&mut self, list: &mut [u8]) -> Result<(), Spent>
         requires { length list.old < 2 ^ 32 }
         ensures shuffled { OnOk result (shuffled list.old self.old.left ≡ Some (list.new, self.new.left)) }
+        ensures counted { OnOk result (self.new.used ≡ self.old.used + (length list.old - 1)) }
         ensures spent { OnErr result (shuffled list.old self.old.left ≡ None) }
+        ensures short { OnErr result (length self.old.left + 1 < length list.old) }
         ensures emptied { OnErr result (self.new.left ≡ []) }
         ensures permuted { IsPermutation list.old list.new }
         ensures follows { Follows self.old self.new }
     {
-        let mut place = list.len();
-        while place > 1 {
-            let face = self.die(place as u32)?;
-            place -= 1;
+        for place in (1..list.len()).rev() {
+            let face = self.die(place as u32 + 1)?;
             list.swap(place, face as usize - 1);
         }
         Ok(())
@@ -142,8 +145,10 @@ impl Tape {
     }
 
     /// Begins an action at a place. A blank tape stays at place 0.
+    #[tactic(auto, using(crate::proofs::WordsLemmas::length_words))]
     pub fn rewind(&mut self, place: u64)
         ensures value { self.new ≡ begun self.old.source place }
+        ensures same_source { self.new.source ≡ self.old.source }
         ensures whole { IfSome self.old.source (λ _. length self.new.left ≡ 256) }
     {
         if let Some(stream) = &mut self.stream {
@@ -153,3 +158,6 @@ impl Tape {
         }
     }
 }
+
+#[cfg(test)]
+mod tests;
