@@ -3,8 +3,9 @@
 ghost use Rattle.std.specs.Prelude.{◌≡◌, ◌<◌, ◌≤◌, length};
 
 use crate::TicTacToe;
-use game_sheet::{Args, Ctx, List, MoveId, NoMemory, Outcome};
-use game_trait::{Game, Halt};
+use dice_words::Tape;
+use game_sheet::{Args, Ctx, EventQueue, List, MoveId, Outcome};
+use game_trait::{Game, Halt, HookHalt};
 use std::alloc::Global;
 use std::test::Fail;
 
@@ -35,15 +36,26 @@ fn one(argument: i32) -> Args
 fn click<X: Game>(game: &X, alloc: Global, g: &X::G, seat: u8, args: &Args) -> Result<X::G, Halt>
     requires { 0 < length (X.rules game.now).sheet.moves }
 {
-    game.play(alloc, g, &ctx(alloc), seat, MoveId::at(0), args)
+    let mut tape = Tape::blank();
+    let mut events = EventQueue::new();
+    game.play(
+        alloc,
+        g,
+        &ctx(alloc),
+        seat,
+        MoveId::at(0),
+        args,
+        &mut tape,
+        &mut events,
+    )
 }
 
 /// The first state for two seats, through the trait's bound.
-fn opening<X: Game>(game: &X, alloc: Global) -> Result<X::G, NoMemory>
+fn opening<X: Game>(game: &X, alloc: Global) -> Result<X::G, HookHalt>
     requires least { (X.rules game.now).sheet.min_seats ≤ 2 }
     requires most { 2 ≤ (X.rules game.now).sheet.max_seats }
 {
-    game.setup(alloc, 2)
+    game.setup(alloc, 2, &mut Tape::blank())
 }
 
 /// How the match ends, through the trait's bound.

@@ -2,13 +2,15 @@
 
 ghost use Rattle.std.specs.Prelude.{◌≡◌, IfOk};
 ghost use Rattle.table_games.specs.Board.{clicks};
-ghost use Rattle.table_games.specs.TicTacToe.{fixed_sheet, tic_tac_toe};
+ghost use Rattle.table_games.specs.TicTacToe.{fixed_sheet};
 
 use crate::board::Board;
+use dice_words::Tape;
 use game_sheet::{
-    Args, Ctx, List, MoveId, MoveRow, NoMemory, Order, Outcome, Seat, Sheet, Text, TurnRow,
+    Args, Ctx, EventQueue, List, MoveId, MoveRow, NoMemory, Order, Outcome, PhaseId, Seat, Sheet,
+    Text, TurnRow,
 };
-use game_trait::{Game, Halt};
+use game_trait::{Game, Halt, HookHalt};
 use serde_json::Value;
 use std::alloc::Global;
 
@@ -30,14 +32,17 @@ impl TicTacToe {
 impl Game for TicTacToe {
     type G = Board;
 
+    ghost use Rattle.table_games.specs.TicTacToe.{tic_tac_toe, tic_tac_toe_in_sheet};
+
     ghost rules = { λ _. tic_tac_toe };
+
+    ghost in_sheet = { λ _. tic_tac_toe_in_sheet };
 
     fn sheet(&self) -> &Sheet {
         &self.sheet
     }
 
-    fn setup(&self, alloc: Global, seats: u8) -> Result<Board, NoMemory> {
-        let _ = (alloc, seats);
+    fn setup(&self, alloc: Global, seats: u8, tape: &mut Tape) -> Result<Board, HookHalt> {
         Ok(Board::new())
     }
 
@@ -49,12 +54,95 @@ impl Game for TicTacToe {
         seat: Seat,
         id: MoveId,
         args: &Args,
+        tape: &mut Tape,
+        events: &mut EventQueue,
     ) -> Result<Board, Halt> {
         clicks(g, seat, args.as_slice()).ok_or(Halt::Invalid)
     }
 
+    fn on_move(
+        &self,
+        alloc: Global,
+        g: &Board,
+        ctx: &Ctx,
+        seat: Seat,
+        tape: &mut Tape,
+        events: &mut EventQueue,
+    ) -> Result<Option<Board>, HookHalt> {
+        Ok(None)
+    }
+
+    fn turn_begin(
+        &self,
+        alloc: Global,
+        g: &Board,
+        ctx: &Ctx,
+        tape: &mut Tape,
+        events: &mut EventQueue,
+    ) -> Result<Option<Board>, HookHalt> {
+        Ok(None)
+    }
+
+    fn turn_end(
+        &self,
+        alloc: Global,
+        g: &Board,
+        ctx: &Ctx,
+        tape: &mut Tape,
+        events: &mut EventQueue,
+    ) -> Result<Option<Board>, HookHalt> {
+        Ok(None)
+    }
+
+    fn phase_begin(
+        &self,
+        alloc: Global,
+        g: &Board,
+        ctx: &Ctx,
+        phase: PhaseId,
+        tape: &mut Tape,
+        events: &mut EventQueue,
+    ) -> Result<Option<Board>, HookHalt> {
+        Ok(None)
+    }
+
+    fn phase_end(
+        &self,
+        alloc: Global,
+        g: &Board,
+        ctx: &Ctx,
+        phase: PhaseId,
+        tape: &mut Tape,
+        events: &mut EventQueue,
+    ) -> Result<Option<Board>, HookHalt> {
+        Ok(None)
+    }
+
+    fn game_end(
+        &self,
+        alloc: Global,
+        g: &Board,
+        ctx: &Ctx,
+        tape: &mut Tape,
+        events: &mut EventQueue,
+    ) -> Result<Option<Board>, HookHalt> {
+        Ok(None)
+    }
+
     fn end_if(&self, g: &Board, ctx: &Ctx) -> Option<Outcome> {
         g.outcome()
+    }
+
+    fn turn_end_if(&self, g: &Board, ctx: &Ctx) -> bool {
+        false
+    }
+
+    fn phase_end_if(&self, g: &Board, ctx: &Ctx) -> bool {
+        false
+    }
+
+    fn play_order(&self, alloc: Global, g: &Board, ctx: &Ctx) -> Result<List<Seat>, NoMemory> {
+        Ok(List::new(alloc))
     }
 
     fn to_value(&self, alloc: Global, g: &Board) -> Result<Value, NoMemory> {
