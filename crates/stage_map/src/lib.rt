@@ -1,6 +1,11 @@
 //! The map of active players: who may act, and which moves a seat has.
 #![tactic(auto)]
 
+mod active;
+mod ended;
 mod moves;
+mod rows;
 
+pub use active::Active;
+pub use ended::Ended;
 pub use moves::{is_active, moves_of};
