@@ -5,6 +5,7 @@ mod active;
 mod ended;
 mod moves;
 mod rows;
+mod spec_rows;
 
 pub use active::Active;
 pub use ended::Ended;
