@@ -4,6 +4,7 @@
 mod active;
 mod ended;
 mod moves;
+mod plan;
 mod rows;
 mod spec_rows;
 
