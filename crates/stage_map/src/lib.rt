@@ -1,6 +1,13 @@
 //! The map of active players: who may act, and which moves a seat has.
 #![tactic(auto)]
 
+mod active;
+mod ended;
 mod moves;
+mod plan;
+mod rows;
+mod spec_rows;
 
+pub use active::Active;
+pub use ended::Ended;
 pub use moves::{is_active, moves_of};
