@@ -1,5 +1,5 @@
 -- How the code of the flow is tied to its meaning: want of memory is free, and all else is exact, with the table, the words left and the tasks.
-use Rattle.std.specs.Prelude.{◌≡◌, ℕ, Bool, false, List, [], Result, Ok, Err}
+use Rattle.std.specs.Prelude.{◌≡◌, ℕ, Bool, false, List, [], ◌∷◌, Option, Some, None, Result, Ok, Err}
 use Rattle.game_sheet.specs.declared.refusal.GameRule.TheVariants as rule
 use Rattle.game_trait.specs.declared.halt.HookHalt.{HookHalt}
 use Rattle.game_trait.specs.declared.halt.HookHalt.TheVariants.{Spent, Crowded, NoMemory as Starved}
@@ -7,6 +7,7 @@ use Rattle.phase_flow.specs.declared.flow_no.FlowNo.{FlowNo}
 use Rattle.phase_flow.specs.declared.flow_no.FlowNo.TheVariants.{TooManyEvents, TooManyWords, TooEarly, NoMemory}
 use Rattle.phase_flow.specs.declared.table.Table.{Table}
 use Rattle.phase_flow.specs.declared.task.Task.{Task}
+use Rattle.phase_flow.specs.Settle.{next_task}
 use Rattle.phase_flow.specs.Step.{At, Ends, Step}
 
 abbrev pub Fails : {G : Type 0} → FlowNo → Step G → Type 0
@@ -35,3 +36,22 @@ abbrev pub no_of : HookHalt → FlowNo
 no_of Spent = TooManyWords
 no_of Crowded = TooManyEvents
 no_of Starved = NoMemory
+
+-- the answer of a part that never puts a phase's end in front
+abbrev pub quieted : {A : Type 0} → Result A FlowNo → Result Bool FlowNo
+quieted (Ok done) = Ok false
+quieted (Err why) = Err why
+
+-- the same of a part that wants nothing but memory
+abbrev pub mapped : {A E : Type 0} → Result A E → Result Bool FlowNo
+mapped (Ok done) = Ok false
+mapped (Err why) = Err NoMemory
+
+-- nothing is left to do
+abbrev pub IsDone : {G : Type 0} → Table G → List Task → Type 0
+IsDone {G = G} t tasks = (words : List ℕ) (go : Task → List Task → Step G) → next_task t words tasks go ≡ At t words [] false
+
+-- the task that runs next is the first one, and the others are left
+abbrev pub Heads : {G : Type 0} → Option Task → Table G → List Task → List Task → Type 0
+Heads None t rest tasks = IsDone t tasks
+Heads (Some task) t rest tasks = (t.ctx.over ≡ None) × (tasks ≡ task ∷ rest)

@@ -2,14 +2,19 @@
 #![tactic(auto)]
 
 mod automatic;
+mod flow;
 mod flow_no;
 mod hooks;
 mod line;
 mod map;
 mod rows;
+mod run;
+mod settle;
 mod table;
 mod task;
+mod turns;
 
+pub use flow::{begin, moved, run_event};
 pub use flow_no::FlowNo;
 pub use table::Table;
 pub use task::Task;

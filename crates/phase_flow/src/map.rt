@@ -1,7 +1,7 @@
 //! What changes the map of active players, with what the context shows of it.
 
-ghost use Rattle.std.specs.Prelude.{◌≡◌, OnOk, IfOk};
-ghost use Rattle.stage_map.specs.Active.{shown};
+ghost use Rattle.std.specs.Prelude.{◌≡◌, ◌≤◌, OnOk, IfOk};
+ghost use Rattle.stage_map.specs.Active.{count_of, shown};
 ghost use Rattle.stage_map.specs.Set.{set};
 ghost use Rattle.stage_map.specs.Stages.{count_move, end_stage, set_stage};
 ghost use Rattle.phase_flow.specs.Turns.{spec_set, with_active};
@@ -76,4 +76,14 @@ fn show<G>(table: &mut Table<G>) -> Result<(), NoMemory>
     let rows = shim_rows(&table.active)?;
     table.ctx.active = rows;
     Ok(())
+}
+
+/// Counts a move of a seat on the map.
+pub(crate) fn count_move<G>(sheet: &Sheet, seat: Seat, table: &mut Table<G>) -> Result<(), NoMemory>
+    requires { count_of table.old.active seat ≤ 4000000000 }
+    ensures { OnOk result (table.new ≡ with_active (count_move sheet.now seat table.old.ctx.current table.old.ctx.order table.old.active) table.old) }
+{
+    let current = table.ctx.current;
+    shim_count_move(&mut table.active, sheet, seat, current, table.ctx.order.as_slice())?;
+    show(table)
 }

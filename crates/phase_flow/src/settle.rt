@@ -1,0 +1,76 @@
+//! How a table is settled.
+
+ghost use Rattle.std.specs.Prelude.{◌≡◌, ◌+◌, ◌<◌, ◌≤◌, ◌^◌, false, IfOk, OnOk, IfSome, IfNone};
+ghost use Rattle.dice_words.specs.Strip.{Follows};
+ghost use Rattle.phase_flow.specs.Automatic.{with_automatic};
+ghost use Rattle.phase_flow.specs.Comes.{Heads, Settles};
+ghost use Rattle.phase_flow.specs.Placed.{IsPlaced};
+ghost use Rattle.phase_flow.specs.Settle.{settle};
+
+use crate::automatic::automatic;
+use crate::flow_no::FlowNo;
+use crate::line::Line;
+use crate::run::run;
+use crate::table::Table;
+use crate::task::Task;
+use dice_words::Tape;
+use game_trait::Game;
+use std::alloc::Global;
+
+/// How many tasks an action may begin.
+const MOST_TASKS: u8 = 64;
+
+/// Runs tasks until none is left or the match is over.
+///
+/// It is `TooManyEvents` at a 65th task, and otherwise what the first hook that gives up is refused as.
+pub(crate) fn settle<X: Game>(
+    alloc: Global,
+    game: &X,
+    mut table: Table<X::G>,
+    mut tasks: Line<Task>,
+    tape: &mut Tape,
+) -> Result<Table<X::G>, FlowNo>
+    requires placed { IsPlaced table.ctx }
+    requires room { table.ctx.turn + 64 < 2 ^ 32 }
+    ensures answer { Settles result tape.new.left (settle (X.rules game.now) 64 table tape.old.left tasks false) }
+    ensures turn { IfOk result (λ t. t.ctx.turn ≤ table.ctx.turn + 64) }
+    ensures placed { IfOk result (λ t. IsPlaced t.ctx) }
+    ensures follows { Follows tape.old tape.new }
+{
+    let mut left = MOST_TASKS;
+    let mut after = false;
+    'tasks: loop {
+        let Some(task) = head(game, &table, &mut tasks, after) else {
+            return Ok(table);
+        };
+        if left == 0 {
+            return Err(FlowNo::TooManyEvents);
+        }
+        left -= 1;
+        match run(alloc, game, task, &mut table, &mut tasks, tape) {
+            Err(why) => return Err(why),
+            Ok(put) => after = put,
+        }
+    }
+}
+
+/// The task that runs next: the one that comes by itself, else the first of the others; none where nothing is left to do.
+fn head<X: Game>(
+    game: &X,
+    table: &Table<X::G>,
+    tasks: &mut Line<Task>,
+    after: bool,
+) -> Option<Task>
+    ensures { Heads result table.now tasks.new (with_automatic (X.rules game.now) after table.now tasks.old) }
+{
+    if table.ctx.over.is_some() {
+        return None;
+    }
+    if after {
+        return tasks.take();
+    }
+    match automatic(game, table) {
+        Some(task) => Some(task),
+        None => tasks.take(),
+    }
+}
