@@ -7,6 +7,7 @@ mod moves;
 mod plan;
 mod rows;
 mod spec_rows;
+mod stages;
 
 pub use active::Active;
 pub use ended::Ended;
