@@ -1,2 +1,3 @@
 pub mod Plans
 pub mod Puts
+pub mod Rising
