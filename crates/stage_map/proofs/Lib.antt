@@ -1,3 +1,4 @@
 pub mod Plans
 pub mod Puts
 pub mod Rising
+pub mod Sounds
