@@ -1,4 +1,6 @@
+pub mod Enough
 pub mod Plans
 pub mod Puts
 pub mod Rising
+pub mod Shown
 pub mod Sounds

@@ -90,7 +90,7 @@ module _ (specs stages seats most : ℕ) where
   pub nearly : (m : Map) → IsSound specs stages seats most m → Nearly m
   nearly m s = record { present = nearly_by m.rows m s.present; earlier = s.earlier }
 
-  null_sound : IsSound specs stages seats most none
+  pub null_sound : IsSound specs stages seats most none
   null_sound = record { present = (refl, refl); earlier = tt }
 
   returned_sound : (stack : List Kept) → Kepts stack → IsSound specs stages seats most (returned stack)
@@ -169,7 +169,7 @@ module _ (specs stages seats most : ℕ) where
   found_fits seat [] row e a = cc
   found_fits seat (other ∷ listed) row e a = found_at (other.seat == seat) other (row_of seat listed) row e a.0 (λ d. found_fits seat listed row d a.1)
 
-  listed_fits : (seat : ℕ) (rows : Option (List Row)) (m : Map) (row : Row) → option_and_then (row_of seat) rows ≡ Some row → StandsOrNull specs stages seats most rows m → RowFits stages seats most row
+  pub listed_fits : (seat : ℕ) (rows : Option (List Row)) (m : Map) (row : Row) → option_and_then (row_of seat) rows ≡ Some row → StandsOrNull specs stages seats most rows m → RowFits stages seats most row
   listed_fits seat None m row e s = cc
   listed_fits seat (Some listed) m row e s = found_fits seat listed row e s.fit
 
