@@ -1,0 +1,1 @@
+-- What a sheet that breaks no rule is known to be.
