@@ -7,6 +7,7 @@ ghost use Rattle.std.specs.Str.{bytes_eq};
 ghost use Rattle.game_sheet.specs.declared.sheet.PhaseRow.{PhaseRow};
 ghost use Rattle.game_sheet.specs.declared.sheet.StageRow.{StageRow};
 ghost use Rattle.game_sheet.specs.declared.sheet.TurnRow.{TurnRow};
+ghost use Rattle.game_sheet.specs.SheetFits.{SheetFits};
 ghost use Rattle.game_sheet.specs.SheetRules.{are_distinct, are_named, broken, first_broken, is_game_letter, is_limit, is_name, is_once, is_there, kept, list_fits, lists_fit, moves_fit, name_fits, nexts_fit, order_fits, orders_fit, phases_fit, place_fits, seats_fit, spec_fits, specs_fit, stages_fit, turn_fits, turns_fit, where_given};
 
 use crate::ids::{MoveId, PhaseId, Seat, SpecId, StageId};
@@ -36,11 +37,21 @@ pub struct SheetFault {
 pub fn check_sheet(sheet: &Sheet) -> Result<(), SheetFault>
     ensures passes { IsOk result ↔ (broken sheet.now ≡ 0) }
     ensures fault { IfErr result (λ fault. fault.rule ≡ broken sheet.now) }
+    ensures fits { OnOk result (SheetFits sheet.now) }
 {
     match first_broken(&rules_kept(sheet)) {
         0 => Ok(()),
         rule => Err(SheetFault { rule }),
     }
+}
+
+/// The same sheet, with what holds of a sheet that breaks no rule: for a game whose fixed sheet is known to break none.
+pub fn unbroken(sheet: &Sheet) -> &Sheet
+    requires { broken sheet.now ≡ 0 }
+    ensures same { result.now ≡ sheet.now }
+    ensures fits { SheetFits sheet.now }
+{
+    sheet
 }
 
 /// Which of the ten rules a sheet keeps.
