@@ -1,4 +1,6 @@
 pub mod Enough
+pub mod MapLaws
+pub mod MapsFit
 pub mod Plans
 pub mod Puts
 pub mod Rising

@@ -9,7 +9,7 @@ use Rattle.stage_map.specs.declared.active.Kept.{Kept}
 use Rattle.stage_map.specs.declared.rows.Row.{Row}
 use Rattle.stage_map.specs.Active.{Map, none, row_of, row_on}
 use Rattle.stage_map.specs.IsSound.{IsSound, Rise, RowFits, Stands, StandsOrNull}
-use Rattle.stage_map.specs.MapsFit.{MapsFit, PlaceFits, SpecFits}
+use Rattle.stage_map.proofs.MapsFit.{PlaceFits, SpecFits}
 use Rattle.stage_map.specs.Rows.{each_at, entries_of, others, placed, put, put_all, spec_rows, unlimited, without}
 use Rattle.stage_map.specs.Set.{kept_on, made, returned, set, set_by, set_within, settle, settled_by, stack_after, unfollowed_by}
 use Rattle.stage_map.specs.Stages.{count_move, count_row, counted, end_row, end_stage, is_reached, rows_after, set_stage, stage_after, stage_left, stage_set_by}
@@ -19,7 +19,6 @@ abbrev pub InMatch : ℕ → List ℕ → Type 0
 InMatch seats order = All (λ seat. seat < seats) order
 
 module _ (specs stages seats most : ℕ) where
-
   abbrev pub Good : List Row → Type 0
   Good listed = Rise listed × All (RowFits stages seats most) listed
 
@@ -64,12 +63,12 @@ module _ (specs stages seats most : ℕ) where
       let second = each_at spec.others (others current order) in
       let third = each_at spec.all order in
       all_append EntryFits (first ++ second ++ third) spec.value
-          (all_append EntryFits (first ++ second) third
-              (all_append EntryFits first second
-                  (each_fit spec.current (current ∷ []) f.current (h, tt))
-                  (each_fit spec.others (others current order) f.others (all_filter (λ seat. seat < seats) (λ seat. not (seat == current)) order o)))
-              (each_fit spec.all order f.all o))
-          (value_fit spec.value f.value_seats f.value_places)
+      (all_append EntryFits (first ++ second) third
+      (all_append EntryFits first second
+      (each_fit spec.current (current ∷ []) f.current (h, tt))
+      (each_fit spec.others (others current order) f.others (all_filter (λ seat. seat < seats) (λ seat. not (seat == current)) order o)))
+      (each_fit spec.all order f.all o))
+      (value_fit spec.value f.value_seats f.value_places)
 
   good_spec_rows : (spec : SpecRow) (current : ℕ) (order : List ℕ) → SpecFits specs stages seats spec → current < seats → InMatch seats order → Good (spec_rows spec current order)
   good_spec_rows spec current order f h o = good_put_all spec (entries_of spec current order) [] (entries_fit spec current order f h o) (tt, tt)
@@ -192,7 +191,7 @@ module _ (specs stages seats most : ℕ) where
   left_sound : (sheet : Sheet) (row : Row) (current : ℕ) (order : List ℕ) (m : Map) → SpecsFit sheet → StagesFit sheet → current < seats → InMatch seats order → row.seat < seats → Nearly m → IsSound specs stages seats most (stage_left sheet row current order m)
   left_sound sheet row current order m f g h o k n =
       settle_sound sheet current order (record m { rows = option_map (rows_after (stage_after sheet row.stage) row.seat) m.rows }) f h o
-          (record { present = left_nearly m.rows (stage_after sheet row.stage) row.seat m k (λ stage. next_fits sheet row.stage stage g) n.present; earlier = n.earlier })
+      (record { present = left_nearly m.rows (stage_after sheet row.stage) row.seat m k (λ stage. next_fits sheet row.stage stage g) n.present; earlier = n.earlier })
 
   either_sound : (b : Bool) (m n : Map) → IsSound specs stages seats most m → IsSound specs stages seats most n → IsSound specs stages seats most (cond b m n)
   either_sound true m n s t = s
@@ -216,8 +215,8 @@ module _ (specs stages seats most : ℕ) where
   count_row_sound sheet None current order m f g h o k s = s
   count_row_sound sheet (Some row) current order m f g h o k s =
       either_sound (is_reached row.most (row.count + 1)) (stage_left sheet row current order m) (record m { rows = option_map (put (counted row)) m.rows })
-          (left_sound sheet row current order m f g h o (k row refl).seat (nearly m s))
-          (counted_sound m.rows (counted row) m (k row refl) s.present s.earlier)
+      (left_sound sheet row current order m f g h o (k row refl).seat (nearly m s))
+      (counted_sound m.rows (counted row) m (k row refl) s.present s.earlier)
 
 row_weaker : (stages seats most more : ℕ) → most ≤ more → (row : Row) → RowFits stages seats most row → RowFits stages seats more row
 row_weaker stages seats most more h row p = record { seat = p.seat; stage = p.stage; count = omega arith }
@@ -233,9 +232,9 @@ present_weaker specs stages seats most more h (Some listed) m s = stands_weaker 
 -- a greater bound of the counts is one too
 pub sound_weaker : (specs stages seats most more : ℕ) (m : Map) → most ≤ more → IsSound specs stages seats most m → IsSound specs stages seats more m
 sound_weaker specs stages seats most more m h s = record {
-    present = present_weaker specs stages seats most more h m.rows m s.present;
-    earlier = all_weaker (λ (kept : Kept). Stands specs stages seats most kept.rows kept.next) (λ (kept : Kept). Stands specs stages seats more kept.rows kept.next) (λ kept. stands_weaker specs stages seats most more h kept.rows kept.next) m.stack s.earlier;
-  }
+  present = present_weaker specs stages seats most more h m.rows m s.present;
+  earlier = all_weaker (λ (kept : Kept). Stands specs stages seats most kept.rows kept.next) (λ (kept : Kept). Stands specs stages seats more kept.rows kept.next) (λ kept. stands_weaker specs stages seats most more h kept.rows kept.next) m.stack s.earlier;
+}
 
 counted_fits : (stages seats most : ℕ) (row : Row) → RowFits stages seats most row → RowFits stages seats (most + 1) (counted row)
 counted_fits stages seats most row p = record { seat = p.seat; stage = p.stage; count = omega arith }
@@ -243,5 +242,5 @@ counted_fits stages seats most row p = record { seat = p.seat; stage = p.stage; 
 pub count_move_sound : (specs stages seats most : ℕ) (sheet : Sheet) (seat current : ℕ) (order : List ℕ) (m : Map) → SpecsFit specs stages seats most sheet → StagesFit specs stages seats most sheet → current < seats → InMatch seats order → IsSound specs stages seats most m → IsSound specs stages seats (most + 1) (count_move sheet seat current order m)
 count_move_sound specs stages seats most sheet seat current order m f g h o s =
     count_row_sound specs stages seats (most + 1) sheet (row_on m seat) current order m f g h o
-        (λ row e. counted_fits stages seats most row (listed_fits specs stages seats most seat m.rows m row e s.present))
-        (sound_weaker specs stages seats most (most + 1) m (omega arith) s)
+    (λ row e. counted_fits stages seats most row (listed_fits specs stages seats most seat m.rows m row e s.present))
+    (sound_weaker specs stages seats most (most + 1) m (omega arith) s)
