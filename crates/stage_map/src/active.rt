@@ -357,3 +357,6 @@ fn copied(alloc: Global, stack: &VecDeque<Kept>) -> Result<VecDeque<Kept>, NoMem
     }
     Ok(copy)
 }
+
+#[cfg(test)]
+mod tests;
