@@ -1,2 +1,3 @@
 pub mod MatchName
 pub mod SheetFits
+pub mod SheetRules

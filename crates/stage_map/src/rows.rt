@@ -1,7 +1,7 @@
 //! Rows of a map: where each active seat stands, and how many moves it has made there.
 
-ghost use Rattle.std.specs.Prelude.{◌≡◌, ◌+◌, ◌++◌, ◌^◌, ◌<◌, IfOk, OnOk, option_map};
-ghost use Rattle.stage_map.specs.Active.{row_of};
+ghost use Rattle.std.specs.Prelude.{◌≡◌, ◌+◌, ◌++◌, ◌^◌, ◌<◌, IfOk, OnOk, map};
+ghost use Rattle.stage_map.specs.Active.{row_of, shown_row};
 ghost use Rattle.stage_map.specs.Rows.{above, below, put, without};
 
 use game_sheet::{List, NoMemory, Seat, StageId};
@@ -77,4 +77,15 @@ fn add_above(list: &mut List<Row>, seat: Seat, rows: &[Row]) -> Result<(), NoMem
         }
     }
     Ok(())
+}
+
+/// What the context shows of rows: the seats with their stages.
+pub fn shown_rows(alloc: Global, rows: &[Row]) -> Result<List<(Seat, Option<StageId>)>, NoMemory>
+    ensures { IfOk result (λ list. list ≡ map shown_row rows.now) }
+{
+    let mut list = List::new(alloc);
+    for row in rows {
+        list.push((row.seat, row.stage))?;
+    }
+    Ok(list)
 }
