@@ -39,9 +39,9 @@ abbrev pub moves_after : Bool → ℕ → ℕ
 moves_after is_current moves = if is_current then moves + 1 else moves
 
 -- a move that counts, counts for the turn and for its seat on the map
-abbrev pub counted : {G : Type 0} → Sheet → Bool → ℕ → Table G → Table G
-counted sheet false seat t = t
-counted sheet true seat t =
+abbrev pub with_count : {G : Type 0} → Sheet → Bool → ℕ → Table G → Table G
+with_count sheet false seat t = t
+with_count sheet true seat t =
     with_active (count_move sheet seat t.ctx.current t.ctx.order t.active) (record t { ctx = record t.ctx { moves = moves_after (nat_eq seat t.ctx.current) t.ctx.moves } })
 
 -- a turn or a stage that a player would end before its least count of moves
@@ -65,7 +65,7 @@ module _ {G : Type 0} (rules : Rules G) where
 
   -- a seat's move was played, which made this table's state and queued these events
   unfoldable pub moved : ℕ → Bool → Table G → List ℕ → List Event → Step G
-  moved seat counts t words events = carry_on (after_move seat (counted rules.sheet counts seat t) words events) (settle rules 64)
+  moved seat counts t words events = carry_on (after_move seat (with_count rules.sheet counts seat t) words events) (settle rules 64)
 
   -- a seat asks for an event
   unfoldable pub run_event : ℕ → Event → Table G → List ℕ → Step G

@@ -3,9 +3,9 @@
 ghost use Rattle.std.specs.Prelude.{◌≡◌, ◌+◌, ◌<◌, ◌≤◌, ◌^◌, IfOk, OnOk};
 ghost use Rattle.dice_words.specs.Strip.{Follows};
 ghost use Rattle.phase_flow.specs.Comes.{Settles};
-ghost use Rattle.phase_flow.specs.Flow.{begin, counted, is_early, moved, opening, run_event};
+ghost use Rattle.phase_flow.specs.Flow.{begin, is_early, moved, opening, run_event, with_count};
 ghost use Rattle.phase_flow.specs.Placed.{IsPlaced};
-ghost use Rattle.stage_map.specs.Active.{count_of, is_below};
+ghost use Rattle.stage_map.specs.Active.{count_of};
 
 use crate::flow_no::{FlowNo, give_up};
 use crate::hooks::after_move;
@@ -122,7 +122,7 @@ fn count<G>(
     requires placed { IsPlaced table.old.ctx }
     requires moves { table.old.ctx.moves ≤ 4000000000 }
     requires count { count_of table.old.active seat ≤ 4000000000 }
-    ensures value { OnOk result (table.new ≡ counted sheet.now counted seat table.old) }
+    ensures value { OnOk result (table.new ≡ with_count sheet.now counted seat table.old) }
     ensures turn { OnOk result (table.new.ctx.turn ≡ table.old.ctx.turn) }
     ensures placed { OnOk result (IsPlaced table.new.ctx) }
 {
@@ -175,13 +175,7 @@ fn is_early<G>(sheet: &Sheet, seat: Seat, event: &Event, table: &Table<G>) -> bo
 {
     match event {
         Event::EndTurn { .. } => table.ctx.moves < turn_row(sheet, &table.ctx).min_moves,
-        Event::EndStage => shim_is_below(&table.active, seat),
+        Event::EndStage => table.active.is_below(seat),
         _ => false,
     }
-}
-
-fn shim_is_below(active: &Active, seat: Seat) -> bool
-    ensures { result ≡ is_below active.now seat }
-{
-    unreachable!()
 }

@@ -7,38 +7,7 @@ ghost use Rattle.stage_map.specs.Stages.{count_move, end_stage, set_stage};
 ghost use Rattle.phase_flow.specs.Turns.{spec_set, with_active};
 
 use crate::table::Table;
-use game_sheet::{Ctx, List, NoMemory, Seat, Sheet, SpecId, StageId};
-use stage_map::Active;
-
-fn shim_set(active: &mut Active, sheet: &Sheet, spec: SpecId, current: Seat, order: &[Seat]) -> Result<(), NoMemory>
-    ensures { OnOk result (active.new ≡ set sheet.now spec current order.now active.old) }
-{
-    Err(NoMemory)
-}
-
-fn shim_set_stage(active: &mut Active, seat: Seat, to: StageId) -> Result<(), NoMemory>
-    ensures { OnOk result (active.new ≡ set_stage seat to active.old) }
-{
-    Err(NoMemory)
-}
-
-fn shim_end_stage(active: &mut Active, sheet: &Sheet, seat: Seat, current: Seat, order: &[Seat]) -> Result<(), NoMemory>
-    ensures { OnOk result (active.new ≡ end_stage sheet.now seat current order.now active.old) }
-{
-    Err(NoMemory)
-}
-
-fn shim_count_move(active: &mut Active, sheet: &Sheet, seat: Seat, current: Seat, order: &[Seat]) -> Result<(), NoMemory>
-    ensures { OnOk result (active.new ≡ count_move sheet.now seat current order.now active.old) }
-{
-    Err(NoMemory)
-}
-
-fn shim_rows(active: &Active) -> Result<Option<List<(Seat, Option<StageId>)>>, NoMemory>
-    ensures { IfOk result (λ rows. rows ≡ shown active.now) }
-{
-    Err(NoMemory)
-}
+use game_sheet::{NoMemory, Seat, Sheet, SpecId, StageId};
 
 /// Sets the spec, if there is one.
 pub(crate) fn set_spec<G>(sheet: &Sheet, spec: Option<SpecId>, table: &mut Table<G>) -> Result<(), NoMemory>
@@ -48,7 +17,7 @@ pub(crate) fn set_spec<G>(sheet: &Sheet, spec: Option<SpecId>, table: &mut Table
         return Ok(());
     };
     let current = table.ctx.current;
-    shim_set(&mut table.active, sheet, spec, current, table.ctx.order.as_slice())?;
+    table.active.set(sheet, spec, current, table.ctx.order.as_slice())?;
     show(table)
 }
 
@@ -56,7 +25,7 @@ pub(crate) fn set_spec<G>(sheet: &Sheet, spec: Option<SpecId>, table: &mut Table
 pub(crate) fn put_in_stage<G>(seat: Seat, to: StageId, table: &mut Table<G>) -> Result<(), NoMemory>
     ensures { OnOk result (table.new ≡ with_active (set_stage seat to table.old.active) table.old) }
 {
-    shim_set_stage(&mut table.active, seat, to)?;
+    table.active.set_stage(seat, to)?;
     show(table)
 }
 
@@ -65,7 +34,7 @@ pub(crate) fn end_stage<G>(sheet: &Sheet, seat: Seat, table: &mut Table<G>) -> R
     ensures { OnOk result (table.new ≡ with_active (end_stage sheet.now seat table.old.ctx.current table.old.ctx.order table.old.active) table.old) }
 {
     let current = table.ctx.current;
-    shim_end_stage(&mut table.active, sheet, seat, current, table.ctx.order.as_slice())?;
+    let _ended = table.active.end_stage(sheet, seat, current, table.ctx.order.as_slice())?;
     show(table)
 }
 
@@ -73,7 +42,7 @@ pub(crate) fn end_stage<G>(sheet: &Sheet, seat: Seat, table: &mut Table<G>) -> R
 fn show<G>(table: &mut Table<G>) -> Result<(), NoMemory>
     ensures { OnOk result (table.new ≡ with_active table.old.active table.old) }
 {
-    let rows = shim_rows(&table.active)?;
+    let rows = table.active.rows()?;
     table.ctx.active = rows;
     Ok(())
 }
@@ -84,6 +53,6 @@ pub(crate) fn count_move<G>(sheet: &Sheet, seat: Seat, table: &mut Table<G>) -> 
     ensures { OnOk result (table.new ≡ with_active (count_move sheet.now seat table.old.ctx.current table.old.ctx.order table.old.active) table.old) }
 {
     let current = table.ctx.current;
-    shim_count_move(&mut table.active, sheet, seat, current, table.ctx.order.as_slice())?;
+    table.active.count_move(sheet, seat, current, table.ctx.order.as_slice())?;
     show(table)
 }
