@@ -1,1 +1,3 @@
+mod Fits
 mod Settling
+mod Sounds

@@ -1,6 +1,7 @@
 pub mod Automatic
 pub mod Comes
 pub mod Flow
+pub mod IsSound
 pub mod Placed
 pub mod Rows
 pub mod Settle

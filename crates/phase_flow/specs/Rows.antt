@@ -38,5 +38,5 @@ order_list Default seats own = all_seats seats
 order_list Reset seats own = all_seats seats
 order_list Continue seats own = all_seats seats
 order_list Once seats own = all_seats seats
-order_list (Custom listed) seats own = list_or_all seats listed
+order_list (Custom listed) seats own = listed
 order_list CustomFrom seats own = list_or_all seats own

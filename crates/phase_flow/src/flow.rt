@@ -1,4 +1,4 @@
-//! The beginning of a match, and what follows from a move and from a player's event.
+//! The beginning of a match, and what follows from a move and from a player's event, on a table that is in order.
 
 ghost use Rattle.std.specs.Prelude.{◌≡◌, ◌+◌, ◌<◌, ◌≤◌, ◌^◌, IfOk, OnOk};
 ghost use Rattle.dice_words.specs.Strip.{Follows};
@@ -23,11 +23,9 @@ use stage_map::Active;
 use std::alloc::Global;
 use turn_order::all_seats;
 
-/// The table at the beginning of a match of a number of seats in the bounds of the game's sheet.
-///
-/// It is `TooManyEvents` or `TooManyWords` exactly where the flow comes to that, and never `TooEarly`.
+/// The table at the beginning of a match.
 #[tactic(auto, unfolding(crate::specs::Flow::begin))]
-pub fn begin<X: Game>(
+pub(crate) fn begin<X: Game>(
     alloc: Global,
     game: &X,
     seats: u8,
@@ -37,7 +35,6 @@ pub fn begin<X: Game>(
     requires most { seats ≤ (X.rules game.now).sheet.max_seats }
     ensures answer { Settles result tape.new.left (begin (X.rules game.now) seats tape.old.left) }
     ensures turn { IfOk result (λ t. t.ctx.turn ≤ 65) }
-    ensures placed { IfOk result (λ t. IsPlaced t.ctx) }
     ensures follows { Follows tape.old tape.new }
 {
     let start = start_phase(game.sheet());
@@ -79,12 +76,9 @@ fn opening(alloc: Global, seats: u8) -> Result<Ctx, NoMemory>
     })
 }
 
-/// The table after a seat's move was played: `table` has the state that it made, and `events` those that it queued.
-///
-/// A move that is `counted` counts toward the limits of its turn and of its seat's stage. The answer is `TooManyEvents` or
-/// `TooManyWords` exactly where the flow comes to that, and never `TooEarly`. A refusal drops the table.
+/// The table after a seat's move was played.
 #[tactic(auto, unfolding(crate::specs::Flow::moved))]
-pub fn moved<X: Game>(
+pub(crate) fn moved<X: Game>(
     alloc: Global,
     game: &X,
     mut table: Table<X::G>,
@@ -99,7 +93,6 @@ pub fn moved<X: Game>(
     requires count { count_of table.active seat ≤ 4000000000 }
     ensures answer { Settles result tape.new.left (moved (X.rules game.now) seat counted table tape.old.left events) }
     ensures turn { IfOk result (λ t. t.ctx.turn ≤ table.ctx.turn + 64) }
-    ensures placed { IfOk result (λ t. IsPlaced t.ctx) }
     ensures follows { Follows tape.old tape.new }
 {
     let mut tasks = Line::new(alloc);
@@ -136,11 +129,8 @@ fn count<G>(
 }
 
 /// The table after an event that a seat asks for.
-///
-/// It is `TooEarly` exactly where the turn or the seat's stage would end before its least count of moves; `TooManyEvents`
-/// and `TooManyWords` come exactly where the flow comes to that. A refusal drops the table.
 #[tactic(auto, unfolding(crate::specs::Flow::run_event))]
-pub fn run_event<X: Game>(
+pub(crate) fn run_event<X: Game>(
     alloc: Global,
     game: &X,
     table: Table<X::G>,
@@ -152,7 +142,6 @@ pub fn run_event<X: Game>(
     requires turn { table.ctx.turn ≤ 4000000000 }
     ensures answer { Settles result tape.new.left (run_event (X.rules game.now) seat event table tape.old.left) }
     ensures turn { IfOk result (λ t. t.ctx.turn ≤ table.ctx.turn + 64) }
-    ensures placed { IfOk result (λ t. IsPlaced t.ctx) }
     ensures follows { Follows tape.old tape.new }
 {
     if is_early(game.sheet(), seat, &event, &table) {

@@ -2,6 +2,7 @@
 #![tactic(auto)]
 
 mod automatic;
+mod calls;
 mod flow;
 mod flow_no;
 mod hooks;
@@ -14,7 +15,7 @@ mod table;
 mod task;
 mod turns;
 
-pub use flow::{begin, moved, run_event};
+pub use calls::{begin, moved, run_event};
 pub use flow_no::FlowNo;
 pub use table::Table;
 pub use task::Task;

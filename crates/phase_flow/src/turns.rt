@@ -1,8 +1,7 @@
 //! How turns and phases begin and end.
 
-ghost use Rattle.std.specs.Prelude.{◌≡◌, ◌+◌, ◌<◌, ◌^◌, length, IfOk, OnOk};
+ghost use Rattle.std.specs.Prelude.{◌≡◌, ◌+◌, ◌<◌, ◌≤◌, ◌^◌, length, IfOk, OnOk};
 ghost use Rattle.dice_words.specs.Strip.{Follows};
-ghost use Rattle.turn_order.specs.PlayOrder.{IsPlayOrder};
 ghost use Rattle.phase_flow.specs.Comes.{Comes};
 ghost use Rattle.phase_flow.specs.Placed.{Goes, IsOrdered, IsPlaced};
 ghost use Rattle.phase_flow.specs.Rows.{order_list, turn_row};
@@ -127,14 +126,12 @@ fn order_list<X: Game>(
 ) -> Result<List<Seat>, NoMemory>
     requires { IsOrdered table.now.ctx }
     ensures value { IfOk result (λ order. order ≡ order_list (turn_row (X.rules game.now).sheet table.now.ctx).order table.now.ctx.seats ((X.rules game.now).play_order table.now.g table.now.ctx)) }
-    ensures serves { IfOk result (IsPlayOrder table.now.ctx.seats) }
+    ensures least { IfOk result (λ order. 1 ≤ length order) }
+    ensures most { IfOk result (λ order. length order ≤ 64) }
 {
     let seats = table.ctx.seats;
     match &turn_row(game.sheet(), &table.ctx).order {
-        Order::Custom(listed) => {
-            let listed = List::from_slice(alloc, listed.as_slice())?;
-            list_from(alloc, listed, seats)
-        }
+        Order::Custom(listed) => List::from_slice(alloc, listed.as_slice()),
         Order::CustomFrom => {
             let own = game.play_order(alloc, &table.g, &table.ctx)?;
             list_from(alloc, own, seats)
