@@ -17,3 +17,6 @@ pub record IsSound (sheet : Sheet) (most : ℕ) (ctx : Ctx) (active : Map) : Typ
   pub map_sound : IsSoundIn sheet ctx.seats most active
   pub shows : ctx.active ≡ shown active
   pub moves : ctx.moves ≤ most
+
+abbrev pub BoundGrows : Type 0
+BoundGrows = (sheet : Sheet) (most more : ℕ) (ctx : Ctx) (active : Map) → most ≤ more → IsSound sheet most ctx active → IsSound sheet more ctx active

@@ -6,6 +6,7 @@ mod calls;
 mod flow;
 mod flow_no;
 mod hooks;
+mod laws;
 mod line;
 mod map;
 mod rows;
@@ -17,5 +18,6 @@ mod turns;
 
 pub use calls::{begin, moved, run_event};
 pub use flow_no::FlowNo;
+pub use laws::bounds_grow;
 pub use table::Table;
 pub use task::Task;

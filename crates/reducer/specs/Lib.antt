@@ -1,4 +1,5 @@
 pub mod Accepted
+pub mod Acts
 pub mod Fold
 pub mod Refuses
 pub mod Sound
