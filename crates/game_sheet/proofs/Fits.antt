@@ -6,7 +6,7 @@ use Rattle.std.specs.Char.{is_ascii_alphanumeric}
 use Rattle.std.specs.Str.{bytes_eq}
 use Rattle.std.proofs.lemmas.Bool.{eqb-true, leb-true, ltb-true, true≢false}
 use Rattle.std.proofs.lemmas.Slice.Eq.{bytes_eq-Decides}
-use Rattle.game_sheet.proofs.Tests.{all_at, all_kept, both, each_of, enumerated, given_at, one_place}
+use Rattle.game_sheet.proofs.Passing.{all_at, all_kept, both, each_of, enumerated, given_at, one_place}
 use Rattle.game_sheet.specs.SheetFits.{AreMoves, IsName, LimitsFit, NamesFit, PhaseFits, PlaceFits, SeatsFit, SheetFits, SpecFits, StageFits, TurnFits}
 use Rattle.game_sheet.specs.SheetRules.{are_distinct, are_named, broken, is_limit, is_name, is_once, is_there, kept, list_fits, lists_fit, moves_fit, name_fits, nexts_fit, order_fits, orders_fit, phases_fit, place_fits, seats_fit, spec_fits, specs_fit, stages_fit, turn_fits, turns_fit, where_given}
 use Rattle.game_sheet.specs.declared.sheet.MoveRow.{MoveRow}

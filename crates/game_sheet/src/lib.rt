@@ -14,6 +14,8 @@ mod match_name;
 mod memory;
 mod refusal;
 mod sheet;
+#[cfg(test)]
+mod tests;
 mod text;
 
 pub use act::{Act, Bye, Event, EventKind, Outcome};
