@@ -1,6 +1,4 @@
-//! Maps of a sheet with three stages and specs of each test's own.
-
-ghost use Rattle.std.specs.Prelude.{◌≡◌, ◌+◌, ◌<◌, ◌^◌};
+//! Maps of a sheet with three stages and specs of each test's own, in a match of two seats of which seat 0 is current.
 
 use crate::{Active, Ended};
 use game_sheet::{
@@ -60,31 +58,72 @@ fn empty(alloc: Global, revert: bool, next: Option<SpecId>) -> SpecRow {
     }
 }
 
-/// Whether the map isn't null and lists exactly these seats, in these stages.
-fn lists(active: &Active, expected: &[(Seat, Option<StageId>)]) -> Result<bool, NoMemory> {
-    match active.rows()? {
-        None => Ok(false),
-        Some(rows) => Ok(rows.as_slice() == expected),
+/// A map and its sheet.
+#[derive(Drop)]
+struct Match {
+    sheet: Sheet,
+    active: Active,
+}
+
+impl Match {
+    fn new(alloc: Global, specs: List<SpecRow>) -> Result<Match, NoMemory> {
+        Ok(Match {
+            sheet: sheet(alloc, specs)?,
+            active: Active::none(alloc),
+        })
+    }
+
+    fn set(&mut self, spec: u8) -> Result<(), NoMemory> {
+        let Match { sheet, active } = self;
+        active.set(sheet, SpecId::at(spec), 0, &[0, 1])
+    }
+
+    /// Counts a move of a seat.
+    fn count(&mut self, rt: &impl Abort, seat: Seat) -> Result<(), NoMemory> {
+        let Match { sheet, active } = self;
+        let made = match active.row(seat) {
+            None => 0,
+            Some(row) => row.count,
+        };
+        assert!(rt; made < 100);
+        active.count_move(sheet, seat, 0, &[0, 1])
+    }
+
+    /// Ends a seat's stage, with this answer.
+    fn end(&mut self, rt: &impl Abort, seat: Seat, expected: Ended) -> Result<(), NoMemory> {
+        let Match { sheet, active } = self;
+        let ended = active.end_stage(sheet, seat, 0, &[0, 1])?;
+        assert!(rt; ended == expected);
+        Ok(())
+    }
+
+    /// The map lists exactly these seats, in these stages.
+    fn lists(&self, rt: &impl Abort, expected: &[(Seat, Option<StageId>)]) -> Result<(), NoMemory> {
+        let shows = match self.active.rows()? {
+            None => false,
+            Some(rows) => rows.as_slice() == expected,
+        };
+        assert!(rt; shows);
+        Ok(())
+    }
+
+    /// The map is null.
+    fn is_null(&self, rt: &impl Abort) -> Result<(), NoMemory> {
+        let rows = self.active.rows()?;
+        assert!(rt; rows.is_none());
+        Ok(())
     }
 }
 
-fn is_null(active: &Active) -> Result<bool, NoMemory> {
-    Ok(active.rows()?.is_none())
-}
-
-/// Counts a move of a seat, with seat 0 current of two in order.
-fn count(rt: &impl Abort, active: &mut Active, sheet: &Sheet, seat: Seat) -> Result<(), NoMemory> {
-    let made = match active.row(seat) {
-        None => 0,
-        Some(row) => row.count,
-    };
-    assert!(rt; made < 100);
-    active.count_move(sheet, seat, 0, &[0, 1])
-}
-
-/// Ends a seat's stage, with seat 0 current of two in order.
-fn end(active: &mut Active, sheet: &Sheet, seat: Seat) -> Result<Ended, NoMemory> {
-    active.end_stage(sheet, seat, 0, &[0, 1])
+/// A spec that puts one seat in a stage, keeping the earlier map, and lets its stage end after two moves at the least.
+fn keeping(alloc: Global, seat: Seat, stage: StageId) -> Result<SpecRow, NoMemory> {
+    let mut value = List::new(alloc);
+    value.push((seat, Place { stage: Some(stage) }))?;
+    Ok(SpecRow {
+        value,
+        min_moves: 2,
+        ..empty(alloc, true, None)
+    })
 }
 
 #[test]
@@ -102,110 +141,123 @@ fn spec_with_a_follower(rt: HostRuntime) -> Result<(), Fail> {
         max_moves: Some(1),
         ..empty(alloc, false, None)
     })?;
-    let sheet = sheet(alloc, specs)?;
-    let mut active = Active::none(alloc);
-    active.set(&sheet, SpecId::at(0), 0, &[0, 1])?;
-    assert!(rt; lists(&active, &[(0, None)])?);
-    count(&rt, &mut active, &sheet, 0)?;
-    assert!(rt; lists(&active, &[(1, Some(b))])?);
-    count(&rt, &mut active, &sheet, 1)?;
-    assert!(rt; is_null(&active)?);
+    let mut game = Match::new(alloc, specs)?;
+    game.set(0)?;
+    game.lists(&rt, &[(0, None)])?;
+    game.count(&rt, 0)?;
+    game.lists(&rt, &[(1, Some(b))])?;
+    game.count(&rt, 1)?;
+    game.is_null(&rt)?;
     Ok(())
 }
 
-/// A spec that puts one seat in a stage, keeping the earlier map, and lets its stage end after two moves at the least.
-fn keeping(alloc: Global, seat: Seat, stage: StageId) -> Result<SpecRow, NoMemory> {
-    let mut value = List::new(alloc);
-    value.push((seat, Place { stage: Some(stage) }))?;
-    Ok(SpecRow {
-        value,
-        min_moves: 2,
-        ..empty(alloc, true, None)
-    })
-}
-
 #[test]
-fn three_kept_maps_return_with_their_counts(rt: HostRuntime) -> Result<(), Fail> {
+fn three_kept_maps_return(rt: HostRuntime) -> Result<(), Fail> {
     let alloc = rt.alloc();
-    let a = StageId::at(0);
     let b = StageId::at(1);
     let c = StageId::at(2);
     let mut specs = List::new(alloc);
-    specs.push(keeping(alloc, 0, b)?)?;
-    specs.push(keeping(alloc, 1, b)?)?;
-    specs.push(keeping(alloc, 1, c)?)?;
+    for stage in 0..3 {
+        specs.push(SpecRow {
+            min_moves: 0,
+            ..keeping(alloc, 1, StageId::at(stage))?
+        })?;
+    }
     specs.push(SpecRow {
         current: Some(LISTED),
         ..empty(alloc, true, None)
     })?;
-    let sheet = sheet(alloc, specs)?;
-    let mut active = Active::none(alloc);
-    active.set(&sheet, SpecId::at(0), 0, &[0, 1])?;
-    count(&rt, &mut active, &sheet, 0)?;
-    active.set(&sheet, SpecId::at(1), 0, &[0, 1])?;
-    count(&rt, &mut active, &sheet, 1)?;
-    count(&rt, &mut active, &sheet, 1)?;
-    active.set(&sheet, SpecId::at(2), 0, &[0, 1])?;
-    active.set(&sheet, SpecId::at(3), 0, &[0, 1])?;
-    let kept = active.copy()?;
-    assert!(rt; lists(&active, &[(0, None)])?);
-    assert!(rt; end(&mut active, &sheet, 0)? == Ended::Done);
-    assert!(rt; lists(&active, &[(1, Some(c))])?);
-    assert!(rt; active.is_below(1));
-    active.set_stage(1, a)?;
-    assert!(rt; !active.is_below(1));
-    assert!(rt; end(&mut active, &sheet, 1)? == Ended::Done);
-    assert!(rt; lists(&active, &[(1, Some(b))])?);
-    assert!(rt; end(&mut active, &sheet, 1)? == Ended::Done);
-    assert!(rt; lists(&active, &[(1, Some(b))])?);
-    assert!(rt; !active.is_below(1));
-    assert!(rt; end(&mut active, &sheet, 1)? == Ended::Done);
-    assert!(rt; lists(&active, &[(0, Some(b))])?);
-    assert!(rt; active.is_below(0));
-    count(&rt, &mut active, &sheet, 0)?;
-    assert!(rt; end(&mut active, &sheet, 0)? == Ended::Done);
-    assert!(rt; is_null(&active)?);
-    active = kept;
-    assert!(rt; lists(&active, &[(0, None)])?);
-    active.clear();
-    assert!(rt; is_null(&active)?);
+    let mut game = Match::new(alloc, specs)?;
+    game.set(1)?;
+    game.set(2)?;
+    game.set(1)?;
+    game.set(3)?;
+    game.lists(&rt, &[(0, None)])?;
+    game.end(&rt, 0, Ended::Done)?;
+    game.lists(&rt, &[(1, Some(b))])?;
+    game.end(&rt, 1, Ended::Done)?;
+    game.lists(&rt, &[(1, Some(c))])?;
+    game.end(&rt, 1, Ended::Done)?;
+    game.lists(&rt, &[(1, Some(b))])?;
+    game.end(&rt, 1, Ended::Done)?;
+    game.is_null(&rt)?;
+    Ok(())
+}
+
+#[test]
+fn a_kept_map_returns_with_its_counts(rt: HostRuntime) -> Result<(), Fail> {
+    let alloc = rt.alloc();
+    let b = StageId::at(1);
+    let mut specs = List::new(alloc);
+    specs.push(keeping(alloc, 1, b)?)?;
+    specs.push(SpecRow {
+        current: Some(LISTED),
+        ..empty(alloc, true, None)
+    })?;
+    let mut game = Match::new(alloc, specs)?;
+    game.set(0)?;
+    game.count(&rt, 1)?;
+    game.set(1)?;
+    game.end(&rt, 0, Ended::Done)?;
+    game.lists(&rt, &[(1, Some(b))])?;
+    assert!(rt; game.active.is_below(1));
+    game.count(&rt, 1)?;
+    assert!(rt; !game.active.is_below(1));
+    game.end(&rt, 1, Ended::Done)?;
+    game.is_null(&rt)?;
+    Ok(())
+}
+
+#[test]
+fn a_copy_stays_as_the_map_is_cleared(rt: HostRuntime) -> Result<(), Fail> {
+    let alloc = rt.alloc();
+    let b = StageId::at(1);
+    let mut specs = List::new(alloc);
+    specs.push(keeping(alloc, 1, b)?)?;
+    specs.push(SpecRow {
+        all: Some(LISTED),
+        ..empty(alloc, true, None)
+    })?;
+    let mut game = Match::new(alloc, specs)?;
+    game.set(0)?;
+    game.set(1)?;
+    let copy = game.active.copy()?;
+    game.active.clear();
+    game.is_null(&rt)?;
+    game.active = copy;
+    game.lists(&rt, &[(0, None), (1, None)])?;
+    game.end(&rt, 1, Ended::Done)?;
+    game.end(&rt, 0, Ended::Done)?;
+    game.lists(&rt, &[(1, Some(b))])?;
     Ok(())
 }
 
 #[test]
 fn a_later_row_replaces_an_earlier_one(rt: HostRuntime) -> Result<(), Fail> {
     let alloc = rt.alloc();
-    let a = Place {
-        stage: Some(StageId::at(0)),
-    };
-    let b = Place {
-        stage: Some(StageId::at(1)),
-    };
-    let c = Place {
-        stage: Some(StageId::at(2)),
-    };
+    let a = StageId::at(0);
+    let b = StageId::at(1);
+    let c = StageId::at(2);
     let mut value = List::new(alloc);
-    value.push((1, LISTED))?;
-    value.push((0, c))?;
-    value.push((1, c))?;
+    value.push((2, LISTED))?;
+    value.push((2, Place { stage: Some(c) }))?;
     let mut specs = List::new(alloc);
     specs.push(SpecRow {
-        current: Some(a),
-        others: Some(b),
-        ..empty(alloc, false, None)
-    })?;
-    specs.push(SpecRow {
-        current: Some(a),
-        all: Some(b),
+        current: Some(Place { stage: Some(a) }),
+        others: Some(Place { stage: Some(b) }),
         value,
         ..empty(alloc, false, None)
     })?;
-    let sheet = sheet(alloc, specs)?;
-    let mut active = Active::none(alloc);
-    active.set(&sheet, SpecId::at(0), 2, &[2, 0, 1])?;
-    assert!(rt; lists(&active, &[(0, b.stage), (1, b.stage), (2, a.stage)])?);
-    active.set(&sheet, SpecId::at(1), 2, &[2, 0, 1])?;
-    assert!(rt; lists(&active, &[(0, c.stage), (1, c.stage), (2, b.stage)])?);
+    specs.push(SpecRow {
+        current: Some(Place { stage: Some(a) }),
+        all: Some(Place { stage: Some(b) }),
+        ..empty(alloc, false, None)
+    })?;
+    let mut game = Match::new(alloc, specs)?;
+    game.set(0)?;
+    game.lists(&rt, &[(0, Some(a)), (1, Some(b)), (2, Some(c))])?;
+    game.set(1)?;
+    game.lists(&rt, &[(0, Some(b)), (1, Some(b))])?;
     Ok(())
 }
 
@@ -214,18 +266,16 @@ fn a_stage_on_a_null_map_goes_to_its_next_and_leaves(rt: HostRuntime) -> Result<
     let alloc = rt.alloc();
     let a = StageId::at(0);
     let b = StageId::at(1);
-    let sheet = sheet(alloc, List::new(alloc))?;
-    let mut active = Active::none(alloc);
-    active.set_stage(1, a)?;
-    assert!(rt; lists(&active, &[(1, Some(a))])?);
-    active.set_stage(0, b)?;
-    assert!(rt; lists(&active, &[(0, Some(b)), (1, Some(a))])?);
-    assert!(rt; end(&mut active, &sheet, 1)? == Ended::Done);
-    assert!(rt; lists(&active, &[(0, Some(b)), (1, Some(b))])?);
-    assert!(rt; end(&mut active, &sheet, 1)? == Ended::Done);
-    assert!(rt; lists(&active, &[(0, Some(b))])?);
-    assert!(rt; end(&mut active, &sheet, 0)? == Ended::Done);
-    assert!(rt; is_null(&active)?);
+    let mut game = Match::new(alloc, List::new(alloc))?;
+    game.active.set_stage(1, a)?;
+    game.lists(&rt, &[(1, Some(a))])?;
+    game.active.set_stage(0, b)?;
+    game.end(&rt, 1, Ended::Done)?;
+    game.lists(&rt, &[(0, Some(b)), (1, Some(b))])?;
+    game.end(&rt, 1, Ended::Done)?;
+    game.lists(&rt, &[(0, Some(b))])?;
+    game.end(&rt, 0, Ended::Done)?;
+    game.is_null(&rt)?;
     Ok(())
 }
 
@@ -238,21 +288,20 @@ fn a_follower_that_is_empty_too(rt: HostRuntime) -> Result<(), Fail> {
     specs.push(SpecRow {
         current: Some(LISTED),
         max_moves: Some(1),
-        ..empty(alloc, true, Some(SpecId::at(2)))
+        ..empty(alloc, true, Some(SpecId::at(3)))
     })?;
-    specs.push(empty(alloc, true, Some(SpecId::at(3))))?;
+    specs.push(empty(alloc, false, Some(SpecId::at(4))))?;
+    specs.push(empty(alloc, true, Some(SpecId::at(4))))?;
     specs.push(empty(alloc, true, None))?;
-    specs.push(empty(alloc, false, Some(SpecId::at(3))))?;
-    let sheet = sheet(alloc, specs)?;
-    let mut active = Active::none(alloc);
-    active.set(&sheet, SpecId::at(0), 0, &[0, 1])?;
-    active.set(&sheet, SpecId::at(1), 0, &[0, 1])?;
-    count(&rt, &mut active, &sheet, 0)?;
-    assert!(rt; lists(&active, &[(1, Some(b))])?);
-    active.set(&sheet, SpecId::at(2), 0, &[0, 1])?;
-    assert!(rt; lists(&active, &[(1, Some(b))])?);
-    active.set(&sheet, SpecId::at(4), 0, &[0, 1])?;
-    assert!(rt; is_null(&active)?);
+    let mut game = Match::new(alloc, specs)?;
+    game.set(0)?;
+    game.set(1)?;
+    game.count(&rt, 0)?;
+    game.lists(&rt, &[(1, Some(b))])?;
+    game.set(3)?;
+    game.lists(&rt, &[(1, Some(b))])?;
+    game.set(2)?;
+    game.is_null(&rt)?;
     Ok(())
 }
 
@@ -267,33 +316,29 @@ fn a_chain_of_sixteen_specs(rt: HostRuntime) -> Result<(), Fail> {
         all: Some(LISTED),
         ..empty(alloc, false, None)
     })?;
-    let sheet = sheet(alloc, specs)?;
-    let mut active = Active::none(alloc);
-    active.set(&sheet, SpecId::at(0), 0, &[0, 1])?;
-    assert!(rt; lists(&active, &[(0, None), (1, None)])?);
+    let mut game = Match::new(alloc, specs)?;
+    game.set(0)?;
+    game.lists(&rt, &[(0, None), (1, None)])?;
     Ok(())
 }
 
 #[test]
 fn a_stage_that_may_not_end(rt: HostRuntime) -> Result<(), Fail> {
     let alloc = rt.alloc();
+    let b = StageId::at(1);
     let mut specs = List::new(alloc);
-    specs.push(SpecRow {
-        current: Some(LISTED),
-        min_moves: 1,
-        ..empty(alloc, false, None)
-    })?;
-    let sheet = sheet(alloc, specs)?;
-    let mut active = Active::none(alloc);
-    assert!(rt; end(&mut active, &sheet, 0)? == Ended::NotListed);
-    active.set(&sheet, SpecId::at(0), 0, &[0, 1])?;
-    assert!(rt; active.is_listed(0));
-    assert!(rt; !active.is_listed(1));
-    assert!(rt; end(&mut active, &sheet, 1)? == Ended::NotListed);
-    assert!(rt; end(&mut active, &sheet, 0)? == Ended::Below);
-    assert!(rt; lists(&active, &[(0, None)])?);
-    count(&rt, &mut active, &sheet, 0)?;
-    assert!(rt; end(&mut active, &sheet, 0)? == Ended::Done);
-    assert!(rt; is_null(&active)?);
+    specs.push(keeping(alloc, 1, b)?)?;
+    let mut game = Match::new(alloc, specs)?;
+    game.end(&rt, 1, Ended::NotListed)?;
+    game.set(0)?;
+    assert!(rt; game.active.is_listed(1));
+    assert!(rt; !game.active.is_listed(0));
+    game.end(&rt, 0, Ended::NotListed)?;
+    game.count(&rt, 1)?;
+    game.end(&rt, 1, Ended::Below)?;
+    game.lists(&rt, &[(1, Some(b))])?;
+    game.count(&rt, 1)?;
+    game.end(&rt, 1, Ended::Done)?;
+    game.is_null(&rt)?;
     Ok(())
 }
