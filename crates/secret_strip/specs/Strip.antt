@@ -1,5 +1,5 @@
 -- What a viewer sees of a split: the common part and, for a seat, its own entry of the players. All other entries are hidden, and so is the secret part.
-use Rattle.std.specs.Prelude.{◌≡◌, ℕ, ◌==◌, ◌+◌, Bool, false, if◌then◌else◌, Option, Some, None, List, [], ◌∷◌, length, map, slice_get}
+use Rattle.std.specs.Prelude.{◌≡◌, ℕ, ◌==◌, Bool, false, if◌then◌else◌, Option, Some, None, List, length, map, slice_get}
 use Rattle.std.specs.List.{enumerate_from}
 use Rattle.secret_strip.specs.declared.split.Split.{Split}
 

@@ -38,8 +38,7 @@ fn shows(rt: &impl Abort, view: &Deal, first: Option<&[u8]>, second: Option<&[u8
     assert!(rt; hand(view, 2).is_none());
 }
 
-fn views(rt: &HostRuntime, split: &Deal) -> Result<(), Fail> {
-    let alloc = rt.alloc();
+fn views(rt: &impl Abort, alloc: Global, split: &Deal) -> Result<(), NoMemory> {
     shows(rt, &split.strip(alloc, Some(0))?, Some(&[1, 2]), None);
     shows(rt, &split.strip(alloc, Some(1))?, None, Some(&[5]));
     shows(rt, &split.strip(alloc, Some(2))?, None, None);
@@ -51,7 +50,8 @@ fn views(rt: &HostRuntime, split: &Deal) -> Result<(), Fail> {
 #[test]
 fn each_viewer_sees_its_own_hand_alone(rt: HostRuntime) -> Result<(), Fail> {
     let split = deal(rt.alloc())?;
-    views(&rt, &split)
+    views(&rt, rt.alloc(), &split)?;
+    Ok(())
 }
 
 #[test]
