@@ -10,15 +10,10 @@ use game_sheet::Seat;
 #[tactic(auto, using(crate::proofs::PlayersLemmas::strip_twice))]
 pub fn view_of_a_view<C, S, P>(split: &Split<C, S, P>, viewer: Option<Seat>)
     ensures { strip (strip split.now viewer) viewer ≡ strip split.now viewer }
-{
-    let _split = split;
-}
+{}
 
 /// Where two states have the same common part, as many players and the same entry of the viewer's seat, the viewer sees no difference.
 #[tactic(auto, using(crate::proofs::PlayersLemmas::seen_same))]
 pub fn view_shows_no_more<C, S, P>(a: &Split<C, S, P>, b: &Split<C, S, P>, viewer: Option<Seat>)
     ensures { SameFor viewer a.now b.now → strip a.now viewer ≡ strip b.now viewer }
-{
-    let _a = a;
-    let _b = b;
-}
+{}
