@@ -1,5 +1,5 @@
 -- A shuffle, one exchange at a time.
-use Rattle.std.proofs.Common.{◌≡◌, ℕ, zero, suc, ◌+◌, ◌-◌, ◌*◌, ◌/◌, ◌^◌, ◌<◌, Option, Some, None, List, [], ◌∷◌, refl, ap, ◌∙◌, sym, arith}
+use Rattle.std.proofs.Common.{◌≡◌, ℕ, zero, suc, ◌+◌, ◌-◌, ◌<◌, Some, None, List, [], ◌∷◌, ap, ◌∙◌, sym, arith}
 use Rattle.std.specs.List.{swap}
 use Rattle.std.specs.Option.{option_map_or}
 use Rattle.std.specs.Prelude.{length, Result, Ok, Err, OnErr}

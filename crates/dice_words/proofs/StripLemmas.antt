@@ -1,5 +1,5 @@
 -- What a tape has left, from what it keeps.
-use Rattle.std.proofs.Common.{◌≡◌, ℕ, zero, suc, ◌+◌, ◌-◌, ◌%◌, ◌^◌, ◌<◌, ◌≤◌, Option, Some, None, List, [], ◌∷◌, length, refl, ap, ◌∙◌, sym, subst, option_map, arith}
+use Rattle.std.proofs.Common.{◌≡◌, ℕ, ◌+◌, ◌-◌, Option, Some, None, [], ◌∷◌, length, refl, ap, ◌∙◌, sym, subst, option_map, arith}
 use Rattle.dice_words.specs.Words.{word, words}
 use Rattle.dice_words.specs.Standing.{Standing}
 use Rattle.dice_words.specs.Strip.{Strip, Follows}

@@ -1,5 +1,5 @@
 -- How the words of a stream begin, and how many they are.
-use Rattle.std.proofs.Common.{◌≡◌, ℕ, zero, suc, ◌+◌, ◌-◌, ◌%◌, ◌^◌, ◌<◌, List, [], ◌∷◌, length, refl, ap, ◌∙◌, arith}
+use Rattle.std.proofs.Common.{◌≡◌, ℕ, zero, suc, ◌+◌, ◌%◌, ◌^◌, List, [], ◌∷◌, length, refl, ap, arith}
 use Rattle.dice_words.specs.Words.{word, words}
 
 pub length_words : (seed : List ℕ) (stream place n : ℕ) → length (words seed stream place n) ≡ n

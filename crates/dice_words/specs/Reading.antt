@@ -1,5 +1,5 @@
 -- How a tape is kept: a reader of its stream stands where the action's next word is.
-use Rattle.std.specs.Prelude.{◌≡◌, ℕ, ◌+◌, ◌-◌, ◌%◌, ◌^◌, ◌≤◌, Option, Some, None, List, option_map}
+use Rattle.std.specs.Prelude.{◌≡◌, ℕ, ◌+◌, ◌-◌, ◌%◌, ◌^◌, ◌≤◌, Option, Some, None, option_map}
 use Rattle.dice_words.specs.Standing.{Standing}
 use Rattle.dice_words.specs.Strip.{Strip, words_of}
 

@@ -58,7 +58,7 @@ impl Tape {
         }
     }
 
-    /// Begins a new action at the place of the next word, with 256 words to draw again.
+    /// Begins a new action at the place of the next word, with 256 words to draw again. A blank tape stays as it is.
     #[tactic(auto, using(crate::proofs::WordsLemmas::length_words))]
     pub fn begin(&mut self)
         ensures value { self.new ≡ begun self.old.source (place_of self.old) }
@@ -129,6 +129,7 @@ impl Tape {
     pub fn used(&self) -> u32
         ensures value { result ≡ self.now.used }
         ensures at_most { result ≤ 256 }
+        ensures blank { self.now.source ≡ None → result ≡ 0 }
     {
         self.used
     }

@@ -1,5 +1,7 @@
 //! Words, dice and shuffles of known seeds, by an independent ChaCha20.
 
+ghost use Rattle.std.specs.Prelude.{◌≤◌};
+
 use super::Tape;
 use crate::spent::Spent;
 use std::process::Abort;
@@ -23,7 +25,9 @@ fn the_first_words_of_the_seed_of_zeros(rt: HostRuntime) {
     assert_eq!(rt; tape.place(), 4);
 }
 
-fn rolls(rt: &impl Abort, faces: u32, expected: [u32; 4]) {
+fn rolls(rt: &impl Abort, faces: u32, expected: [u32; 4])
+    requires { 1 ≤ faces }
+{
     let mut tape = Tape::live(ZEROS, 0, 0);
     assert_eq!(rt; tape.die(faces), Ok(expected[0]));
     assert_eq!(rt; tape.die(faces), Ok(expected[1]));

@@ -1,6 +1,5 @@
-use Rattle.std.proofs.Common.{◌≡◌, ◌-◌, sym, ap, ◌∙◌, arith}
+use Rattle.std.proofs.Common.{◌-◌, sym, ◌∙◌, arith}
 use Rattle.std.proofs.lemmas.List.Sorted.{IsPermutation-trans}
-use Rattle.dice_words.specs.Dice.{shuffled_from}
 use Rattle.dice_words.proofs.ShuffleLemmas.{shuffled_done, shuffled_out, shuffled_step, shuffled_some, shuffled_none, at_any}
 use Rattle.dice_words.proofs.StripLemmas.{follows_trans}
 use Rattle.dice_words.proofs.tape.Tape.shuffle.Goals as goal

@@ -1,4 +1,4 @@
-use Rattle.std.proofs.Common.{◌≡◌, ◌-◌, ◌≤◌, length, IsPermutation}
+use Rattle.std.proofs.Common.{◌≡◌, ◌-◌, length, IsPermutation}
 use Rattle.dice_words.specs.Dice.{shuffled_from}
 use Rattle.dice_words.specs.Strip.{Follows}
 use Rattle.dice_words.proofs.tape.Tape.shuffle.Given as goal

@@ -1,4 +1,4 @@
-use Rattle.std.proofs.Common.{◌≡◌, ap, sym, ◌∙◌, refl, subst, Some, ◌+◌}
+use Rattle.std.proofs.Common.{ap, sym, ◌∙◌, subst, Some, ◌+◌}
 use Rattle.dice_words.specs.Reading.{strip_of}
 use Rattle.dice_words.specs.Strip.{Follows}
 use Rattle.dice_words.proofs.StripLemmas.{none_left, next_left, drew_next}
