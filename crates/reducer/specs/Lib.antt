@@ -6,3 +6,4 @@ pub mod Sound
 pub mod Standing
 pub mod Starts
 pub mod Steps
+pub mod Toy
