@@ -275,15 +275,21 @@ module _ {G : Type 0} (rules : Rules G) (most : ℕ) (fits : SheetFits rules.she
   run_fits (EndTurn to) who t words tasks e w s f = end_turn_fits to t words tasks s f
   run_fits EndPhase who t words tasks e w s f = end_phase_fits t.ctx.phase t words tasks s f
   run_fits (SetPhase to) who t words tasks e w s f = enter_fits (Some to) t words tasks (named_in_sheet to e) s f
-  run_fits (SetActive spec) who t words tasks e w s f =
-      (active_sound rules.sheet most (set rules.sheet spec t.ctx.current t.ctx.order t.active) t s
-      (laws.set rules.sheet t.ctx.seats most spec t.ctx.current t.ctx.order t.active (suits rules.sheet most t.ctx t.active fits s) s.map_sound), f)
-  run_fits (SetStage to) who t words tasks e w s f =
-      (active_sound rules.sheet most (set_stage (speaking who t.ctx) to t.active) t s
-      (laws.set_stage rules.sheet t.ctx.seats most (speaking who t.ctx) to t.active (speaking_seat who t w s) e s.map_sound), f)
-  run_fits EndStage who t words tasks e w s f =
-      (active_sound rules.sheet most (end_stage rules.sheet (speaking who t.ctx) t.ctx.current t.ctx.order t.active) t s
-      (laws.end_stage rules.sheet t.ctx.seats most (speaking who t.ctx) t.ctx.current t.ctx.order t.active (suits rules.sheet most t.ctx t.active fits s) s.map_sound), f)
+  run_fits (SetActive spec) who t words tasks e w s f = (
+    active_sound rules.sheet most (set rules.sheet spec t.ctx.current t.ctx.order t.active) t s
+        (laws.set rules.sheet t.ctx.seats most spec t.ctx.current t.ctx.order t.active (suits rules.sheet most t.ctx t.active fits s) s.map_sound),
+    f,
+  )
+  run_fits (SetStage to) who t words tasks e w s f = (
+    active_sound rules.sheet most (set_stage (speaking who t.ctx) to t.active) t s
+        (laws.set_stage rules.sheet t.ctx.seats most (speaking who t.ctx) to t.active (speaking_seat who t w s) e s.map_sound),
+    f,
+  )
+  run_fits EndStage who t words tasks e w s f = (
+    active_sound rules.sheet most (end_stage rules.sheet (speaking who t.ctx) t.ctx.current t.ctx.order t.active) t s
+        (laws.end_stage rules.sheet t.ctx.seats most (speaking who t.ctx) t.ctx.current t.ctx.order t.active (suits rules.sheet most t.ctx t.active fits s) s.map_sound),
+    f,
+  )
   run_fits (EndGame outcome) who t words tasks e w s f = ended_fits rules.sheet most (over outcome t) (rules.game_end t.g (over outcome t).ctx words) (over_sound outcome t s)
     where
       over_sound : (outcome : Outcome) (t : Table G) → Sound t → IsSound rules.sheet most (over outcome t).ctx t.active

@@ -106,12 +106,7 @@ pub(crate) fn moved<X: Game>(
 }
 
 /// Counts a move of a seat, where it is to be counted.
-fn count<G>(
-    sheet: &Sheet,
-    counted: bool,
-    seat: Seat,
-    table: &mut Table<G>,
-) -> Result<(), NoMemory>
+fn count<G>(sheet: &Sheet, counted: bool, seat: Seat, table: &mut Table<G>) -> Result<(), NoMemory>
     requires placed { IsPlaced table.old.ctx }
     requires moves { table.old.ctx.moves ≤ 4000000000 }
     requires count { count_of table.old.active seat ≤ 4000000000 }

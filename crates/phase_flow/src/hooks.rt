@@ -163,10 +163,7 @@ fn take_in<G: Drop>(
 }
 
 /// Takes in what the hook of the match's end answered.
-fn close<G: Drop>(
-    table: &mut Table<G>,
-    answer: Result<Option<G>, HookHalt>,
-) -> Result<(), FlowNo>
+fn close<G: Drop>(table: &mut Table<G>, answer: Result<Option<G>, HookHalt>) -> Result<(), FlowNo>
     ensures came { (meaning : Deed G Lack) (words : Items ℕ) (queued : Items Happening) → Hooks answer table.old.g words queued meaning
         → Comes result table.new words [] (ended_with table.old meaning) }
     ensures ctx { table.new.ctx ≡ table.old.ctx }

@@ -10,14 +10,20 @@ use crate::table::Table;
 use game_sheet::{NoMemory, Seat, Sheet, SpecId, StageId};
 
 /// Sets the spec, if there is one.
-pub(crate) fn set_spec<G>(sheet: &Sheet, spec: Option<SpecId>, table: &mut Table<G>) -> Result<(), NoMemory>
+pub(crate) fn set_spec<G>(
+    sheet: &Sheet,
+    spec: Option<SpecId>,
+    table: &mut Table<G>,
+) -> Result<(), NoMemory>
     ensures { OnOk result (table.new ≡ spec_set sheet.now spec table.old) }
 {
     let Some(spec) = spec else {
         return Ok(());
     };
     let current = table.ctx.current;
-    table.active.set(sheet, spec, current, table.ctx.order.as_slice())?;
+    table
+        .active
+        .set(sheet, spec, current, table.ctx.order.as_slice())?;
     show(table)
 }
 
@@ -34,7 +40,9 @@ pub(crate) fn end_stage<G>(sheet: &Sheet, seat: Seat, table: &mut Table<G>) -> R
     ensures { OnOk result (table.new ≡ with_active (end_stage sheet.now seat table.old.ctx.current table.old.ctx.order table.old.active) table.old) }
 {
     let current = table.ctx.current;
-    let _ended = table.active.end_stage(sheet, seat, current, table.ctx.order.as_slice())?;
+    let _ended = table
+        .active
+        .end_stage(sheet, seat, current, table.ctx.order.as_slice())?;
     show(table)
 }
 
@@ -53,6 +61,8 @@ pub(crate) fn count_move<G>(sheet: &Sheet, seat: Seat, table: &mut Table<G>) -> 
     ensures { OnOk result (table.new ≡ with_active (count_move sheet.now seat table.old.ctx.current table.old.ctx.order table.old.active) table.old) }
 {
     let current = table.ctx.current;
-    table.active.count_move(sheet, seat, current, table.ctx.order.as_slice())?;
+    table
+        .active
+        .count_move(sheet, seat, current, table.ctx.order.as_slice())?;
     show(table)
 }

@@ -55,12 +55,7 @@ pub(crate) fn settle<X: Game>(
 }
 
 /// The task that runs next: the one that comes by itself, else the first of the others; none where nothing is left to do.
-fn head<X: Game>(
-    game: &X,
-    table: &Table<X::G>,
-    tasks: &mut Line<Task>,
-    after: bool,
-) -> Option<Task>
+fn head<X: Game>(game: &X, table: &Table<X::G>, tasks: &mut Line<Task>, after: bool) -> Option<Task>
     ensures { Heads result table.now tasks.new (with_automatic (X.rules game.now) after table.now tasks.old) }
 {
     if table.ctx.over.is_some() {

@@ -119,11 +119,7 @@ fn order_begun<X: Game>(
 }
 
 /// The play order that the turn row in force asks for.
-fn order_list<X: Game>(
-    alloc: Global,
-    game: &X,
-    table: &Table<X::G>,
-) -> Result<List<Seat>, NoMemory>
+fn order_list<X: Game>(alloc: Global, game: &X, table: &Table<X::G>) -> Result<List<Seat>, NoMemory>
     requires { IsOrdered table.now.ctx }
     ensures value { IfOk result (λ order. order ≡ order_list (turn_row (X.rules game.now).sheet table.now.ctx).order table.now.ctx.seats ((X.rules game.now).play_order table.now.g table.now.ctx)) }
     ensures least { IfOk result (λ order. 1 ≤ length order) }

@@ -15,13 +15,14 @@ use Rattle.phase_flow.specs.IsSound.{IsSound}
 same_seat : (a b : ℕ) → nat_eq a b ≡ true → a ≡ b
 same_seat a b h = grind (arith, nat_tests)
 
+by_row : (seats seat : ℕ) (row : Row) (rest : Option (Option ℕ)) (b : Bool) → nat_eq row.seat seat ≡ b → row.seat < seats → (is_some rest ≡ true → seat < seats) → is_some (if b then Some row.stage else rest) ≡ true → seat < seats
+by_row seats seat row rest true e r later h = subst (λ n. n < seats) (same_seat row.seat seat e) r
+by_row seats seat row rest false e r later h = later h
+
 listed_seat : (stages seats most seat : ℕ) (listed : List Row) → All (RowFits stages seats most) listed → is_some (place_of (map shown_row listed) seat) ≡ true → seat < seats
 listed_seat stages seats most seat [] a h = cc
-listed_seat stages seats most seat (row ∷ listed) a h = by_row (nat_eq row.seat seat) refl h
-  where
-    by_row : (b : Bool) → nat_eq row.seat seat ≡ b → is_some (if b then Some row.stage else place_of (map shown_row listed) seat) ≡ true → seat < seats
-    by_row true e h = subst (λ n. n < seats) (same_seat row.seat seat e) a.0.seat
-    by_row false e h = listed_seat stages seats most seat listed a.1 h
+listed_seat stages seats most seat (row ∷ listed) a h =
+    by_row seats seat row (place_of (map shown_row listed) seat) (nat_eq row.seat seat) refl a.0.seat (λ g. listed_seat stages seats most seat listed a.1 g) h
 
 mapped_seat : (specs stages seats most seat current : ℕ) (rows : Option (List Row)) (m : Map) → StandsOrNull specs stages seats most rows m → current < seats → may_on (option_map (map shown_row) rows) current seat ≡ true → seat < seats
 mapped_seat specs stages seats most seat current None m s c h = subst (λ n. n < seats) (sym (same_seat seat current h)) c

@@ -30,7 +30,7 @@ abbrev pub toy_rules : Sheet → Bool → Bool → Rules ℕ
 toy_rules sheet chained endless =
     record (plain sheet (λ seats words. Done 0 words []) (λ g ctx seat id args words. Done ((g + 1) % 2 ^ 32) words (of_move endless)) (λ g. number (unsigned g))) {
       phase_end = λ g ctx phase words. Done g words (of_end chained);
-      phase_begin = λ g ctx phase words. Done g words (of_begin chained endless (nat_eq phase 1))
+      phase_begin = λ g ctx phase words. Done g words (of_begin chained endless (nat_eq phase 1));
     }
 
 move_fits : (sheet : Sheet) (endless : Bool) → 1 < length sheet.phases → AllInSheet sheet (of_move endless)
@@ -38,7 +38,7 @@ move_fits sheet true h = (h, tt)
 move_fits sheet false h = tt
 
 begin_fits : (sheet : Sheet) (chained endless second : Bool) → 1 < length sheet.phases → 2 < length sheet.phases → 0 < length sheet.stages → AllInSheet sheet (of_begin chained endless second)
-begin_fits sheet true endless true h k s = (tt, s, tt)
+begin_fits sheet true endless true h k s = (tt, (s, tt))
 begin_fits sheet true endless false h k s = tt
 begin_fits sheet false true true h k s = (k, tt)
 begin_fits sheet false true false h k s = (h, tt)

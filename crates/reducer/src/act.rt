@@ -35,7 +35,16 @@ pub(crate) fn play<X: Game>(
 {
     bounds_grow();
     let mut events = EventQueue::new();
-    let g = match game.play(alloc, &table.g, &table.ctx, seat, id, args, tape, &mut events) {
+    let g = match game.play(
+        alloc,
+        &table.g,
+        &table.ctx,
+        seat,
+        id,
+        args,
+        tape,
+        &mut events,
+    ) {
         Ok(g) => g,
         Err(halt) => return Err(move_answer(halt)),
     };
@@ -46,7 +55,15 @@ pub(crate) fn play<X: Game>(
         return Err(GameNo::NoMemory);
     };
     let counted = counts(game.sheet(), id);
-    match moved(alloc, game, Table { g, ctx, active }, seat, counted, events, tape) {
+    match moved(
+        alloc,
+        game,
+        Table { g, ctx, active },
+        seat,
+        counted,
+        events,
+        tape,
+    ) {
         Ok(after) => Ok(after),
         Err(why) => Err(flow_answer(why)),
     }

@@ -84,14 +84,10 @@ pub fn step<X: Game>(
     ensures refused { IfErr result (λ why. (first : Reached X.G) (accepted : List Accepted) → state.now ≡ standing (X.rules game.now) first accepted
         → Refuses why (answer (X.rules game.now) first accepted seat act.now)) }
 {
+    bounds_grow();
     let mut tape = Tape::live(state.seed(), 0, state.place());
     match act_on(alloc, game, state.table(), seat, act, &mut tape) {
-        Ok(table) => Ok(State::new(
-            state.number() + 1,
-            table,
-            state.seed(),
-            tape.place(),
-        )),
+        Ok(table) => Ok(State::new(state.number() + 1, table, state.seed(), tape.place())),
         Err(why) => Err(why),
     }
 }

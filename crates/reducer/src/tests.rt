@@ -212,7 +212,11 @@ fn spec(alloc: Global, current: bool, next: Option<SpecId>) -> SpecRow {
         stage: Some(StageId::at(0)),
     };
     SpecRow {
-        current: if current { Some(Place { stage: None }) } else { None },
+        current: if current {
+            Some(Place { stage: None })
+        } else {
+            None
+        },
         others: if current { None } else { Some(at_stage) },
         all: None,
         value: List::new(alloc),
@@ -330,12 +334,7 @@ fn chained_phases(rt: HostRuntime) -> Result<(), Fail> {
     let once = turn_row(Order::Once, 0, Some(1), None);
     let plain = turn_row(Order::Default, 0, None, None);
     let rows = phases(alloc, Some(once))?;
-    let game = toy(
-        sheet(alloc, 3, plain, rows, List::new(alloc))?,
-        true,
-        false,
-    )
-    .ok_or("sheet")?;
+    let game = toy(sheet(alloc, 3, plain, rows, List::new(alloc))?, true, false).ok_or("sheet")?;
     let first = opened(alloc, &game, 3)?;
     let second = acted(alloc, &game, &first, 0, None)?;
     let third = acted(alloc, &game, &second, 1, None)?;
@@ -353,12 +352,7 @@ fn endless_phases(rt: HostRuntime) -> Result<(), Fail> {
     let alloc = rt.alloc();
     let plain = turn_row(Order::Default, 0, None, None);
     let rows = phases(alloc, None)?;
-    let game = toy(
-        sheet(alloc, 2, plain, rows, List::new(alloc))?,
-        false,
-        true,
-    )
-    .ok_or("sheet")?;
+    let game = toy(sheet(alloc, 2, plain, rows, List::new(alloc))?, false, true).ok_or("sheet")?;
     let first = opened(alloc, &game, 2)?;
     let refused = acted(alloc, &game, &first, 0, None);
     assert!(rt; is_refused(&refused, GameRule::TooManyEvents));
@@ -393,16 +387,17 @@ fn events_of_players(rt: HostRuntime) -> Result<(), Fail> {
     let alloc = rt.alloc();
     let turn = turn_row(Order::Default, 1, Some(2), None);
     let rows = phases(alloc, None)?;
-    let game = toy(
-        sheet(alloc, 2, turn, rows, List::new(alloc))?,
-        false,
-        false,
-    )
-    .ok_or("sheet")?;
+    let game = toy(sheet(alloc, 2, turn, rows, List::new(alloc))?, false, false).ok_or("sheet")?;
     let first = opened(alloc, &game, 2)?;
     let early = acted(alloc, &game, &first, 0, Some(Event::EndTurn { to: None }));
     assert!(rt; is_refused(&early, GameRule::TooEarly));
-    let nobody = acted(alloc, &game, &first, 0, Some(Event::EndTurn { to: Some(2) }));
+    let nobody = acted(
+        alloc,
+        &game,
+        &first,
+        0,
+        Some(Event::EndTurn { to: Some(2) }),
+    );
     assert!(rt; is_refused(&nobody, GameRule::InvalidMove));
     let no_phase = acted(alloc, &game, &first, 0, Some(Event::EndPhase));
     assert!(rt; is_refused(&no_phase, GameRule::InvalidMove));
