@@ -7,7 +7,7 @@ ghost use Rattle.reducer.specs.Sound.{IsSound};
 use crate::{StartNo, State, start, step};
 use game_sheet::{
     Act, Args, Ctx, Event, GameNo, GameRule, List, MoveId, MoveRow, NoMemory, Order, Outcome, Seat,
-    Sheet, Text, TurnRow,
+    Sheet, Text, TurnRow, check_sheet,
 };
 use game_trait::{Game, Halt};
 use serde_json::Value;
@@ -73,7 +73,7 @@ impl Game for Pile {
     }
 }
 
-fn make_pile(alloc: Global) -> Result<Pile, NoMemory>
+fn make_pile(alloc: Global) -> Result<Pile, Fail>
     ensures { IfOk result (λ pile. length pile.sheet.moves ≡ 1) }
 {
     let mut moves = List::new(alloc);
@@ -84,25 +84,25 @@ fn make_pile(alloc: Global) -> Result<Pile, NoMemory>
         no_limit: false,
         ignore_stale: false,
     })?;
-    Ok(Pile {
-        sheet: Sheet {
-            name: Text::from_str(alloc, "pile")?,
-            min_seats: 2,
-            max_seats: 2,
-            moves,
-            base: List::from_slice(alloc, &[MoveId::at(0)])?,
-            turn: TurnRow {
-                order: Order::Default,
-                min_moves: 1,
-                max_moves: Some(1),
-                active: None,
-            },
-            phases: List::new(alloc),
-            stages: List::new(alloc),
-            specs: List::new(alloc),
-            events: List::new(alloc),
+    let sheet = Sheet {
+        name: Text::from_str(alloc, "pile")?,
+        min_seats: 2,
+        max_seats: 2,
+        moves,
+        base: List::from_slice(alloc, &[MoveId::at(0)])?,
+        turn: TurnRow {
+            order: Order::Default,
+            min_moves: 1,
+            max_moves: Some(1),
+            active: None,
         },
-    })
+        phases: List::new(alloc),
+        stages: List::new(alloc),
+        specs: List::new(alloc),
+        events: List::new(alloc),
+    };
+    check_sheet(&sheet)?;
+    Ok(Pile { sheet })
 }
 
 /// A match of two seats, through the trait's bound.

@@ -6,7 +6,7 @@ ghost use Rattle.table_games.specs.TicTacToe.{fixed_sheet, tic_tac_toe};
 
 use crate::board::Board;
 use game_sheet::{
-    Args, Ctx, List, MoveId, MoveRow, NoMemory, Order, Outcome, Seat, Sheet, Text, TurnRow,
+    Args, Ctx, List, MoveId, MoveRow, NoMemory, Order, Outcome, Seat, Sheet, Text, TurnRow, unbroken,
 };
 use game_trait::{Game, Halt};
 use serde_json::Value;
@@ -32,8 +32,9 @@ impl Game for TicTacToe {
 
     ghost rules = { λ _. tic_tac_toe };
 
+    #[tactic(auto, unfolding(game_sheet::specs::SheetRules::broken))]
     fn sheet(&self) -> &Sheet {
-        &self.sheet
+        unbroken(&self.sheet)
     }
 
     fn setup(&self, alloc: Global, seats: u8) -> Result<Board, NoMemory> {
