@@ -1,5 +1,5 @@
 -- The laws of maps, from what every operation keeps of a map.
-use Rattle.std.proofs.Common.{◌<◌, ℕ, length}
+use Rattle.std.proofs.Common.{◌<◌, length}
 use Rattle.std.proofs.lemmas.List.Elements.{recursion_from_All}
 use Rattle.stage_map.specs.Laws.{BoundGrows, CountMoveKeeps, CountsBounded, EndStageKeeps, NullIsSound, NumberIsEnough, SetKeeps, SetStageKeeps, SetsFollowers, ShownLists, ShownRises}
 use Rattle.stage_map.proofs.Enough.{number_enough, set_follows}

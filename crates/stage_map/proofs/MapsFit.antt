@@ -1,5 +1,5 @@
 -- What maps take from a sheet that fits, in a match of so many seats.
-use Rattle.std.proofs.Common.{◌≡◌, ◌<◌, ◌≤◌, ℕ, Option, Some, List, length, slice_get, arith}
+use Rattle.std.proofs.Common.{◌≡◌, ◌<◌, ◌≤◌, ℕ, Some, length, slice_get, arith}
 use Rattle.std.proofs.lemmas.List.Elements.{recursion_from_All}
 use Rattle.std.specs.List.{AllByRecursion as All}
 use Rattle.game_sheet.specs.SheetFits.{SheetFits, SpecFits as SpecIsSound, PlaceFits as PlaceIsSound}

@@ -1,5 +1,5 @@
 -- Who may act, and the moves that a seat has: its stage's list where there is one, else the phase's, else the game's.
-use Rattle.std.specs.Prelude.{◌≡◌, ◌==◌, ℕ, Bool, Option, None, Some, List, [], ◌∷◌, slice_get, is_some, option_and_then, if◌then◌else◌}
+use Rattle.std.specs.Prelude.{◌==◌, ℕ, Bool, Option, None, Some, List, [], ◌∷◌, slice_get, is_some, option_and_then, if◌then◌else◌}
 use Rattle.game_sheet.specs.declared.sheet.Sheet.{Sheet}
 use Rattle.game_sheet.specs.declared.sheet.StageRow.{StageRow}
 use Rattle.game_sheet.specs.declared.sheet.PhaseRow.{PhaseRow}

@@ -6,7 +6,7 @@ use Rattle.game_sheet.specs.declared.sheet.StageRow.{StageRow}
 use Rattle.stage_map.specs.declared.rows.Row.{Row}
 use Rattle.stage_map.specs.declared.ended.Ended.{Ended}
 use Rattle.stage_map.specs.declared.ended.Ended.TheVariants.{Done, NotListed, Below}
-use Rattle.stage_map.specs.Active.{Map, none, row_on}
+use Rattle.stage_map.specs.Active.{Map, row_on}
 use Rattle.stage_map.specs.Rows.{put, without, unlimited}
 use Rattle.stage_map.specs.Set.{settle}
 

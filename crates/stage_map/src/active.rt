@@ -317,10 +317,7 @@ impl Active {
         ensures { self.new ≡ returned self.old.stack }
     {
         match self.stack.pop_front() {
-            None => {
-                self.rows = None;
-                self.next = None;
-            }
+            None => self.clear(),
             Some(Kept { rows, next }) => {
                 self.rows = Some(rows);
                 self.next = next;

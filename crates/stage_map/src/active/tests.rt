@@ -1,27 +1,48 @@
-//! Maps of a sheet with three stages and specs of each test's own, in a match of two seats of which seat 0 is current.
+//! Maps of a sheet with three stages and specs of each test's own, with seat 0 current and seats 0 and 1 in the play order.
 
 use crate::{Active, Ended};
 use game_sheet::{
-    List, NoMemory, Order, Place, Seat, Sheet, SpecId, SpecRow, StageId, StageRow, Text, TurnRow,
+    List, MoveRow, NoMemory, Order, Place, Seat, Sheet, SpecId, SpecRow, StageId, StageRow, Text,
+    TurnRow, check_sheet,
 };
 use std::alloc::Global;
 use std::process::Abort;
 use std::test::Fail;
 
-/// The place of a seat that is listed without a stage.
-const LISTED: Place = Place { stage: None };
+/// What is done to a map, and what it must answer.
+#[derive(Clone, Copy)]
+enum Step {
+    Set(u8),
+    SetStage(Seat, u8),
+    Count(Seat),
+    End(Seat, Ended),
+    IsListed(Seat, bool),
+    IsBelow(Seat, bool),
+    Copy,
+    Clear,
+}
+
+use Step::{Clear, Copy, Count, End, IsBelow, IsListed, Set, SetStage};
 
 /// A sheet with these specs, whose stages are a, which b follows, and b and c, which none follows.
 fn sheet(alloc: Global, specs: List<SpecRow>) -> Result<Sheet, NoMemory> {
-    let mut stages = List::new(alloc);
-    stages.push(stage(alloc, "a", Some(StageId::at(1)))?)?;
-    stages.push(stage(alloc, "b", None)?)?;
-    stages.push(stage(alloc, "c", None)?)?;
+    let stages = vec![in alloc;
+        stage(alloc, "a", Some(StageId::at(1)))?,
+        stage(alloc, "b", None)?,
+        stage(alloc, "c", None)?,
+    ]?;
+    let one = MoveRow {
+        name: Text::from_str(alloc, "pass")?,
+        redact: false,
+        client: true,
+        no_limit: false,
+        ignore_stale: false,
+    };
     Ok(Sheet {
         name: Text::from_str(alloc, "maps")?,
-        min_seats: 2,
+        min_seats: 3,
         max_seats: 3,
-        moves: List::new(alloc),
+        moves: List::from_vec(vec![in alloc; one]?),
         base: List::new(alloc),
         turn: TurnRow {
             order: Order::Default,
@@ -30,7 +51,7 @@ fn sheet(alloc: Global, specs: List<SpecRow>) -> Result<Sheet, NoMemory> {
             active: None,
         },
         phases: List::new(alloc),
-        stages,
+        stages: List::from_vec(stages),
         specs,
         events: List::new(alloc),
     })
@@ -44,8 +65,20 @@ fn stage(alloc: Global, name: &str, next: Option<StageId>) -> Result<StageRow, N
     })
 }
 
+/// A seat that is listed without a stage.
+fn listed() -> Option<Place> {
+    Some(Place { stage: None })
+}
+
+/// A seat in a stage.
+fn in_stage(place: u8) -> Option<Place> {
+    Some(Place {
+        stage: Some(StageId::at(place)),
+    })
+}
+
 /// A spec that puts no seat and has no limits.
-fn empty(alloc: Global, revert: bool, next: Option<SpecId>) -> SpecRow {
+fn empty(alloc: Global, revert: bool, next: Option<u8>) -> SpecRow {
     SpecRow {
         current: None,
         others: None,
@@ -54,254 +87,222 @@ fn empty(alloc: Global, revert: bool, next: Option<SpecId>) -> SpecRow {
         min_moves: 0,
         max_moves: None,
         revert,
-        next,
+        next: next.map(|place| SpecId::at(place)),
     }
 }
 
-/// A map and its sheet.
-#[derive(Drop)]
-struct Match {
-    sheet: Sheet,
-    active: Active,
+/// Each seat that the map shows with the name of its stage, or "null".
+fn shown(alloc: Global, active: &Active) -> Result<Text, NoMemory> {
+    let Some(rows) = active.rows()? else {
+        return Text::from_str(alloc, "null");
+    };
+    let mut text = String::new(alloc);
+    for row in rows.as_slice() {
+        text.push_str(seat_name(row.0))?;
+        text.push_str(stage_name(row.1))?;
+    }
+    Text::from_str(alloc, text.as_str())
 }
 
-impl Match {
-    fn new(alloc: Global, specs: List<SpecRow>) -> Result<Match, NoMemory> {
-        Ok(Match {
-            sheet: sheet(alloc, specs)?,
-            active: Active::none(alloc),
-        })
-    }
-
-    fn set(&mut self, spec: u8) -> Result<(), NoMemory> {
-        let Match { sheet, active } = self;
-        active.set(sheet, SpecId::at(spec), 0, &[0, 1])
-    }
-
-    /// Counts a move of a seat.
-    fn count(&mut self, rt: &impl Abort, seat: Seat) -> Result<(), NoMemory> {
-        let Match { sheet, active } = self;
-        let made = match active.row(seat) {
-            None => 0,
-            Some(row) => row.count,
-        };
-        assert!(rt; made < 100);
-        active.count_move(sheet, seat, 0, &[0, 1])
-    }
-
-    /// Ends a seat's stage, with this answer.
-    fn end(&mut self, rt: &impl Abort, seat: Seat, expected: Ended) -> Result<(), NoMemory> {
-        let Match { sheet, active } = self;
-        let ended = active.end_stage(sheet, seat, 0, &[0, 1])?;
-        assert!(rt; ended == expected);
-        Ok(())
-    }
-
-    /// The map lists exactly these seats, in these stages.
-    fn lists(&self, rt: &impl Abort, expected: &[(Seat, Option<StageId>)]) -> Result<(), NoMemory> {
-        let shows = match self.active.rows()? {
-            None => false,
-            Some(rows) => rows.as_slice() == expected,
-        };
-        assert!(rt; shows);
-        Ok(())
-    }
-
-    /// The map is null.
-    fn is_null(&self, rt: &impl Abort) -> Result<(), NoMemory> {
-        let rows = self.active.rows()?;
-        assert!(rt; rows.is_none());
-        Ok(())
+fn seat_name(seat: Seat) -> &'static str {
+    match seat {
+        0 => "0",
+        1 => "1",
+        2 => "2",
+        _ => "?",
     }
 }
 
-/// A spec that puts one seat in a stage, keeping the earlier map, and lets its stage end after two moves at the least.
-fn keeping(alloc: Global, seat: Seat, stage: StageId) -> Result<SpecRow, NoMemory> {
-    let mut value = List::new(alloc);
-    value.push((seat, Place { stage: Some(stage) }))?;
-    Ok(SpecRow {
-        value,
-        min_moves: 2,
-        ..empty(alloc, true, None)
-    })
+fn stage_name(stage: Option<StageId>) -> &'static str {
+    match stage {
+        None => "",
+        Some(id) => match id.place() {
+            0 => "a",
+            1 => "b",
+            2 => "c",
+            _ => "?",
+        },
+    }
+}
+
+fn take(rt: &impl Abort, active: &mut Active, sheet: &Sheet, step: Step) -> Result<(), NoMemory> {
+    match step {
+        Set(spec) => active.set(sheet, SpecId::at(spec), 0, &[0, 1]),
+        SetStage(seat, place) => active.set_stage(seat, StageId::at(place)),
+        Count(seat) => count(rt, active, sheet, seat),
+        End(seat, answer) => {
+            let ended = active.end_stage(sheet, seat, 0, &[0, 1])?;
+            assert!(rt; ended == answer);
+            Ok(())
+        }
+        IsListed(seat, answer) => {
+            assert!(rt; active.is_listed(seat) == answer);
+            Ok(())
+        }
+        IsBelow(seat, answer) => {
+            assert!(rt; active.is_below(seat) == answer);
+            Ok(())
+        }
+        Copy => {
+            *active = active.copy()?;
+            Ok(())
+        }
+        Clear => {
+            active.clear();
+            Ok(())
+        }
+    }
+}
+
+fn count(rt: &impl Abort, active: &mut Active, sheet: &Sheet, seat: Seat) -> Result<(), NoMemory> {
+    let made = match active.row(seat) {
+        None => 0,
+        Some(row) => row.count,
+    };
+    assert!(rt; made < 100);
+    active.count_move(sheet, seat, 0, &[0, 1])
+}
+
+/// Takes steps from the null map on. After each the map shows what stands beside it.
+fn play(
+    rt: &impl Abort,
+    alloc: Global,
+    specs: List<SpecRow>,
+    steps: &[(Step, &str)],
+) -> Result<(), NoMemory> {
+    let sheet = sheet(alloc, specs)?;
+    assert!(rt; check_sheet(&sheet).is_ok());
+    let mut active = Active::none(alloc);
+    for (step, shows) in steps {
+        take(rt, &mut active, &sheet, *step)?;
+        let text = shown(alloc, &active)?;
+        assert_eq!(rt; text.as_str(), *shows);
+    }
+    Ok(())
 }
 
 #[test]
 fn spec_with_a_follower(rt: HostRuntime) -> Result<(), Fail> {
     let alloc = rt.alloc();
-    let b = StageId::at(1);
-    let mut specs = List::new(alloc);
-    specs.push(SpecRow {
-        current: Some(LISTED),
+    let first = SpecRow {
+        current: listed(),
         max_moves: Some(1),
-        ..empty(alloc, false, Some(SpecId::at(1)))
-    })?;
-    specs.push(SpecRow {
-        others: Some(Place { stage: Some(b) }),
+        ..empty(alloc, false, Some(1))
+    };
+    let second = SpecRow {
+        others: in_stage(1),
         max_moves: Some(1),
         ..empty(alloc, false, None)
-    })?;
-    let mut game = Match::new(alloc, specs)?;
-    game.set(0)?;
-    game.lists(&rt, &[(0, None)])?;
-    game.count(&rt, 0)?;
-    game.lists(&rt, &[(1, Some(b))])?;
-    game.count(&rt, 1)?;
-    game.is_null(&rt)?;
+    };
+    let specs = List::from_vec(vec![in alloc; first, second]?);
+    let steps = [(Set(0), "0"), (Count(0), "1b"), (Count(1), "null")];
+    play(&rt, alloc, specs, &steps)?;
     Ok(())
 }
 
 #[test]
-fn three_kept_maps_return(rt: HostRuntime) -> Result<(), Fail> {
+fn three_kept_maps_return_with_their_counts(rt: HostRuntime) -> Result<(), Fail> {
     let alloc = rt.alloc();
-    let b = StageId::at(1);
-    let c = StageId::at(2);
-    let mut specs = List::new(alloc);
-    for stage in 0..3 {
-        specs.push(SpecRow {
-            min_moves: 0,
-            ..keeping(alloc, 1, StageId::at(stage))?
-        })?;
-    }
-    specs.push(SpecRow {
-        current: Some(LISTED),
+    let first = SpecRow {
+        others: in_stage(1),
+        min_moves: 2,
         ..empty(alloc, true, None)
-    })?;
-    let mut game = Match::new(alloc, specs)?;
-    game.set(1)?;
-    game.set(2)?;
-    game.set(1)?;
-    game.set(3)?;
-    game.lists(&rt, &[(0, None)])?;
-    game.end(&rt, 0, Ended::Done)?;
-    game.lists(&rt, &[(1, Some(b))])?;
-    game.end(&rt, 1, Ended::Done)?;
-    game.lists(&rt, &[(1, Some(c))])?;
-    game.end(&rt, 1, Ended::Done)?;
-    game.lists(&rt, &[(1, Some(b))])?;
-    game.end(&rt, 1, Ended::Done)?;
-    game.is_null(&rt)?;
-    Ok(())
-}
-
-#[test]
-fn a_kept_map_returns_with_its_counts(rt: HostRuntime) -> Result<(), Fail> {
-    let alloc = rt.alloc();
-    let b = StageId::at(1);
-    let mut specs = List::new(alloc);
-    specs.push(keeping(alloc, 1, b)?)?;
-    specs.push(SpecRow {
-        current: Some(LISTED),
+    };
+    let second = SpecRow {
+        current: in_stage(2),
         ..empty(alloc, true, None)
-    })?;
-    let mut game = Match::new(alloc, specs)?;
-    game.set(0)?;
-    game.count(&rt, 1)?;
-    game.set(1)?;
-    game.end(&rt, 0, Ended::Done)?;
-    game.lists(&rt, &[(1, Some(b))])?;
-    assert!(rt; game.active.is_below(1));
-    game.count(&rt, 1)?;
-    assert!(rt; !game.active.is_below(1));
-    game.end(&rt, 1, Ended::Done)?;
-    game.is_null(&rt)?;
-    Ok(())
-}
-
-#[test]
-fn a_copy_stays_as_the_map_is_cleared(rt: HostRuntime) -> Result<(), Fail> {
-    let alloc = rt.alloc();
-    let b = StageId::at(1);
-    let mut specs = List::new(alloc);
-    specs.push(keeping(alloc, 1, b)?)?;
-    specs.push(SpecRow {
-        all: Some(LISTED),
-        ..empty(alloc, true, None)
-    })?;
-    let mut game = Match::new(alloc, specs)?;
-    game.set(0)?;
-    game.set(1)?;
-    let copy = game.active.copy()?;
-    game.active.clear();
-    game.is_null(&rt)?;
-    game.active = copy;
-    game.lists(&rt, &[(0, None), (1, None)])?;
-    game.end(&rt, 1, Ended::Done)?;
-    game.end(&rt, 0, Ended::Done)?;
-    game.lists(&rt, &[(1, Some(b))])?;
+    };
+    let specs = List::from_vec(vec![in alloc; first, second]?);
+    let steps = [
+        (Set(0), "1b"),
+        (Count(1), "1b"),
+        (Set(1), "0c"),
+        (Set(0), "1b"),
+        (Set(1), "0c"),
+        (Copy, "0c"),
+        (End(0, Ended::Done), "1b"),
+        (End(1, Ended::Below), "1b"),
+        (Count(1), "1b"),
+        (Count(1), "1b"),
+        (End(1, Ended::Done), "0c"),
+        (End(0, Ended::Done), "1b"),
+        (IsBelow(1, true), "1b"),
+        (Count(1), "1b"),
+        (IsBelow(1, false), "1b"),
+        (End(1, Ended::Done), "null"),
+    ];
+    play(&rt, alloc, specs, &steps)?;
     Ok(())
 }
 
 #[test]
 fn a_later_row_replaces_an_earlier_one(rt: HostRuntime) -> Result<(), Fail> {
     let alloc = rt.alloc();
-    let a = StageId::at(0);
-    let b = StageId::at(1);
-    let c = StageId::at(2);
-    let mut value = List::new(alloc);
-    value.push((2, LISTED))?;
-    value.push((2, Place { stage: Some(c) }))?;
-    let mut specs = List::new(alloc);
-    specs.push(SpecRow {
-        current: Some(Place { stage: Some(a) }),
-        others: Some(Place { stage: Some(b) }),
-        value,
+    let value = vec![in alloc;
+        (2, Place { stage: None }),
+        (0, Place { stage: None }),
+        (
+            2,
+            Place {
+                stage: Some(StageId::at(2))
+            }
+        ),
+    ]?;
+    let first = SpecRow {
+        current: in_stage(0),
+        others: in_stage(1),
+        value: List::from_vec(value),
         ..empty(alloc, false, None)
-    })?;
-    specs.push(SpecRow {
-        current: Some(Place { stage: Some(a) }),
-        all: Some(Place { stage: Some(b) }),
+    };
+    let second = SpecRow {
+        current: in_stage(0),
+        all: in_stage(1),
         ..empty(alloc, false, None)
-    })?;
-    let mut game = Match::new(alloc, specs)?;
-    game.set(0)?;
-    game.lists(&rt, &[(0, Some(a)), (1, Some(b)), (2, Some(c))])?;
-    game.set(1)?;
-    game.lists(&rt, &[(0, Some(b)), (1, Some(b))])?;
+    };
+    let specs = List::from_vec(vec![in alloc; first, second]?);
+    let steps = [(Set(0), "01b2c"), (Set(1), "0b1b"), (Clear, "null")];
+    play(&rt, alloc, specs, &steps)?;
     Ok(())
 }
 
 #[test]
 fn a_stage_on_a_null_map_goes_to_its_next_and_leaves(rt: HostRuntime) -> Result<(), Fail> {
     let alloc = rt.alloc();
-    let a = StageId::at(0);
-    let b = StageId::at(1);
-    let mut game = Match::new(alloc, List::new(alloc))?;
-    game.active.set_stage(1, a)?;
-    game.lists(&rt, &[(1, Some(a))])?;
-    game.active.set_stage(0, b)?;
-    game.end(&rt, 1, Ended::Done)?;
-    game.lists(&rt, &[(0, Some(b)), (1, Some(b))])?;
-    game.end(&rt, 1, Ended::Done)?;
-    game.lists(&rt, &[(0, Some(b))])?;
-    game.end(&rt, 0, Ended::Done)?;
-    game.is_null(&rt)?;
+    let steps = [
+        (SetStage(1, 0), "1a"),
+        (SetStage(0, 1), "0b1a"),
+        (End(1, Ended::Done), "0b1b"),
+        (End(1, Ended::Done), "0b"),
+        (End(0, Ended::Done), "null"),
+    ];
+    play(&rt, alloc, List::new(alloc), &steps)?;
     Ok(())
 }
 
 #[test]
 fn a_follower_that_is_empty_too(rt: HostRuntime) -> Result<(), Fail> {
     let alloc = rt.alloc();
-    let b = StageId::at(1);
-    let mut specs = List::new(alloc);
-    specs.push(keeping(alloc, 1, b)?)?;
-    specs.push(SpecRow {
-        current: Some(LISTED),
+    let first = SpecRow {
+        others: in_stage(1),
+        ..empty(alloc, true, None)
+    };
+    let second = SpecRow {
+        current: listed(),
         max_moves: Some(1),
-        ..empty(alloc, true, Some(SpecId::at(3)))
-    })?;
-    specs.push(empty(alloc, false, Some(SpecId::at(4))))?;
-    specs.push(empty(alloc, true, Some(SpecId::at(4))))?;
-    specs.push(empty(alloc, true, None))?;
-    let mut game = Match::new(alloc, specs)?;
-    game.set(0)?;
-    game.set(1)?;
-    game.count(&rt, 0)?;
-    game.lists(&rt, &[(1, Some(b))])?;
-    game.set(3)?;
-    game.lists(&rt, &[(1, Some(b))])?;
-    game.set(2)?;
-    game.is_null(&rt)?;
+        ..empty(alloc, true, Some(3))
+    };
+    let dropping = empty(alloc, false, Some(4));
+    let keeping = empty(alloc, true, Some(4));
+    let last = empty(alloc, true, None);
+    let specs = List::from_vec(vec![in alloc; first, second, dropping, keeping, last]?);
+    let steps = [
+        (Set(0), "1b"),
+        (Set(1), "0"),
+        (Count(0), "1b"),
+        (Set(3), "1b"),
+        (Set(2), "null"),
+    ];
+    play(&rt, alloc, specs, &steps)?;
     Ok(())
 }
 
@@ -310,35 +311,35 @@ fn a_chain_of_sixteen_specs(rt: HostRuntime) -> Result<(), Fail> {
     let alloc = rt.alloc();
     let mut specs = List::new(alloc);
     for next in 1..16 {
-        specs.push(empty(alloc, false, Some(SpecId::at(next))))?;
+        specs.push(empty(alloc, false, Some(next)))?;
     }
     specs.push(SpecRow {
-        all: Some(LISTED),
+        all: listed(),
         ..empty(alloc, false, None)
     })?;
-    let mut game = Match::new(alloc, specs)?;
-    game.set(0)?;
-    game.lists(&rt, &[(0, None), (1, None)])?;
+    play(&rt, alloc, specs, &[(Set(0), "01")])?;
     Ok(())
 }
 
 #[test]
 fn a_stage_that_may_not_end(rt: HostRuntime) -> Result<(), Fail> {
     let alloc = rt.alloc();
-    let b = StageId::at(1);
-    let mut specs = List::new(alloc);
-    specs.push(keeping(alloc, 1, b)?)?;
-    let mut game = Match::new(alloc, specs)?;
-    game.end(&rt, 1, Ended::NotListed)?;
-    game.set(0)?;
-    assert!(rt; game.active.is_listed(1));
-    assert!(rt; !game.active.is_listed(0));
-    game.end(&rt, 0, Ended::NotListed)?;
-    game.count(&rt, 1)?;
-    game.end(&rt, 1, Ended::Below)?;
-    game.lists(&rt, &[(1, Some(b))])?;
-    game.count(&rt, 1)?;
-    game.end(&rt, 1, Ended::Done)?;
-    game.is_null(&rt)?;
+    let spec = SpecRow {
+        current: listed(),
+        min_moves: 1,
+        ..empty(alloc, false, None)
+    };
+    let specs = List::from_vec(vec![in alloc; spec]?);
+    let steps = [
+        (End(0, Ended::NotListed), "null"),
+        (Set(0), "0"),
+        (IsListed(0, true), "0"),
+        (IsListed(1, false), "0"),
+        (End(1, Ended::NotListed), "0"),
+        (End(0, Ended::Below), "0"),
+        (Count(0), "0"),
+        (End(0, Ended::Done), "null"),
+    ];
+    play(&rt, alloc, specs, &steps)?;
     Ok(())
 }
