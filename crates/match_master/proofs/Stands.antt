@@ -1,5 +1,5 @@
 -- A Book that stands for a history answers the reply to the next entry, and then stands for the history with it.
-use Rattle.std.proofs.Common.{◌≡◌, ◌==◌, ℕ, List, [], ◌∷◌, Bool, true, false, if◌then◌else◌, nat_eq, MatchBool, Option, Some, None, option_map, refl, sym, ap, ◌∙◌, subst}
+use Rattle.std.proofs.Common.{◌≡◌, ◌==◌, ℕ, List, ◌∷◌, Bool, true, false, if◌then◌else◌, nat_eq, MatchBool, Option, Some, None, option_map, refl, sym, ap, ◌∙◌, subst}
 use Rattle.std.proofs.lemmas.Bool.{true≢false}
 use Rattle.std.specs.Map.{lookup}
 use Rattle.room_desk.specs.Entry.{Entry}
@@ -11,14 +11,10 @@ use Rattle.match_master.specs.declared.reply.RoomReply.TheVariants as answer
 use Rattle.match_master.specs.Held.{Held, Holds, Advances, StandsFor, stored, stored_bytes, is_starved, answer_to, bytes_waiting, kept_of}
 use Rattle.match_master.specs.History.{serials, standing, attached, serials_after, standing_after, attached_after}
 use Rattle.match_master.specs.Match.{Match}
-use Rattle.match_master.specs.Own.{own}
 use Rattle.match_master.specs.Refusal.{Refuses}
 use Rattle.match_master.specs.Reply.{waits, reply, reply_to, taken}
-use Rattle.match_master.specs.Sight.{sight}
-use Rattle.match_master.specs.Shown.{Shown}
 use Rattle.match_master.specs.Steps.{pieces, pieces_after}
-use Rattle.match_master.specs.Stream.{Item, Piece, waiting}
-use Rattle.player_sight.specs.SnapshotData.{Snap}
+use Rattle.match_master.specs.Stream.{waiting}
 use Rattle.match_master.specs.declared.submission.Submission.{Submission}
 use Rattle.match_master.specs.Calls.{create, create_reply, attach, attach_reply}
 use Rattle.match_master.specs.Does.{Does, SubmitDoes, viewer_in, after_create, after_attach, after_take, taken_of}

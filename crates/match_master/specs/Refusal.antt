@@ -1,6 +1,6 @@
 -- A refused action leaves the match and the lines of every other session as they were, and adds to its own session's lines the one
 -- that says why.
-use Rattle.std.specs.Prelude.{◌≡◌, ◌≢◌, ℕ, List, ◌∷◌, ◌++◌, Option, Some}
+use Rattle.std.specs.Prelude.{◌≡◌, ◌≢◌, ℕ, List, ◌∷◌, ◌++◌, Some}
 use Rattle.game_trait.specs.Rules.{Rules}
 use Rattle.room_desk.specs.Entry.{Entry}
 use Rattle.wire_json.specs.declared.reason.Reason.{Reason}

@@ -1,4 +1,4 @@
-use Rattle.std.proofs.Common.{◌≡◌, sym}
+use Rattle.std.proofs.Common.{sym}
 use Rattle.match_master.proofs.JudgeLaws.{act_in_sheet, accepted_at}
 use Rattle.match_master.proofs.judge.play.Goals as goal
 
