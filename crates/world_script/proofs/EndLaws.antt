@@ -11,7 +11,7 @@ use Rattle.world_script.specs.Reading.{Raises, given_after, StandsAt, Moves}
 use Rattle.world_script.specs.Running.{Ends, ExitRaises, RanLine, RanRaises, StopsEarly, stop_at, end_at, tic_tac_toe_rules}
 use Rattle.world_script.specs.Reader.{Reader, fresh, to_come}
 use Rattle.world_script.specs.Transcript.{no_lines_yet}
-use Rattle.world_script.specs.ScriptLines.{Script, Ended, TooLong, TooMany, first_line, script}
+use Rattle.world_script.specs.ScriptLines.{Script, TooLong, TooMany, first_line}
 use Rattle.world_script.specs.declared.exit.Exit.{Exit}
 use Rattle.world_script.specs.declared.exit.Exit.TheVariants.{Done, BadLine, ReadFault, WriteFault, NoMemory}
 use Rattle.world_script.specs.declared.next.Next.{Next}
