@@ -80,6 +80,18 @@ fn a_failing_source_ends_the_run_after_the_lines_before(rt: HostRuntime) -> Resu
 }
 
 #[test]
+fn a_line_that_a_fault_cuts_off_is_not_run(rt: HostRuntime) -> Result<(), Fail> {
+    let cut = &SCRIPT[..SCRIPT.len() - 1];
+    let (exit, printed) = played(rt.alloc(), cut, &[2], &[])?;
+    assert_eq!(rt; exit, Exit::ReadFault);
+    assert_eq!(rt; printed.as_slice(), b"open 0-1\n".as_slice());
+    let (exit, printed) = played(rt.alloc(), cut, &[3], &[])?;
+    assert_eq!(rt; exit, Exit::Done);
+    assert_eq!(rt; printed.as_slice(), TRANSCRIPT);
+    Ok(())
+}
+
+#[test]
 fn a_failing_sink_ends_the_run(rt: HostRuntime) -> Result<(), Fail> {
     let (exit, printed) = played(rt.alloc(), SCRIPT, &[], &[1])?;
     assert_eq!(rt; exit, Exit::WriteFault);

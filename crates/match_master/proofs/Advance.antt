@@ -2,23 +2,20 @@
 use Rattle.std.proofs.Common.{◌≡◌, ◌==◌, ℕ, ◌+◌, List, [], ◌∷◌, ◌++◌, Bool, true, false, if◌then◌else◌, nat_eq, MatchBool, Option, Some, None, option_map, Result, Ok, Err, refl, sym, ap, ◌∙◌, subst, arith, append-nil}
 use Rattle.std.specs.Map.{lookup}
 use Rattle.std.proofs.lemmas.Bool.Decides.{nat_tests}
-use Rattle.std.proofs.lemmas.Bool.{true≢false}
-use Rattle.indexmap.specs.IndexMap.{insert_entry}
 use Rattle.game_trait.specs.Rules.{Rules}
 use Rattle.wire_json.specs.declared.reason.Reason.{Reason}
-use Rattle.match_master.specs.declared.call.RoomCall.{RoomCall}
 use Rattle.match_master.specs.declared.call.RoomCall.TheVariants.{Create, Attach, Submit, Take}
 use Rattle.match_master.specs.declared.reply.RoomReply.{RoomReply}
 use Rattle.match_master.specs.declared.submission.Submission.{Submission}
-use Rattle.match_master.specs.Calls.{create, create_reply, created, serials_created, attach, attach_reply, submit_reply, submitted, verdict_reply, accepted_unless}
+use Rattle.match_master.specs.Calls.{create, create_reply, created, serials_created, attach, attach_reply, submit_reply, submitted, accepted_unless}
 use Rattle.match_master.specs.Does.{Does, SubmitDoes, viewer_in, after_create, after_attach, after_take, after_submission, taken_of}
-use Rattle.match_master.specs.Held.{Held, Holds, Advances, kept_of, stored, is_starved, answer_to}
+use Rattle.match_master.specs.Held.{Held, Holds, Advances, stored, is_starved, answer_to}
 use Rattle.match_master.specs.History.{attached_by}
 use Rattle.match_master.specs.Lines.{ok_line, no_line}
 use Rattle.match_master.specs.Match.{Match, number_of}
 use Rattle.match_master.specs.Shown.{Shown, with_told, tell_all}
 use Rattle.match_master.specs.Steps.{and_own, told, told_where, begun_where, marked, sync_of, update_of}
-use Rattle.match_master.specs.Stream.{Piece, Line, Mark, waiting}
+use Rattle.match_master.specs.Stream.{Piece, Line, waiting}
 use Rattle.match_master.specs.Verdict.{broken, accept}
 use Rattle.match_master.proofs.SessionLaws.{lookup-put, lookup-tell_all}
 

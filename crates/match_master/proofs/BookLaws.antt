@@ -1,6 +1,5 @@
 -- What the private steps of a Book come to, in the words of its history.
-use Rattle.std.proofs.Common.{◌≡◌, ◌==◌, ℕ, suc, ◌+◌, List, [], ◌∷◌, ◌++◌, length, Bool, true, false, if◌then◌else◌, nat_eq, MatchBool, IfSome, Option, Some, None, option_map, Result, Ok, Err, refl, sym, ap, ◌∙◌, subst, arith, add-one}
-use Rattle.std.proofs.lemmas.Bool.Decides.{nat_tests}
+use Rattle.std.proofs.Common.{◌≡◌, ℕ, ◌+◌, List, [], ◌∷◌, ◌++◌, IfSome, Option, Some, None, option_map, refl, sym, ap, ◌∙◌, subst, add-one}
 use Rattle.serde_json.specs.Data.{Data}
 use Rattle.game_trait.specs.Rules.{Rules}
 use Rattle.game_sheet.specs.declared.sheet.Sheet.{Sheet}
@@ -11,7 +10,6 @@ use Rattle.reducer.specs.Accepted.{Accepted}
 use Rattle.reducer.specs.Fold.{standing as standing_at}
 use Rattle.reducer.specs.Standing.{Standing}
 use Rattle.wire_json.specs.ServerText.{text}
-use Rattle.wire_json.specs.declared.reason.Reason.{Reason}
 use Rattle.wire_json.specs.declared.server.ServerMsg.TheVariants as message
 use Rattle.wire_json.specs.declared.verdict.Verdict.TheVariants as verdict
 use Rattle.match_master.specs.declared.kept.Kept.{Kept}
@@ -19,14 +17,14 @@ use Rattle.match_master.specs.declared.reply.RoomReply.{RoomReply}
 use Rattle.match_master.specs.declared.reply.RoomReply.TheVariants as answer
 use Rattle.match_master.specs.declared.submission.Submission.{Submission}
 use Rattle.match_master.specs.Calls.{verdict_reply}
-use Rattle.match_master.specs.Does.{Does, SubmitDoes, with_accepted, after_submission, update_text}
+use Rattle.match_master.specs.Does.{Does, SubmitDoes, with_accepted, after_submission}
 use Rattle.match_master.specs.Held.{Held, kept_of}
 use Rattle.match_master.specs.Judged.{IsAccepted}
 use Rattle.match_master.specs.Lines.{newest, ok_line}
 use Rattle.match_master.specs.Match.{Match, number_of, table_of, entry_on, log_of}
-use Rattle.match_master.specs.Shown.{Shown, tell_all}
+use Rattle.match_master.specs.Shown.{tell_all}
 use Rattle.match_master.specs.Steps.{update_of}
-use Rattle.match_master.specs.Verdict.{broken, accept}
+use Rattle.match_master.specs.Verdict.{broken}
 
 pub newest_last : (sheet : Sheet) (log : List Entry) (e : Entry) → newest sheet (log ++ e ∷ []) ≡ entry_data sheet e
 newest_last sheet [] e = refl

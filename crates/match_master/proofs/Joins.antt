@@ -17,11 +17,11 @@ use Rattle.match_master.specs.declared.submission.Submission.{Submission}
 use Rattle.match_master.specs.Verdict.{broken, public_broken, game_broken, or_else, accept, with_act, is_named}
 use Rattle.match_master.specs.Calls.{create, created, attach, accepted_unless, submitted}
 use Rattle.match_master.specs.History.{standing, attached, serials, standing_after, attached_after, attached_by}
-use Rattle.match_master.specs.Stream.{GameAnswer, Unasked, Accepted, Refused, Item, Submitted, Took, Piece, Line, Mark, at_number, says, says_verdict, broken_on, stream}
+use Rattle.match_master.specs.Stream.{Unasked, Accepted, Refused, Item, Submitted, Took, Piece, Line, Mark, at_number, says_verdict, broken_on}
 use Rattle.match_master.specs.Reply.{name_of}
 use Rattle.match_master.specs.Sight.{sight, shown_to, shown_too}
-use Rattle.match_master.specs.Own.{own, did_where, game_answer, answer_unless}
-use Rattle.match_master.specs.Steps.{and_own, told, told_where, begun, begun_where, marked, pieces_after, pieces, update_of, sync_of}
+use Rattle.match_master.specs.Own.{own, did_where, answer_unless}
+use Rattle.match_master.specs.Steps.{told, told_where, begun, marked, pieces_after, pieces, update_of, sync_of}
 use Rattle.match_master.specs.Admitted.{IsAdmitted}
 use Rattle.match_master.proofs.RuleLaws.{public_admits, or_none}
 use Rattle.match_master.proofs.Follows.{Follows, grown, shown_once, shown_grown, follows_begun, follows_item, follows_grown, follows_own, at_present, at_previous}

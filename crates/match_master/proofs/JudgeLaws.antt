@@ -1,10 +1,10 @@
 -- What the answer of a step says of a submission, and that a resolved act is in its sheet.
-use Rattle.std.proofs.Common.{◌≡◌, ◌<◌, ℕ, ℤ, nat_lt, List, [], ◌∷◌, length, position, Bool, true, false, if◌then◌else◌, Option, Some, None, option_map, Result, Ok, Err, refl, sym, ap, ◌∙◌, subst, arith}
+use Rattle.std.proofs.Common.{◌≡◌, ◌<◌, ℕ, ℤ, nat_lt, List, ◌∷◌, length, position, Bool, true, false, if◌then◌else◌, Option, Some, None, option_map, Result, Ok, Err, refl, ap, ◌∙◌, subst, arith}
 use Rattle.std.specs.List.{position_or_len}
 use Rattle.std.proofs.lemmas.Bool.Decides.{nat_tests}
 use Rattle.std.specs.Str.{bytes_eq}
 use Rattle.game_sheet.specs.declared.act.Act.{Act}
-use Rattle.game_sheet.specs.declared.act.Act.TheVariants.{Move, Event, Undo, Redo}
+use Rattle.game_sheet.specs.declared.act.Act.TheVariants.{Move, Event}
 use Rattle.game_sheet.specs.declared.act.Event.{Event as Happening}
 use Rattle.game_sheet.specs.declared.act.Event.TheVariants.{SetPhase, SetStage}
 use Rattle.game_sheet.specs.declared.act.EventKind.{EventKind}
@@ -17,7 +17,7 @@ use Rattle.move_log.specs.declared.entry.Entry.{Entry}
 use Rattle.phase_flow.specs.Action.{once}
 use Rattle.phase_flow.specs.Reached.{Reached}
 use Rattle.reducer.specs.Accepted.{Accepted}
-use Rattle.reducer.specs.Fold.{fold, refusal, standing as standing_at}
+use Rattle.reducer.specs.Fold.{refusal, standing as standing_at}
 use Rattle.reducer.specs.Sound.{IsSound}
 use Rattle.reducer.specs.Standing.{Standing}
 use Rattle.wire_json.specs.Resolve.{act_of, event_of, move_of, phase_of, stage_of}
@@ -25,13 +25,12 @@ use Rattle.wire_json.specs.declared.asked.Asked.{Asked}
 use Rattle.wire_json.specs.declared.asked.Asked.TheVariants as asked
 use Rattle.wire_json.specs.declared.asked.AskedTo.{AskedTo}
 use Rattle.wire_json.specs.declared.asked.AskedTo.TheVariants as to
-use Rattle.wire_json.specs.declared.reason.Reason.{Reason}
 use Rattle.match_master.specs.declared.submission.Submission.{Submission}
 use Rattle.match_master.specs.declared.kept.Kept.{Kept}
 use Rattle.match_master.specs.Held.{kept_of}
 use Rattle.match_master.specs.Judged.{IsAccepted}
 use Rattle.match_master.specs.Match.{Match, number_of, table_of, entry_on}
-use Rattle.match_master.specs.Verdict.{broken, public_broken, game_broken, accept, with_act, answered, or_else, reason_of}
+use Rattle.match_master.specs.Verdict.{broken, public_broken, game_broken, with_act, answered, or_else, reason_of}
 
 chosen : (b : Bool) (n i : ℕ) → (if b then Some n else None) ≡ Some i → (b ≡ true) × (n ≡ i)
 chosen true n i h = (refl, cc)

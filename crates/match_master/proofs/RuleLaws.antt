@@ -1,5 +1,5 @@
 -- What follows where no rule is broken: the submission is a seat's, and the sheet has what it asks for.
-use Rattle.std.proofs.Common.{◌≡◌, ◌<◌, ◌≤◌, ℕ, ◌+◌, ◌==◌, Bool, true, false, not, ◌&&◌, if◌then◌else◌, List, [], ◌∷◌, Option, Some, None, refl, sym, ap, ◌∙◌, subst, arith}
+use Rattle.std.proofs.Common.{◌≡◌, ℕ, Bool, true, false, not, List, [], ◌∷◌, Option, Some, None, refl, subst}
 use Rattle.std.proofs.lemmas.Bool.{true≢false}
 use Rattle.game_sheet.specs.declared.act.Act.{Act}
 use Rattle.game_sheet.specs.declared.ctx.Ctx.{Ctx}
@@ -11,10 +11,8 @@ use Rattle.wire_json.specs.declared.asked.Asked.{Asked}
 use Rattle.wire_json.specs.declared.reason.Reason.{Reason}
 use Rattle.wire_json.specs.declared.reason.Reason.TheVariants.{NoMatch, Unauthorized}
 use Rattle.match_master.specs.Admitted.{IsAdmitted}
-use Rattle.match_master.specs.Match.{Match, number_of, table_of}
-use Rattle.match_master.specs.Rule.{public, first_broken, has_act, seat_rules, viewer_rules, most_actions}
-use Rattle.match_master.specs.declared.submission.Submission.{Submission}
-use Rattle.match_master.specs.Verdict.{broken, public_broken, game_broken, or_else, is_named}
+use Rattle.match_master.specs.Rule.{public, first_broken, has_act, seat_rules, viewer_rules}
+use Rattle.match_master.specs.Verdict.{or_else}
 
 abbrev NoneHolds : List (Bool × Reason) → Type 0
 NoneHolds [] = Unit {0}

@@ -1,12 +1,12 @@
 -- What a write at one place makes of the attachments, and what a walk over all places makes of them.
-use Rattle.std.proofs.Common.{◌≡◌, ◌<◌, ◌≤◌, ℕ, zero, suc, ◌+◌, ◌==◌, Bool, List, [], ◌∷◌, length, map, Option, Some, None, option_map, is_some, nat_eq, true, false, if◌then◌else◌, position, slice_get, vec_len, vec_capacity, refl, sym, ap, ◌∙◌, subst, arith}
+use Rattle.std.proofs.Common.{◌≡◌, ◌≤◌, ℕ, zero, suc, ◌+◌, ◌==◌, Bool, List, [], ◌∷◌, length, Option, Some, None, option_map, is_some, nat_eq, true, false, if◌then◌else◌, position, slice_get, vec_len, vec_capacity, refl, sym, ap, ◌∙◌, subst, arith}
 use Rattle.indexmap.specs.IndexMap.{set_value_at, insert_entry}
 use Rattle.indexmap.proofs.MapLemmas.{Found-position, insert_entry-first}
 use Rattle.std.specs.Map.{values_of, keys_of, lookup}
 use Rattle.std.proofs.lemmas.Bool.Decides.{nat_tests}
 use Rattle.std.proofs.lemmas.Bool.{true≢false}
 use Rattle.match_master.specs.declared.session.Session.{Session}
-use Rattle.match_master.specs.Shown.{Shown, shown_of, shown_entry, all_shown, with_told, tell, tell_all, tell_at, tell_to, needs, HasRoomAt, HaveRoomTo, HaveRoomFrom, TakesOut}
+use Rattle.match_master.specs.Shown.{Shown, shown_of, shown_entry, all_shown, with_told, tell, tell_all, tell_at, tell_to, needs, HaveRoomTo, HaveRoomFrom, TakesOut}
 
 -- a place holds an attachment, and this says whether it is the pass's own
 pub record IsAt (es : List (ℕ × Session)) (i : ℕ) (v : Session) (pass : ℕ) (own : Bool) : Type 0 where

@@ -1,12 +1,11 @@
 -- Which updates a stream has between two numbers, and that a newer snapshot doesn't touch what older items say.
-use Rattle.std.proofs.Common.{◌≡◌, ◌<◌, ◌≤◌, ℕ, ◌+◌, ◌==◌, nat_lt, nat_le, Bool, true, false, ◌&&◌, if◌then◌else◌, List, [], ◌∷◌, ◌++◌, map, filter, Option, Some, None, refl, sym, ap, ◌∙◌, subst, arith}
+use Rattle.std.proofs.Common.{◌≡◌, ◌<◌, ◌≤◌, ℕ, ◌+◌, ◌==◌, nat_lt, nat_le, Bool, true, false, ◌&&◌, if◌then◌else◌, List, [], ◌∷◌, map, filter, Option, Some, None, refl, ap, arith}
 use Rattle.std.proofs.lemmas.Bool.Decides.{nat_tests}
 use Rattle.game_sheet.specs.MatchName.{Name}
 use Rattle.game_sheet.specs.declared.sheet.Sheet.{Sheet}
 use Rattle.player_sight.specs.SnapshotData.{Snap}
 use Rattle.match_master.specs.Lines.{update_line, ok_line}
-use Rattle.match_master.specs.Stream.{GameAnswer, Unasked, Accepted, Refused, Item, Submitted, Took, Piece, Line, number_at, number_after, number_when, oldest, at_number, updates, later_updates, up_to_items, says, says_verdict, says_game, broken_on, reached, start_of, first_piece}
-use Rattle.match_master.specs.declared.submission.Submission.{Submission}
+use Rattle.match_master.specs.Stream.{GameAnswer, Unasked, Accepted, Refused, Item, Submitted, Took, Piece, Line, number_at, number_after, number_when, oldest, at_number, updates, later_updates, up_to_items, says, says_verdict, says_game, broken_on, reached, start_of}
 use Rattle.wire_json.specs.declared.reason.Reason.{Reason}
 
 -- all snapshots have numbers up to n

@@ -1,15 +1,12 @@
 -- What each call of a room does to its match and is answered, by what stands before it.
-use Rattle.std.specs.Prelude.{ℕ, zero, ◌+◌, ◌-◌, ◌^◌, ◌==◌, List, [], ◌∷◌, Bool, ◌&&◌, not, if◌then◌else◌, nat_lt, nat_le, is_some, Option, Some, None, Result, Ok, Err}
+use Rattle.std.specs.Prelude.{ℕ, ◌+◌, ◌==◌, List, [], Bool, ◌&&◌, if◌then◌else◌, nat_lt, nat_le, Option, Some, None, Result, Ok, Err}
 use Rattle.game_trait.specs.Rules.{Rules}
 use Rattle.game_sheet.specs.declared.refusal.GameRule.{GameRule}
 use Rattle.game_sheet.specs.declared.sheet.Sheet.{Sheet}
 use Rattle.phase_flow.specs.Action.{begin}
 use Rattle.phase_flow.specs.Reached.{Reached}
 use Rattle.wire_json.specs.declared.reason.Reason.{Reason}
-use Rattle.wire_json.specs.declared.verdict.Verdict.{Verdict}
 use Rattle.wire_json.specs.declared.verdict.Verdict.TheVariants as verdict
-use Rattle.match_master.specs.declared.call.RoomCall.{RoomCall}
-use Rattle.match_master.specs.declared.call.RoomCall.TheVariants.{Create, Attach, Submit, Take}
 use Rattle.match_master.specs.declared.reply.RoomReply.{RoomReply}
 use Rattle.match_master.specs.declared.reply.RoomReply.TheVariants as reply
 use Rattle.match_master.specs.Match.{Match, number_of}

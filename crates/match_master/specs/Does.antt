@@ -1,5 +1,5 @@
 -- What each call does to what a Book holds.
-use Rattle.std.specs.Prelude.{◌≡◌, ◌+◌, ℕ, nat_eq, List, [], ◌∷◌, ◌++◌, Bool, MatchBool, Option, Some, None, option_map, Result, Ok, Err}
+use Rattle.std.specs.Prelude.{◌≡◌, ◌+◌, ℕ, nat_eq, List, [], ◌∷◌, ◌++◌, MatchBool, Option, Some, None, option_map, Result, Ok, Err}
 use Rattle.std.specs.Map.{lookup}
 use Rattle.indexmap.specs.IndexMap.{insert_entry}
 use Rattle.game_trait.specs.Rules.{Rules}
@@ -10,16 +10,14 @@ use Rattle.reducer.specs.Standing.{Standing}
 use Rattle.wire_json.specs.ServerText.{text}
 use Rattle.wire_json.specs.declared.reason.Reason.{Reason}
 use Rattle.wire_json.specs.declared.server.ServerMsg.TheVariants as message
-use Rattle.wire_json.specs.declared.verdict.Verdict.TheVariants as verdict
 use Rattle.match_master.specs.declared.kept.Kept.{Kept}
 use Rattle.match_master.specs.declared.reply.RoomReply.{RoomReply}
 use Rattle.match_master.specs.declared.reply.RoomReply.TheVariants as answer
 use Rattle.match_master.specs.declared.submission.Submission.{Submission}
-use Rattle.match_master.specs.Calls.{create, create_reply, attach, attach_reply, verdict_reply}
+use Rattle.match_master.specs.Calls.{verdict_reply}
 use Rattle.match_master.specs.Held.{Held, kept_of, is_starved}
 use Rattle.match_master.specs.Lines.{sync_line, ok_line, no_line}
 use Rattle.match_master.specs.Match.{Match, number_of}
-use Rattle.match_master.specs.Reply.{taken}
 use Rattle.match_master.specs.Shown.{Shown, tell_all}
 use Rattle.match_master.specs.Steps.{sync_of, update_of}
 use Rattle.match_master.specs.Verdict.{broken, accept}

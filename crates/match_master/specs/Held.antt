@@ -1,5 +1,5 @@
 -- What a Book holds, and when that is what a history gives.
-use Rattle.std.specs.Prelude.{◌≡◌, ◌≤◌, ◌==◌, ◌+◌, ℕ, nat_eq, List, [], Bool, true, false, if◌then◌else◌, MatchBool, Option, Some, None, option_map}
+use Rattle.std.specs.Prelude.{◌≡◌, ◌≤◌, ◌==◌, ℕ, nat_eq, List, Bool, true, false, if◌then◌else◌, MatchBool, Option, Some, None, option_map}
 use Rattle.std.specs.Map.{lookup}
 use Rattle.game_trait.specs.Rules.{Rules}
 use Rattle.reducer.specs.Fold.{standing as standing_at}

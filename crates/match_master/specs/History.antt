@@ -1,13 +1,12 @@
 -- The history of a room is the list of its entries, the latest first. It tells how many matches were made, which one stands,
 -- and who is attached. An entry that was refused for want of memory changes nothing.
-use Rattle.std.specs.Prelude.{ℕ, ◌==◌, List, [], ◌∷◌, Bool, if◌then◌else◌, Option, Some, None, Result, Ok, Err}
+use Rattle.std.specs.Prelude.{ℕ, ◌==◌, List, [], ◌∷◌, if◌then◌else◌, Option, Some, None, Result, Ok, Err}
 use Rattle.game_trait.specs.Rules.{Rules}
 use Rattle.room_desk.specs.Entry.{Entry}
 use Rattle.match_master.specs.declared.call.RoomCall.{RoomCall}
 use Rattle.match_master.specs.declared.call.RoomCall.TheVariants.{Create, Attach, Submit, Take}
 use Rattle.match_master.specs.declared.reply.RoomReply.{RoomReply}
 use Rattle.match_master.specs.Match.{Match}
-use Rattle.match_master.specs.declared.submission.Submission.{Submission}
 use Rattle.match_master.specs.Calls.{create, created, serials_created, attach, submitted}
 
 module _ {X G : Type 0} (rules : X → Rules G) (room : ℕ) where

@@ -9,7 +9,7 @@ use Rattle.match_master.specs.declared.reply.RoomReply.{RoomReply}
 use Rattle.match_master.specs.declared.reply.RoomReply.TheVariants as answer
 use Rattle.match_master.specs.Match.{Match}
 use Rattle.match_master.specs.Calls.{create, create_reply, attach, attach_reply, submit_reply}
-use Rattle.match_master.specs.Stream.{Piece, stream, waiting}
+use Rattle.match_master.specs.Stream.{stream, waiting}
 use Rattle.match_master.specs.History.{serials, standing, attached}
 use Rattle.match_master.specs.Sight.{sight}
 use Rattle.match_master.specs.Own.{own}

@@ -1,5 +1,5 @@
 -- What is kept of an attachment: who looks, and the bytes that wait.
-use Rattle.std.specs.Prelude.{◌≡◌, ◌≤◌, ◌+◌, ◌==◌, ℕ, zero, suc, Bool, if◌then◌else◌, List, [], ◌∷◌, ◌++◌, map, length, Option, Some, None, nat_eq, slice_get, vec_len, vec_capacity}
+use Rattle.std.specs.Prelude.{◌≡◌, ◌≤◌, ◌+◌, ◌==◌, ℕ, zero, suc, Bool, if◌then◌else◌, List, [], ◌∷◌, ◌++◌, map, Option, Some, None, nat_eq, vec_len, vec_capacity}
 use Rattle.indexmap.specs.IndexMap.{insert_entry}
 use Rattle.match_master.specs.declared.session.Session.{Session}
 

@@ -1,5 +1,5 @@
 -- The lines of an attachment as they come, entry by entry: what the room keeps, apart from how the stream is defined.
-use Rattle.std.specs.Prelude.{ℕ, ◌+◌, ◌==◌, List, [], ◌∷◌, ◌++◌, Bool, true, false, if◌then◌else◌, Option, Some, None, Result, Ok, Err}
+use Rattle.std.specs.Prelude.{ℕ, ◌+◌, ◌==◌, List, [], ◌∷◌, Bool, true, false, if◌then◌else◌, Option, Some, None, Result, Ok, Err}
 use Rattle.game_trait.specs.Rules.{Rules}
 use Rattle.room_desk.specs.Entry.{Entry}
 use Rattle.wire_json.specs.declared.reason.Reason.{Reason}

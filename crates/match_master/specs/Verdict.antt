@@ -1,5 +1,5 @@
 -- The verdict on an action: the first public rule that it breaks, else what the game answers, else that it is accepted.
-use Rattle.std.specs.Prelude.{◌==◌, ℕ, ◌+◌, ◌∷◌, List, Bool, true, ◌&&◌, Option, Some, None, Result, Ok, Err, option_and_then, option_map}
+use Rattle.std.specs.Prelude.{◌==◌, ℕ, ◌∷◌, Bool, true, ◌&&◌, Option, Some, None, option_map}
 use Rattle.game_sheet.specs.MatchName.{Name}
 use Rattle.game_sheet.specs.declared.act.Act.{Act}
 use Rattle.game_sheet.specs.declared.refusal.GameRule.{GameRule}
@@ -10,7 +10,6 @@ use Rattle.phase_flow.specs.Reached.{Reached}
 use Rattle.reducer.specs.Accepted.{Accepted}
 use Rattle.reducer.specs.Fold.{answer}
 use Rattle.wire_json.specs.Resolve.{act_of}
-use Rattle.wire_json.specs.declared.asked.Asked.{Asked}
 use Rattle.wire_json.specs.declared.reason.Reason.{Reason}
 use Rattle.wire_json.specs.declared.reason.Reason.TheVariants.{NothingToUndo, NothingToRedo, NotYours, NotUndoable, InvalidMove, TooEarly, TooManyWords, TooManyEvents}
 use Rattle.match_master.specs.declared.submission.Submission.{Submission}

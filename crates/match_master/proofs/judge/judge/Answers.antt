@@ -1,4 +1,4 @@
-use Rattle.std.proofs.Common.{◌≡◌, true, sym}
+use Rattle.std.proofs.Common.{true, sym}
 use Rattle.match_master.specs.Verdict.{is_named}
 use Rattle.match_master.proofs.RuleLaws.{public_admits}
 use Rattle.match_master.proofs.judge.judge.Goals as goal

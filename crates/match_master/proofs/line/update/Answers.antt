@@ -1,4 +1,4 @@
-use Rattle.std.proofs.Common.{◌≡◌, IfOk, sym, ap, ◌∙◌, subst}
+use Rattle.std.proofs.Common.{◌≡◌, IfOk, ◌∙◌, subst}
 use Rattle.wire_json.specs.ServerText.{text}
 use Rattle.wire_json.specs.declared.server.ServerMsg.TheVariants.{Update}
 use Rattle.player_sight.specs.CtxData.{ctx_data}

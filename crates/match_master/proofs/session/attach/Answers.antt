@@ -1,4 +1,4 @@
-use Rattle.std.proofs.Common.{◌≡◌, ap, ◌∙◌}
+use Rattle.std.proofs.Common.{ap, ◌∙◌}
 use Rattle.match_master.specs.Shown.{all_shown}
 use Rattle.match_master.proofs.SessionLaws.{shown_put}
 use Rattle.match_master.proofs.session.attach.Goals as goal

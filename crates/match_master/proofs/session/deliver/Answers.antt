@@ -1,4 +1,4 @@
-use Rattle.std.proofs.Common.{◌≡◌, ◌≤◌, ◌+◌, suc, length, sym, ap, ◌∙◌, add-one, arith}
+use Rattle.std.proofs.Common.{◌≡◌, ◌+◌, length, sym, ap, ◌∙◌, add-one, arith}
 use Rattle.match_master.specs.Shown.{all_shown, tell_at, tell_to}
 use Rattle.match_master.proofs.SessionLaws.{tell_more, tell_done, length-all_shown, length-tell_to}
 use Rattle.match_master.proofs.session.deliver.Goals as goal

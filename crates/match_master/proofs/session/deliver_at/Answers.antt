@@ -1,5 +1,5 @@
-use Rattle.std.proofs.Common.{◌≡◌, ◌+◌, ◌≤◌, length, refl, sym, ap, add-one, arith, vec_len, vec_capacity}
-use Rattle.match_master.proofs.SessionLaws.{IsAt, room_at, told_at, room_after}
+use Rattle.std.proofs.Common.{length, sym, add-one}
+use Rattle.match_master.proofs.SessionLaws.{room_at, told_at, room_after}
 use Rattle.match_master.proofs.session.deliver_at.Goals as goal
 
 pub tell-requires : goal.tell-requires

@@ -1,4 +1,4 @@
-use Rattle.std.proofs.Common.{◌≤◌, length, arith}
+use Rattle.std.proofs.Common.{arith}
 use Rattle.match_master.proofs.SessionLaws.{room_done}
 use Rattle.match_master.proofs.session.reserve.Goals as goal
 

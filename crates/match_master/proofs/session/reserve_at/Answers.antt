@@ -1,6 +1,5 @@
-use Rattle.std.proofs.Common.{◌≡◌, ◌+◌, ◌≤◌, refl, sym, ap, add-one, arith, vec_len, vec_capacity}
-use Rattle.match_master.specs.Shown.{needs}
-use Rattle.match_master.proofs.SessionLaws.{IsAt, shown_same, room_to}
+use Rattle.std.proofs.Common.{refl, sym, add-one}
+use Rattle.match_master.proofs.SessionLaws.{shown_same, room_to}
 use Rattle.match_master.proofs.session.reserve_at.Goals as goal
 
 pub returns-in-Ok-clause-same : goal.returns-in-Ok-clause-same

@@ -1,4 +1,4 @@
-use Rattle.std.proofs.Common.{◌≡◌, option_map, is_some, nat_eq, sym, ap, ◌∙◌, refl}
+use Rattle.std.proofs.Common.{option_map, is_some, sym, ap, ◌∙◌, refl}
 use Rattle.match_master.specs.Shown.{shown_of}
 use Rattle.match_master.proofs.SessionLaws.{lookup_shown, none_of, taken_out}
 use Rattle.match_master.proofs.session.take.Goals as goal
