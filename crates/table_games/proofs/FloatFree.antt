@@ -2,10 +2,11 @@
 use Rattle.std.proofs.Common.{◌≡◌, false, ◌||◌, List, [], ◌∷◌, map, ℕ, Option, Some, None, refl, ap}
 use Rattle.serde_json.specs.View.{items_of}
 use Rattle.serde_json.specs.Written.{has_float, items_have_float}
-use Rattle.table_games.specs.Board.{board_value, cell_value}
+use Rattle.table_games.specs.Board.{board_value}
+use Rattle.table_games.specs.Rows.{seat_value}
 use Rattle.table_games.specs.declared.board.Board.{Board}
 
-cells_float_free : (cells : List (Option ℕ)) → items_have_float (items_of (map cell_value cells)) ≡ false
+cells_float_free : (cells : List (Option ℕ)) → items_have_float (items_of (map seat_value cells)) ≡ false
 cells_float_free [] = refl
 cells_float_free (None ∷ cells) = cells_float_free cells
 cells_float_free (Some seat ∷ cells) = cells_float_free cells

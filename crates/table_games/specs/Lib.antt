@@ -1,2 +1,5 @@
 pub mod Board
+pub mod Countdown
+pub mod InSheet
+pub mod Rows
 pub mod TicTacToe

@@ -2,9 +2,14 @@
 #![tactic(auto)]
 
 mod board;
+mod countdown_game;
+mod heap;
+mod rows;
 #[cfg(test)]
 mod tests;
 mod tic_tac_toe;
 
 pub use board::Board;
+pub use countdown_game::Countdown;
+pub use heap::Heap;
 pub use tic_tac_toe::TicTacToe;
