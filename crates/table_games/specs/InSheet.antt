@@ -1,6 +1,7 @@
 -- What the games queue names rows of their sheets: the proofs that each of them keeps this law of games, which no other definition cites.
-use Rattle.std.specs.Prelude.{ℕ, ℤ, zero, suc, pos, negsuc, ◌<◌, ◌-◌, ◌&&◌, Bool, true, false, if◌then◌else◌, List, [], ◌∷◌, length, min, Option, Some, None, nat_eq, nat_le, nat_lt}
+use Rattle.std.specs.Prelude.{ℕ, ℤ, zero, suc, pos, negsuc, ◌<◌, ◌-◌, ◌+◌, ◌^◌, ◌&&◌, Bool, true, false, if◌then◌else◌, List, [], ◌∷◌, length, min, slice_set, Option, Some, None, nat_eq, nat_le, nat_lt}
 use Rattle.dice_words.specs.Dice.{die}
+use Rattle.game_sheet.specs.declared.act.Event.TheVariants.{EndTurn}
 use Rattle.game_sheet.specs.declared.ctx.Ctx.{Ctx}
 use Rattle.game_sheet.specs.declared.act.Outcome.{Outcome}
 use Rattle.game_sheet.specs.declared.sheet.Sheet.{Sheet}
@@ -10,6 +11,7 @@ use Rattle.game_trait.specs.Rules.{Rules, plain}
 use Rattle.serde_json.specs.Data.{Data}
 use Rattle.table_games.specs.Board.{clicks}
 use Rattle.table_games.specs.Countdown.{countdown, countdown_move, countdown_sheet, less, take, wild}
+use Rattle.table_games.specs.Pig.{Points, hold, move_with, pig, pig_move, pig_sheet, roll, rolled, total_of, within_range}
 use Rattle.table_games.specs.TicTacToe.{clicked, fixed_sheet, tic_tac_toe}
 use Rattle.table_games.specs.declared.board.Board.{Board}
 use Rattle.table_games.specs.declared.heap.Heap.{Heap}
@@ -57,3 +59,24 @@ countdown_keeps h seat id args words = either_keeps countdown_sheet (nat_lt seat
 
 pub countdown_in_sheet : KeepsToSheet countdown
 countdown_in_sheet = plain_keeps _ _ _ _ _ (λ h ctx seat id args words. countdown_keeps h seat id args words)
+
+ranged_keeps : (sheet : Sheet) (sum : ℕ) (deed : Deed Points Barred) → QueuesInSheet sheet deed → QueuesInSheet sheet (within_range sum deed)
+ranged_keeps sheet sum deed keeps = either_keeps sheet (nat_lt sum (2 ^ 32)) deed (GaveUp Invalid) keeps tt
+
+rolled_keeps : (p : Points) (face : ℕ) (words : List ℕ) → QueuesInSheet pig_sheet (rolled p face words)
+rolled_keeps p face words = either_keeps pig_sheet (nat_eq face 1) (Done (record p { pot = 0 }) words (EndTurn None ∷ [])) (within_range (p.pot + face) (Done (record p { pot = p.pot + face }) words [])) (tt, tt) (ranged_keeps pig_sheet (p.pot + face) (Done (record p { pot = p.pot + face }) words []) tt)
+
+roll_keeps : (p : Points) (args : List ℤ) (words : List ℕ) → QueuesInSheet pig_sheet (roll p args words)
+roll_keeps p (next ∷ rest) words = tt
+roll_keeps p [] words = drawing_keeps pig_sheet (Lacks Spent) words (λ word rest. rolled p (die 6 word) rest) (λ word rest. rolled_keeps p (die 6 word) rest)
+
+hold_keeps : (p : Points) (seat total : ℕ) (args : List ℤ) (words : List ℕ) → QueuesInSheet pig_sheet (hold p seat total args words)
+hold_keeps p seat total (next ∷ rest) words = tt
+hold_keeps p seat total [] words = let deed : Deed Points Barred = Done (record { pot = 0; totals = slice_set p.totals seat (total + p.pot) }) words (EndTurn None ∷ []) in either_keeps pig_sheet (nat_eq p.pot 0) (GaveUp Invalid) (within_range (total + p.pot) deed) tt (ranged_keeps pig_sheet (total + p.pot) deed (tt, tt))
+
+move_keeps : (p : Points) (seat id : ℕ) (args : List ℤ) (words : List ℕ) (total : Option ℕ) → QueuesInSheet pig_sheet (move_with p seat id args words total)
+move_keeps p seat id args words None = tt
+move_keeps p seat id args words (Some total) = either_keeps pig_sheet (nat_eq id 0) (roll p args words) (hold p seat total args words) (roll_keeps p args words) (hold_keeps p seat total args words)
+
+pub pig_in_sheet : KeepsToSheet pig
+pig_in_sheet = plain_keeps _ _ _ _ _ (λ p ctx seat id args words. move_keeps p seat id args words (total_of p seat))
