@@ -5,20 +5,30 @@ ghost use Rattle.table_games.specs.Board.{clicks};
 ghost use Rattle.table_games.specs.TicTacToe.{fixed_sheet};
 
 use crate::board::Board;
+use crate::rows::make_ordinary;
 use dice_words::Tape;
 use game_sheet::{
-    Args, Ctx, EventQueue, List, MoveId, MoveRow, NoMemory, Order, Outcome, PhaseId, Seat, Sheet,
-    Text, TurnRow,
+    Args, Ctx, EventQueue, List, MoveId, NoMemory, Order, Outcome, PhaseId, Seat, Sheet, Text,
+    TurnRow,
 };
 use game_trait::{Game, Halt, HookHalt};
 use serde_json::Value;
 use std::alloc::Global;
+use std::marker::Model;
 
 /// The game, which holds its sheet.
 #[derive(Drop)]
 pub struct TicTacToe {
     sheet: Sheet,
-    ghost fixed: { sheet ≡ fixed_sheet },
+}
+
+impl Model for TicTacToe {
+    // It is always the same game.
+    ghost Value = { Unit {0} };
+
+    ghost view = { λ _. tt };
+
+    ghost invariant = { λ game. game.sheet ≡ fixed_sheet };
 }
 
 impl TicTacToe {
@@ -30,9 +40,10 @@ impl TicTacToe {
 }
 
 impl Game for TicTacToe {
-    type G = Board;
+    ghost use Rattle.table_games.specs.InSheet.{tic_tac_toe_in_sheet};
+    ghost use Rattle.table_games.specs.TicTacToe.{tic_tac_toe};
 
-    ghost use Rattle.table_games.specs.TicTacToe.{tic_tac_toe, tic_tac_toe_in_sheet};
+    type G = Board;
 
     ghost rules = { λ _. tic_tac_toe };
 
@@ -146,8 +157,7 @@ impl Game for TicTacToe {
     }
 
     fn to_value(&self, alloc: Global, g: &Board) -> Result<Value, NoMemory> {
-        let value = g.to_value(alloc)?;
-        Ok(value)
+        g.to_value(alloc)
     }
 
     fn copy(&self, alloc: Global, g: &Board) -> Result<Board, NoMemory> {
@@ -170,13 +180,7 @@ fn make_sheet(alloc: Global) -> Result<Sheet, NoMemory>
     ensures { IfOk result (λ made. made ≡ fixed_sheet) }
 {
     let mut moves = List::new(alloc);
-    moves.push(MoveRow {
-        name: Text::from_str(alloc, "clickCell")?,
-        redact: false,
-        client: true,
-        no_limit: false,
-        ignore_stale: false,
-    })?;
+    moves.push(make_ordinary(alloc, "clickCell")?)?;
     Ok(Sheet {
         name: Text::from_str(alloc, "tic-tac-toe")?,
         min_seats: 2,
