@@ -6,4 +6,6 @@ pub mod SessionLaws
 pub mod JudgeLaws
 pub mod BookLaws
 pub mod Advance
+pub mod Waiting
+pub mod Refusing
 pub mod Stands

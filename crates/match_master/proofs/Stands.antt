@@ -12,7 +12,8 @@ use Rattle.match_master.specs.Held.{Held, Holds, Advances, StandsFor, stored, st
 use Rattle.match_master.specs.History.{serials, standing, attached, serials_after, standing_after, attached_after}
 use Rattle.match_master.specs.Match.{Match}
 use Rattle.match_master.specs.Own.{own}
-use Rattle.match_master.specs.Reply.{waits, lines_waiting, reply, reply_to, taken}
+use Rattle.match_master.specs.Refusal.{Refuses}
+use Rattle.match_master.specs.Reply.{waits, reply, reply_to, taken}
 use Rattle.match_master.specs.Sight.{sight}
 use Rattle.match_master.specs.Shown.{Shown}
 use Rattle.match_master.specs.Steps.{pieces, pieces_after}
@@ -22,7 +23,8 @@ use Rattle.match_master.specs.declared.submission.Submission.{Submission}
 use Rattle.match_master.specs.Calls.{create, create_reply, attach, attach_reply}
 use Rattle.match_master.specs.Does.{Does, SubmitDoes, viewer_in, after_create, after_attach, after_take, taken_of}
 use Rattle.match_master.proofs.Advance.{create_advances, attach_advances, submit_advances, take_advances}
-use Rattle.match_master.proofs.Joins.{Joined, joins}
+use Rattle.match_master.proofs.Refusing.{refuses}
+use Rattle.match_master.proofs.Waiting.{waits_is}
 
 starved_is : (r : RoomReply) → is_starved r ≡ true → r ≡ answer.NoMemory
 starved_is answer.NoMemory h = refl
@@ -39,30 +41,19 @@ starved_is answer.Unauthorized h = absurd (true≢false (sym h))
 starved_is answer.NotAttached h = absurd (true≢false (sym h))
 
 module _ {X G : Type 0} (rules : X → Rules G) (room : ℕ) where
-  lines_are : (h : List (Entry (RoomCall X))) (pass : ℕ) (st : Option (Match X G)) (at : Option (Option ℕ)) (ps : List Piece) → Joined rules room st at ps (sight rules room h pass) (own rules room h pass)
-      → lines_waiting rules room h pass st at ≡ bytes_waiting rules at (waiting ps)
-  lines_are h pass None None ps j = refl
-  lines_are h pass (Some m) None ps j = refl
-  lines_are h pass None (Some viewer) ps j = absurd j
-  lines_are h pass (Some m) (Some viewer) ps j = ap (λ qs. Some (waiting qs)) (sym j.is)
-
-  -- what waits for a pass is what is kept for it
-  pub waits_is : (h : List (Entry (RoomCall X))) (pass : ℕ) → waits rules room h pass ≡ bytes_waiting rules (attached rules room h pass) (waiting (pieces rules room h pass))
-  waits_is h pass = lines_are h pass (standing rules room h) (attached rules room h pass) (pieces rules room h pass) (joins rules room h pass)
-
   stored_is : (a : Option (Option ℕ)) (bytes : List ℕ) → stored_bytes a (bytes_waiting rules a bytes) ≡ stored a bytes
   stored_is None bytes = refl
   stored_is (Some viewer) bytes = refl
 
   pub kept_is : (h : List (Entry (RoomCall X))) (pass : ℕ) → stored_bytes (attached rules room h pass) (waits rules room h pass) ≡ stored (attached rules room h pass) (waiting (pieces rules room h pass))
-  kept_is h pass = ap (stored_bytes (attached rules room h pass)) (waits_is h pass) ∙ stored_is (attached rules room h pass) (waiting (pieces rules room h pass))
+  kept_is h pass = ap (stored_bytes (attached rules room h pass)) (waits_is rules room h pass) ∙ stored_is (attached rules room h pass) (waiting (pieces rules room h pass))
 
   answer_is : (h : List (Entry (RoomCall X))) (pass : ℕ) (call : RoomCall X)
       → answer_to rules room (serials rules room h) (standing rules room h) (attached rules room h pass) (pieces rules room h pass) call ≡ reply_to rules room h pass call
   answer_is h pass (Create game seats seed) = refl
   answer_is h pass (Attach serial claim) = refl
   answer_is h pass (Submit name key number ticket asked) = refl
-  answer_is h pass Take = ap taken (sym (waits_is h pass))
+  answer_is h pass Take = ap taken (sym (waits_is rules room h pass))
 
   pub holds_of : (held : Held X G) (h : List (Entry (RoomCall X))) → held.room ≡ room → held.serials ≡ serials rules room h → held.kept ≡ option_map (kept_of rules) (standing rules room h)
       → ((pass : ℕ) → lookup (nat_eq pass) held.sessions ≡ stored_bytes (attached rules room h pass) (waits rules room h pass))
@@ -91,18 +82,18 @@ module _ {X G : Type 0} (rules : X → Rules G) where
   answered_by room new h pass call result true s k = (starved_is result s, k)
   answered_by room new h pass call result false s k = (k.0 ∙ answer_is rules room h pass call, k.1)
 
-  -- the reply to the entry, and that the Book then stands for the history with it
-  pub finish : (old new : Held X G) (h : List (Entry (RoomCall X))) (pass : ℕ) (call : RoomCall X) (result : RoomReply) → new.room ≡ old.room
-      → Advances rules old.room new (serials rules old.room h) (standing rules old.room h) (attached rules old.room h) (pieces rules old.room h) pass call result
-      → (result ≡ reply rules old.room h (record { pass = pass; call = call; starved = is_starved result })) × StandsFor rules new (record { pass = pass; call = call; starved = is_starved result } ∷ h)
-  finish old new h pass call result e a =
-      let done = answered_by old.room new h pass call result (is_starved result) refl a in
-      (done.0, stands_at new (record { pass = pass; call = call; starved = is_starved result } ∷ h) old.room e done.1)
-
-  -- a call was answered, and the Book stands for the history with it
+  -- a call was answered, and the Book stands for the history with it; a refusal leaves the others as they were
   abbrev pub IsDone : Held X G → Held X G → List (Entry (RoomCall X)) → ℕ → RoomCall X → RoomReply → Type 0
   IsDone old new h pass call result =
       (result ≡ reply rules old.room h (record { pass = pass; call = call; starved = is_starved result })) × StandsFor rules new (record { pass = pass; call = call; starved = is_starved result } ∷ h)
+      × Refuses rules old.room h (record { pass = pass; call = call; starved = is_starved result }) call result
+
+  pub finish : (old new : Held X G) (h : List (Entry (RoomCall X))) (pass : ℕ) (call : RoomCall X) (result : RoomReply) → new.room ≡ old.room
+      → Advances rules old.room new (serials rules old.room h) (standing rules old.room h) (attached rules old.room h) (pieces rules old.room h) pass call result
+      → IsDone old new h pass call result
+  finish old new h pass call result e a =
+      let done = answered_by old.room new h pass call result (is_starved result) refl a in
+      (done.0, stands_at new (record { pass = pass; call = call; starved = is_starved result } ∷ h) old.room e done.1, refuses rules old.room h pass call result done.0)
 
   done_as : (old new : Held X G) (h : List (Entry (RoomCall X))) (pass : ℕ) (call made : RoomCall X) (result : RoomReply) → call ≡ made → IsDone old new h pass made result → IsDone old new h pass call result
   done_as old new h pass call made result e d = subst (λ c. IsDone old new h pass c result) (sym e) d

@@ -9,6 +9,7 @@ pub mod History
 pub mod Sight
 pub mod Own
 pub mod Reply
+pub mod Refusal
 pub mod Steps
 pub mod Shown
 pub mod Held

@@ -11,6 +11,7 @@ ghost use Rattle.match_master.specs.Calls.{create, create_reply, attach, attach_
 ghost use Rattle.match_master.specs.Match.{Match};
 ghost use Rattle.room_desk.specs.Entry.{Entry as Made};
 ghost use Rattle.match_master.specs.declared.call.RoomCall.{RoomCall as Asks};
+ghost use Rattle.match_master.specs.Refusal.{Refuses};
 ghost use Rattle.match_master.specs.Reply.{reply};
 ghost use Rattle.match_master.specs.Held.{Held, StandsFor, kept_of, is_starved, may_starve};
 ghost use Rattle.match_master.specs.Does.{Does, SubmitDoes, viewer_in, with_refused, with_accepted, after_create, after_attach, after_take, taken_of, sync_text};
@@ -72,11 +73,13 @@ impl<X: Game + Drop> Book<X> {
     /// Answers a call of a pass.
     ///
     /// A book that stands for a history of its room answers the reply to the entry of this call after it, and then stands
-    /// for the history with the entry. After `NoMemory` nothing has changed; a Take takes no memory.
+    /// for the history with the entry. A refused action leaves the match and every other pass's lines as they were. After
+    /// `NoMemory` nothing has changed; a Take takes no memory.
     pub fn apply(&mut self, pass: u32, call: RoomCall<X>) -> RoomReply
         ensures room { self.new.room ≡ self.old.room }
         ensures answered { (h : List (Made (Asks X))) → StandsFor X.rules self.old h → result ≡ reply X.rules self.old.room h (record { pass = pass; call = call; starved = is_starved result }) }
         ensures stands { (h : List (Made (Asks X))) → StandsFor X.rules self.old h → StandsFor X.rules self.new (record { pass = pass; call = call; starved = is_starved result } ∷ h) }
+        ensures refused { (h : List (Made (Asks X))) → StandsFor X.rules self.old h → Refuses X.rules self.old.room h (record { pass = pass; call = call; starved = is_starved result }) call result }
         ensures fed { is_starved result ≡ true → may_starve call ≡ true }
     {
         match call {

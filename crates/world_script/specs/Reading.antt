@@ -1,5 +1,5 @@
 -- What an answer of a reader of lines says of the lines that are still to come, and of its source.
-use Rattle.std.specs.Prelude.{◌≡◌, ℕ, ◌+◌, ◌<◌, ◌≤◌, List, [], ◌∷◌, ◌++◌, length, drop, Option, Some, None}
+use Rattle.std.specs.Prelude.{◌≡◌, ℕ, ◌+◌, ◌<◌, ◌≤◌, List, [], ◌∷◌, ◌++◌, length, drop, true, false, Option, Some, None}
 use Rattle.board_links.specs.Faults.{HasRisen}
 use Rattle.board_links.specs.declared.source.Piece.{Piece}
 use Rattle.board_links.specs.declared.source.Piece.TheVariants as source
@@ -7,6 +7,7 @@ use Rattle.world_script.specs.declared.next.Next.{Next}
 use Rattle.world_script.specs.declared.next.Next.TheVariants as next
 use Rattle.world_script.specs.declared.next.Peeked.{Peeked}
 use Rattle.world_script.specs.declared.next.Peeked.TheVariants.{Byte, End, Failed}
+use Rattle.world_script.specs.Reader.{Reader, to_come, whole_to_come}
 use Rattle.world_script.specs.ScriptLines.{Script, Ended, TooLong, TooMany, no_lines, first_line}
 
 -- an answer beside the lines to come before and after it: a line is the first of them, an ending is all that there is, and
@@ -37,11 +38,17 @@ given_after next.TooMany given = given
 given_after next.ReadFault given = given
 given_after next.NoMemory given = given
 
--- looking at the next byte beside the bytes to come before and after it
-abbrev pub Peeks : Peeked → List ℕ → List ℕ → Type 0
-Peeks (Byte b) before after = after ≡ before
-Peeks End before after = (before ≡ []) × (after ≡ [])
-Peeks Failed before after = after ≡ before
+-- what a look at the next byte read of the bytes left: it waits behind what waited before
+pub record Gains (old new before after : List ℕ) : Type 0 where
+  pub read : List ℕ
+  pub first_part : before ≡ read ++ after
+  pub behind : new ≡ old ++ read
+
+-- the end is seen where no byte is left
+abbrev pub SeesEnd : Peeked → List ℕ → Type 0
+SeesEnd (Byte b) after = Unit {0}
+SeesEnd End after = after ≡ []
+SeesEnd Failed after = Unit {0}
 
 -- the byte seen is the first of those that wait
 abbrev pub Shows : Peeked → List ℕ → Type 0
@@ -78,6 +85,27 @@ StepRaises (Some answer) old new = Raises answer old new
 abbrev pub given_by : Option Next → ℕ → ℕ
 given_by None given = given
 given_by (Some answer) given = given_after answer given
+
+-- after an end the source has told it; after a fault it hasn't, and nothing that was read waits
+abbrev pub StandsAt : Option Next → Reader → Type 0
+StandsAt None reader = Unit {0}
+StandsAt (Some next.Line) reader = Unit {0}
+StandsAt (Some next.End) reader = reader.ended ≡ true
+StandsAt (Some next.TooLong) reader = Unit {0}
+StandsAt (Some next.TooMany) reader = Unit {0}
+StandsAt (Some next.ReadFault) reader = (reader.ended ≡ false) × (reader.waiting ≡ [])
+StandsAt (Some next.NoMemory) reader = Unit {0}
+
+-- an answer of a reader, or none yet, beside the bytes that its source has left before and after: what was read for it is a first
+-- part of them. The lines to come lose the line of the answer; as long as the end wasn't told, so do the whole lines, whatever
+-- bytes follow.
+pub record Moves (answer : Option Next) (line : List ℕ) (old new : Reader) (before after : List ℕ) : Type 0 where
+  pub read : List ℕ
+  pub first_part : before ≡ read ++ after
+  pub lines : Steps answer line (to_come old before) (to_come new after)
+  pub not_yet : new.ended ≡ false → old.ended ≡ false
+  pub at_end : new.ended ≡ true → old.ended ≡ false → after ≡ []
+  pub whole : new.ended ≡ false → (more : List ℕ) → Steps answer line (whole_to_come old (read ++ more)) (whole_to_come new more)
 
 -- with no answer yet, the line that has begun has one byte more
 abbrev pub Grows : Option Next → List ℕ → List ℕ → Type 0

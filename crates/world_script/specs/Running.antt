@@ -1,5 +1,5 @@
 -- How a run of a script ends, beside the script that was read and the bytes that the sink held before and holds after.
-use Rattle.std.specs.Prelude.{◌≡◌, ◌+◌, ℕ, Bool, false, IsSome, List, ◌++◌, take, Option, Some, None}
+use Rattle.std.specs.Prelude.{◌≡◌, ◌+◌, ℕ, Bool, false, IsSome, List, [], ◌++◌, take, Option, Some, None}
 use Rattle.game_trait.specs.Rules.{Rules}
 use Rattle.board_links.specs.Faults.{HasRisen}
 use Rattle.room_desk.specs.Entry.{Entry}
@@ -15,8 +15,8 @@ use Rattle.world_script.specs.declared.script.Ran.{Ran}
 use Rattle.world_script.specs.declared.script.Ran.TheVariants as ran
 use Rattle.table_games.specs.TicTacToe.{tic_tac_toe}
 use Rattle.table_games.specs.declared.tic_tac_toe.TicTacToe.{TicTacToe}
-use Rattle.world_script.specs.ScriptLines.{Script}
-use Rattle.world_script.specs.Transcript.{transcript, bad_line, says, entry_of, history_with, printed, bad_from, no_lines_yet}
+use Rattle.world_script.specs.ScriptLines.{Script, script, script_lines, whole_lines}
+use Rattle.world_script.specs.Transcript.{transcript, bad_line, says, entry_of, history_with}
 use Rattle.world_script.specs.declared.exit.Exit.{Exit}
 use Rattle.world_script.specs.declared.exit.Exit.TheVariants.{Done, Usage, ReadFault, WriteFault, BadLine, NoMemory}
 
@@ -27,6 +27,19 @@ tic_tac_toe_rules game = tic_tac_toe
 -- the transcript of lines in a room of tic-tac-toe
 abbrev pub played : TicTacToe → List (List ℕ) → List ℕ
 played game lines = transcript tic_tac_toe_rules game lines
+
+-- the script was read to its end, each of its lines is in form, and its transcript was added
+pub record RunsToEnd (game : TicTacToe) (bytes left before : List ℕ) (after : Option (List ℕ)) : Type 0 where
+  pub all_read : left ≡ []
+  pub no_bad_line : bad_line (script bytes) ≡ None
+  pub added : after ≡ Some (before ++ played game (script_lines bytes))
+
+-- the source gave these first bytes and no more; each of their whole lines is in form, and what these print was added
+pub record StopsAtFault (game : TicTacToe) (bytes left before : List ℕ) (after : Option (List ℕ)) : Type 0 where
+  pub read : List ℕ
+  pub first_part : bytes ≡ read ++ left
+  pub no_bad_line : bad_line (whole_lines read) ≡ None
+  pub added : after ≡ Some (before ++ played game (whole_lines read).lines)
 
 -- some first lines of the script were run, and no further one, and what they print was added
 pub record StopsEarly (game : TicTacToe) (s : Script) (before : List ℕ) (after : Option (List ℕ)) : Type 0 where
@@ -42,13 +55,14 @@ pub record BreaksOff (game : TicTacToe) (s : Script) (before : List ℕ) (after 
   pub whole : printed_bytes ++ missing ≡ played game s.lines
   pub added : after ≡ Some (before ++ printed_bytes)
 
-abbrev pub Ends : TicTacToe → Script → List ℕ → Option (List ℕ) → Exit → Type 0
-Ends game s before after Done = (bad_line s ≡ None) × (after ≡ Some (before ++ played game s.lines))
-Ends game s before after (BadLine line) = (bad_line s ≡ Some line) × (after ≡ Some (before ++ played game s.lines))
-Ends game s before after WriteFault = BreaksOff game s before after
-Ends game s before after ReadFault = StopsEarly game s before after
-Ends game s before after NoMemory = StopsEarly game s before after
-Ends game s before after Usage = ⊥
+-- how a run ends, by the bytes that the source had left before it and has left after it
+abbrev pub Ends : TicTacToe → List ℕ → List ℕ → List ℕ → Option (List ℕ) → Exit → Type 0
+Ends game bytes left before after Done = RunsToEnd game bytes left before after
+Ends game bytes left before after (BadLine line) = (bad_line (script bytes) ≡ Some line) × (after ≡ Some (before ++ played game (script_lines bytes)))
+Ends game bytes left before after WriteFault = BreaksOff game (script bytes) before after
+Ends game bytes left before after ReadFault = StopsAtFault game bytes left before after
+Ends game bytes left before after NoMemory = StopsEarly game (script bytes) before after
+Ends game bytes left before after Usage = ⊥
 
 -- a line in form made its entry and printed what that says; the game is still at hand where no match is open
 pub record RanOn (game : TicTacToe) (h : List (Entry (RoomCall TicTacToe))) (stage : Stage) (line : List ℕ) (book : Held TicTacToe Board) (left : Option TicTacToe) (next : Stage) (held : List ℕ) (after : Option (List ℕ)) : Type 0 where
@@ -86,21 +100,6 @@ AtHand ran.Done opened game = opened ≡ false → IsSome game
 AtHand ran.BadLine opened game = Unit {0}
 AtHand ran.WriteFault opened game = Unit {0}
 AtHand ran.NoMemory opened game = Unit {0}
-
--- what a run has come to: the lines that were run, the history that they made, and what they added. Whatever lines are still to
--- come, the transcript is what was added, and then what those print from here on.
-pub record Underway (s : Script) (before : List ℕ) (book : Held TicTacToe Board) (hand : Option TicTacToe) (stage : Stage) (given : ℕ) (left : Script) (held : Option (List ℕ)) : Type 0 where
-  pub game : TicTacToe
-  pub h : List (Entry (RoomCall TicTacToe))
-  pub done : List (List ℕ)
-  pub gained : List ℕ
-  pub stands : StandsFor tic_tac_toe_rules book h
-  pub at_hand : stage.opened ≡ false → hand ≡ Some game
-  pub lines : s.lines ≡ done ++ left.lines
-  pub ending : s.ending ≡ left.ending
-  pub added : held ≡ Some (before ++ gained)
-  pub so_far : (rest : List (List ℕ)) → played game (done ++ rest) ≡ gained ++ printed tic_tac_toe_rules game rest stage h
-  pub bad : (rest : List (List ℕ)) → bad_from s.ending (done ++ rest) no_lines_yet 0 ≡ bad_from s.ending rest stage given
 
 -- a fault of the source or the sink only where its count of faults rose; a script that is run is no usage error
 abbrev pub ExitRaises : Exit → ℕ → ℕ → ℕ → ℕ → Type 0

@@ -28,20 +28,29 @@ first_line line rest = record { lines = line ∷ rest.lines; ending = rest.endin
 abbrev pub without_return : List ℕ → List ℕ
 without_return line = if slice_index line (length line - 1) == 13 then take (length line - 1) line else line
 
+-- at the end of the bytes, a line that has begun is the last line; as long as more bytes may come, it is no whole line
 abbrev pub last_line : List ℕ → Script
 last_line [] = no_lines Ended
 last_line (b ∷ line) = first_line (b ∷ line) (no_lines Ended)
 
--- the lines of the bytes that are left, after so many newlines, where a line has begun with these bytes
-unfoldable pub script_from : ℕ → List ℕ → List ℕ → Script
-script_from newlines begun [] = last_line begun
-script_from newlines begun (b ∷ bytes) =
+abbrev pub no_whole_line : List ℕ → Script
+no_whole_line line = no_lines Ended
+
+-- the lines of the bytes that are left, after so many newlines, where a line has begun with these bytes; `last` says what becomes
+-- of a line that no newline ends
+unfoldable pub lines_from : (List ℕ → Script) → ℕ → List ℕ → List ℕ → Script
+lines_from last newlines begun [] = last begun
+lines_from last newlines begun (b ∷ bytes) =
     if newlines == most_lines then no_lines TooMany else
-    (if b == 10 then first_line (without_return begun) (script_from (newlines + 1) [] bytes) else
-    (if length begun == most_bytes then no_lines TooLong else script_from newlines (begun ++ b ∷ []) bytes))
+    (if b == 10 then first_line (without_return begun) (lines_from last (newlines + 1) [] bytes) else
+    (if length begun == most_bytes then no_lines TooLong else lines_from last newlines (begun ++ b ∷ []) bytes))
 
 abbrev pub script : List ℕ → Script
-script bytes = script_from 0 [] bytes
+script bytes = lines_from last_line 0 [] bytes
 
 abbrev pub script_lines : List ℕ → List (List ℕ)
 script_lines bytes = (script bytes).lines
+
+-- the lines of these bytes that a newline ends
+abbrev pub whole_lines : List ℕ → Script
+whole_lines bytes = lines_from no_whole_line 0 [] bytes

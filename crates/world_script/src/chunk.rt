@@ -1,6 +1,6 @@
 //! Bytes that were read from a source and aren't used yet.
 
-ghost use Rattle.std.specs.Prelude.{◌≡◌, ◌≤◌, ◌<◌, ◌++◌, [], length, drop, slice_get, IsSome};
+ghost use Rattle.std.specs.Prelude.{◌≡◌, ◌≤◌, ◌<◌, [], length, drop, slice_get, IsSome};
 ghost use Rattle.board_links.specs.Pieces.{told_bytes, ReadRaises};
 
 use crate::next::Peeked;
@@ -26,7 +26,7 @@ impl Model for Chunk {
 }
 
 impl Chunk {
-    ghost use Rattle.world_script.specs.Reading.{Peeks, Shows, PeekRaises, Fills, HasBytes};
+    ghost use Rattle.world_script.specs.Reading.{Gains, SeesEnd, Shows, PeekRaises, Fills, HasBytes};
 
     /// No bytes.
     pub fn new() -> Self
@@ -44,8 +44,9 @@ impl Chunk {
         ensures never_falls { S.faults source.old ≤ S.faults source.new }
         ensures raises { PeekRaises result (S.faults source.old) (S.faults source.new) }
         ensures shows { Shows result self.new }
-        ensures told { IsSome (S.left source.old) → IsSome (S.left source.new)
-            × Peeks result (self.old ++ told_bytes (S.left source.old)) (self.new ++ told_bytes (S.left source.new)) }
+        ensures tells { IsSome (S.left source.old) → IsSome (S.left source.new) }
+        ensures gains { IsSome (S.left source.old) → Gains self.old self.new (told_bytes (S.left source.old)) (told_bytes (S.left source.new)) }
+        ensures end { IsSome (S.left source.old) → SeesEnd result (told_bytes (S.left source.new)) }
     {
         if let Some(byte) = self.first() {
             return Peeked::Byte(byte);

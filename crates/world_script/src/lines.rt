@@ -1,9 +1,9 @@
 //! The lines of a script, one by one.
 
-ghost use Rattle.std.specs.Prelude.{◌≡◌, ◌≤◌, ◌<◌, ◌+◌, ℕ, List, [], ◌∷◌, length, drop, IsSome};
+ghost use Rattle.std.specs.Prelude.{◌≡◌, ◌≤◌, ◌<◌, ◌+◌, ℕ, List, [], ◌∷◌, length, drop, true, Some, IsSome};
 ghost use Rattle.board_links.specs.Pieces.{told_bytes};
-ghost use Rattle.world_script.specs.Reader.{fresh, to_come};
-ghost use Rattle.world_script.specs.ScriptLines.{without_return};
+ghost use Rattle.world_script.specs.Reader.{fresh, coming};
+ghost use Rattle.world_script.specs.ScriptLines.{Script, Ended, no_lines, last_line, without_return};
 
 use crate::chunk::Chunk;
 use crate::next::{Next, Peeked};
@@ -23,6 +23,7 @@ pub struct Lines {
     line: Vec<u8>,
     begun: Vec<u8>,
     given: u32,
+    ended: bool,
 }
 
 impl Model for Lines {
@@ -30,13 +31,13 @@ impl Model for Lines {
 
     ghost Value = { Reader };
 
-    ghost view = { λ r. record { line = r.line.items; begun = r.begun.items; waiting = r.chunk; given = r.given } };
+    ghost view = { λ r. record { line = r.line.items; begun = r.begun.items; waiting = r.chunk; given = r.given; ended = r.ended } };
 
     ghost invariant = { λ r. IsWithinLimits r.begun.items r.given };
 }
 
 impl Lines {
-    ghost use Rattle.world_script.specs.Reading.{Answers, Raises, given_after, Steps, StepRaises, given_by, Grows};
+    ghost use Rattle.world_script.specs.Reading.{Answers, Raises, given_after, Steps, StepRaises, given_by, StandsAt, Moves, Grows};
 
     /// A reader that has read nothing.
     pub fn new(alloc: Global) -> Self
@@ -47,6 +48,7 @@ impl Lines {
             line: Vec::new(alloc),
             begun: Vec::new(alloc),
             given: 0,
+            ended: false,
         }
     }
 
@@ -65,14 +67,16 @@ impl Lines {
         self.given
     }
 
-    /// Reads the next line. After a fault or want of memory the same lines are still to come.
+    /// Reads the next line. After a fault or want of memory the same lines are still to come. A source that has told its
+    /// end isn't read again.
     pub fn next_line<S: Source>(&mut self, source: &mut S) -> Next
         ensures never_falls { S.faults source.old ≤ S.faults source.new }
         ensures raises { Raises result (S.faults source.old) (S.faults source.new) }
         ensures given { self.new.given ≡ given_after result self.old.given }
         ensures most { self.new.given ≤ 1000000 }
-        ensures told { IsSome (S.left source.old) → IsSome (S.left source.new)
-            × Answers result self.new.line (to_come self.old (told_bytes (S.left source.old))) (to_come self.new (told_bytes (S.left source.new))) }
+        ensures stands { StandsAt (Some result) self.new }
+        ensures tells { IsSome (S.left source.old) → IsSome (S.left source.new) }
+        ensures moves { IsSome (S.left source.old) → Moves (Some result) self.new.line self.old self.new (told_bytes (S.left source.old)) (told_bytes (S.left source.new)) }
     {
         loop {
             if let Some(next) = self.step(source) {
@@ -87,9 +91,13 @@ impl Lines {
         ensures given { self.new.given ≡ given_by result self.old.given }
         ensures most { self.new.given ≤ 1000000 }
         ensures grows { Grows result self.old.begun self.new.begun }
-        ensures told { IsSome (S.left source.old) → IsSome (S.left source.new)
-            × Steps result self.new.line (to_come self.old (told_bytes (S.left source.old))) (to_come self.new (told_bytes (S.left source.new))) }
+        ensures stands { StandsAt result self.new }
+        ensures tells { IsSome (S.left source.old) → IsSome (S.left source.new) }
+        ensures moves { IsSome (S.left source.old) → Moves result self.new.line self.old self.new (told_bytes (S.left source.old)) (told_bytes (S.left source.new)) }
     {
+        if self.ended {
+            return Some(Next::End);
+        }
         match self.chunk.peek(source) {
             Peeked::Byte(byte) => self.take(byte),
             Peeked::End => Some(self.last()),
@@ -103,7 +111,9 @@ impl Lines {
         ensures given { self.new.given ≡ given_by result self.old.given }
         ensures most { self.new.given ≤ 1000000 }
         ensures grows { Grows result self.old.begun self.new.begun }
-        ensures told { (left : List ℕ) → Steps result self.new.line (to_come self.old left) (to_come self.new left) }
+        ensures ended { self.new.ended ≡ self.old.ended }
+        ensures stands { StandsAt result self.new }
+        ensures told { (last : List ℕ → Script) (more : List ℕ) → Steps result self.new.line (coming last self.old more) (coming last self.new more) }
     {
         if self.given == MOST_LINES {
             return Some(Next::TooMany);
@@ -127,7 +137,7 @@ impl Lines {
     fn finish(&mut self)
         requires waits { 0 < length self.old.waiting }
         requires room { self.old.given < 1000000 }
-        ensures { self.new ≡ record { line = without_return self.old.begun; begun = []; waiting = drop 1 self.old.waiting; given = self.old.given + 1 } }
+        ensures { self.new ≡ record self.old { line = without_return self.old.begun; begun = []; waiting = drop 1 self.old.waiting; given = self.old.given + 1 } }
     {
         self.chunk.advance();
         mem::swap(&mut self.line, &mut self.begun);
@@ -136,14 +146,17 @@ impl Lines {
         self.given += 1;
     }
 
+    /// The answer where the source has told its end: the line that has begun, if one has.
     fn last(&mut self) -> Next
         requires { self.old.waiting ≡ [] }
         ensures raises { (old new : ℕ) → Raises result old new }
         ensures given { self.new.given ≡ given_after result self.old.given }
         ensures most { self.new.given ≤ 1000000 }
-        ensures waits { self.new.waiting ≡ [] }
-        ensures told { Answers result self.new.line (to_come self.old []) (to_come self.new []) }
+        ensures ended { self.new.ended ≡ true }
+        ensures stands { StandsAt (Some result) self.new }
+        ensures told { Answers result self.new.line (coming last_line self.old []) (no_lines Ended) }
     {
+        self.ended = true;
         if self.begun.is_empty() {
             return Next::End;
         }

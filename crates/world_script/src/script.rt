@@ -8,7 +8,6 @@ ghost use Rattle.match_master.specs.declared.call.RoomCall.{RoomCall as Asks};
 ghost use Rattle.match_master.specs.Held.{StandsFor};
 ghost use Rattle.table_games.specs.declared.tic_tac_toe.TicTacToe.{TicTacToe as Playing};
 ghost use Rattle.world_script.specs.Running.{tic_tac_toe_rules, RanLine, RanRaises, AtHand, Ends, ExitRaises, stop_at, end_at};
-ghost use Rattle.world_script.specs.ScriptLines.{script};
 
 use crate::exit::Exit;
 use crate::lines::Lines;
@@ -28,7 +27,7 @@ pub fn run_script<S: Source, K: Sink>(alloc: Global, source: &mut S, sink: &mut 
     ensures sink_never_falls { K.faults sink.old ≤ K.faults sink.new }
     ensures raises { ExitRaises result (S.faults source.old) (S.faults source.new) (K.faults sink.old) (K.faults sink.new) }
     ensures ends { IsSome (S.left source.old) → IsSome (K.held sink.old)
-        → (game : Playing) × Ends game (script (told_bytes (S.left source.old))) (told_bytes (K.held sink.old)) (K.held sink.new) result }
+        → (game : Playing) × Ends game (told_bytes (S.left source.old)) (told_bytes (S.left source.new)) (told_bytes (K.held sink.old)) (K.held sink.new) result }
 {
     match Room::new(alloc) {
         Ok(room) => play(alloc, room, source, sink),
@@ -46,7 +45,7 @@ fn play<S: Source, K: Sink>(alloc: Global, mut room: Room, source: &mut S, sink:
     ensures sink_never_falls { K.faults sink.old ≤ K.faults sink.new }
     ensures raises { ExitRaises result (S.faults source.old) (S.faults source.new) (K.faults sink.old) (K.faults sink.new) }
     ensures ends { IsSome (S.left source.old) → IsSome (K.held sink.old)
-        → (game : Playing) × Ends game (script (told_bytes (S.left source.old))) (told_bytes (K.held sink.old)) (K.held sink.new) result }
+        → (game : Playing) × Ends game (told_bytes (S.left source.old)) (told_bytes (S.left source.new)) (told_bytes (K.held sink.old)) (K.held sink.new) result }
 {
     let mut lines = Lines::new(alloc);
     let mut stage = Stage {

@@ -117,3 +117,13 @@ fn after_a_fault_the_same_lines_come(rt: HostRuntime) -> Result<(), Fail> {
     assert_eq!(rt; lines.given(), 2);
     Ok(())
 }
+
+#[test]
+fn after_its_end_a_source_is_not_read(rt: HostRuntime) -> Result<(), Fail> {
+    let alloc = rt.alloc();
+    let source = source(Vec::from_slice(alloc, b"one\ntwo")?, alloc, &[3])?;
+    let (text, end) = lines_of(alloc, source)?;
+    assert_eq!(rt; text.as_slice(), b"[one][two]".as_slice());
+    assert_eq!(rt; end, Next::End);
+    Ok(())
+}

@@ -32,8 +32,8 @@ returns-in-Some-clause-raises g c =
 
 pub returns-in-Some-clause-ends : goal.returns-in-Some-clause-ends
 returns-in-Some-clause-ends g c = λ p k.
-    stop_ends _ _ c.lines.room.book c.lines.room.game c.lines.stage c.lines.lines.given _ _ (c.lines.invariant.underway p k) c.next_line-next.result c.next_line-next.new.self.line _ c.in-Some.exit c.given.result
-    (c.next_line-next.ensures.told (c.lines.invariant.source_tells p)).1 (c.given.ensures.value ∙ c.next_line-next.ensures.given) (sym c.stop_at.ensures ∙ c.in-Some.is)
+    stop_ends _ _ c.lines.room.book c.lines.room.game c.lines.stage c.lines.lines.given c.lines.lines _ _ (c.lines.invariant.underway p k) c.next_line-next.result c.next_line-next.new.self.line c.next_line-next.new.self _
+    c.in-Some.exit c.given.result (c.next_line-next.ensures.moves (c.lines.invariant.source_tells p)) c.next_line-next.ensures.stands (c.given.ensures.value ∙ c.next_line-next.ensures.given) (sym c.stop_at.ensures ∙ c.in-Some.is)
 
 pub run_line-ran-requires : goal.run_line-ran-requires
 run_line-ran-requires g c = c.lines.invariant.at_hand
@@ -50,8 +50,8 @@ returns-in-Some-end_at-clause-raises g c =
 
 pub returns-in-Some-end_at-clause-ends : goal.returns-in-Some-end_at-clause-ends
 returns-in-Some-end_at-clause-ends g c = λ p k.
-    line_ends _ _ c.lines.room.book c.lines.room.game c.lines.stage c.lines.lines.given _ _ (c.lines.invariant.underway p k) c.next_line-next.result c.given.result c.next_line-next.new.self.line _
-    (c.next_line-next.ensures.told (c.lines.invariant.source_tells p)).1 (sym c.stop_at.ensures ∙ c.in_default.is)
+    line_ends _ _ c.lines.room.book c.lines.room.game c.lines.stage c.lines.lines.given c.lines.lines _ _ (c.lines.invariant.underway p k) c.next_line-next.result c.given.result c.next_line-next.new.self.line c.next_line-next.new.self _
+    (c.next_line-next.ensures.moves (c.lines.invariant.source_tells p)) (sym c.stop_at.ensures ∙ c.in_default.is)
     c.line.result.now c.line.ensures c.run_line-ran.new.room.book c.run_line-ran.new.room.game c.run_line-ran.new.stage _ c.run_line-ran.result c.in-Some-end_at.exit c.given-in-lines.result
     (λ game h s o. c.run_line-ran.ensures.ran (c.lines.invariant.sink_tells k) game h s c.lines.invariant.room o)
     (c.given-in-lines.ensures.value ∙ c.next_line-next.ensures.given) (sym c.end_at.ensures ∙ c.in-Some-end_at.is)
@@ -71,11 +71,11 @@ lines-preserved g c = record {
   sink_low = omega (arith, c.lines.invariant.sink_low, c.run_line-ran.ensures.never_falls);
   at_hand = subst (λ r. AtHand r c.run_line-ran.new.stage.opened c.run_line-ran.new.room.game) (done_is c.run_line-ran.result c.given-in-lines.result (sym c.end_at.ensures ∙ c.in_default-end_at.is)) c.run_line-ran.ensures.at_hand;
   room = c.run_line-ran.ensures.room ∙ c.lines.invariant.room;
-  source_tells = λ p. (c.next_line-next.ensures.told (c.lines.invariant.source_tells p)).0;
+  source_tells = λ p. c.next_line-next.ensures.tells (c.lines.invariant.source_tells p);
   sink_tells = λ k. c.run_line-ran.ensures.told (c.lines.invariant.sink_tells k);
   underway = λ p k.
-      line_runs _ _ c.lines.room.book c.lines.room.game c.lines.stage c.lines.lines.given _ _ (c.lines.invariant.underway p k) c.next_line-next.result c.given.result c.next_line-next.new.self.line _
-      (c.next_line-next.ensures.told (c.lines.invariant.source_tells p)).1 (sym c.stop_at.ensures ∙ c.in_default.is)
+      line_runs _ _ c.lines.room.book c.lines.room.game c.lines.stage c.lines.lines.given c.lines.lines _ _ (c.lines.invariant.underway p k) c.next_line-next.result c.given.result c.next_line-next.new.self.line c.next_line-next.new.self _
+      (c.next_line-next.ensures.moves (c.lines.invariant.source_tells p)) (sym c.stop_at.ensures ∙ c.in_default.is)
       c.line.result.now c.line.ensures c.run_line-ran.new.room.book c.run_line-ran.new.room.game c.run_line-ran.new.stage _ c.run_line-ran.result c.given-in-lines.result c.next_line-next.new.self.given
       (λ game h s o. c.run_line-ran.ensures.ran (c.lines.invariant.sink_tells k) game h s c.lines.invariant.room o)
       c.next_line-next.ensures.given (sym c.end_at.ensures ∙ c.in_default-end_at.is);

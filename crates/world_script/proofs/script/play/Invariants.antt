@@ -1,8 +1,7 @@
 use Rattle.std.proofs.Common.{◌≡◌, ◌≤◌, ◌-◌, false, IsSome}
 use Rattle.board_links.specs.Pieces.{told_bytes}
 use Rattle.world_script.specs.Reader.{to_come}
-use Rattle.world_script.specs.Running.{Underway}
-use Rattle.world_script.specs.ScriptLines.{script}
+use Rattle.world_script.proofs.Underway.{Underway}
 use Rattle.world_script.proofs.script.play.Given as goal
 
 -- the counts of faults never fell, and where source and sink tell, the transcript is what was added and what is still to come
@@ -15,7 +14,7 @@ invariant-lines g l = record {
   source_tells : IsSome (g.S.Source.left l.initial.source) → IsSome (g.S.Source.left l.source);
   sink_tells : IsSome (g.K.Sink.held l.initial.sink) → IsSome (g.K.Sink.held l.sink);
   underway : IsSome (g.S.Source.left l.initial.source) → IsSome (g.K.Sink.held l.initial.sink)
-      → Underway (script (told_bytes (g.S.Source.left l.initial.source))) (told_bytes (g.K.Sink.held l.initial.sink)) l.room.book l.room.game l.stage l.lines.given
+      → Underway (told_bytes (g.S.Source.left l.initial.source)) (told_bytes (g.K.Sink.held l.initial.sink)) l.room.book l.room.game l.stage l.lines.given l.lines (told_bytes (g.S.Source.left l.source))
       (to_come l.lines (told_bytes (g.S.Source.left l.source))) (g.K.Sink.held l.sink);
 }
 

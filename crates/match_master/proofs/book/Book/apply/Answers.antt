@@ -10,6 +10,10 @@ pub returns-in-Create-clause-stands : goal.returns-in-Create-clause-stands
 returns-in-Create-clause-stands g c = λ h s.
     (create_done g.X.Game.rules c.args.self.now c.create.new.self h s c.args.pass c.in-Create.game c.in-Create.seats c.in-Create.seed c.args.call c.create.result c.in-Create.is c.create.ensures.room c.create.ensures.does).1
 
+pub returns-in-Create-clause-refused : goal.returns-in-Create-clause-refused
+returns-in-Create-clause-refused g c = λ h s.
+    (create_done g.X.Game.rules c.args.self.now c.create.new.self h s c.args.pass c.in-Create.game c.in-Create.seats c.in-Create.seed c.args.call c.create.result c.in-Create.is c.create.ensures.room c.create.ensures.does).2
+
 pub returns-in-Attach-clause-answered : goal.returns-in-Attach-clause-answered
 returns-in-Attach-clause-answered g c = λ h s.
     (attach_done g.X.Game.rules c.args.self.now c.attach.new.self h s c.args.pass c.in-Attach.serial c.in-Attach.viewer c.args.call c.attach.result c.in-Attach.is c.attach.ensures.room c.attach.ensures.does).0
@@ -17,6 +21,10 @@ returns-in-Attach-clause-answered g c = λ h s.
 pub returns-in-Attach-clause-stands : goal.returns-in-Attach-clause-stands
 returns-in-Attach-clause-stands g c = λ h s.
     (attach_done g.X.Game.rules c.args.self.now c.attach.new.self h s c.args.pass c.in-Attach.serial c.in-Attach.viewer c.args.call c.attach.result c.in-Attach.is c.attach.ensures.room c.attach.ensures.does).1
+
+pub returns-in-Attach-clause-refused : goal.returns-in-Attach-clause-refused
+returns-in-Attach-clause-refused g c = λ h s.
+    (attach_done g.X.Game.rules c.args.self.now c.attach.new.self h s c.args.pass c.in-Attach.serial c.in-Attach.viewer c.args.call c.attach.result c.in-Attach.is c.attach.ensures.room c.attach.ensures.does).2
 
 pub returns-in-Submit-clause-answered : goal.returns-in-Submit-clause-answered
 returns-in-Submit-clause-answered g c = λ h s.
@@ -28,6 +36,11 @@ returns-in-Submit-clause-stands g c = λ h s.
     let sub : Submission = record { name = c.in-Submit.name; key = c.in-Submit.key; number = c.in-Submit.number; ticket = c.in-Submit.ticket; asked = c.in-Submit.asked } in
     (submit_done g.X.Game.rules c.args.self.now c.submit.new.self h s c.args.pass sub c.args.call c.submit.result c.in-Submit.is c.submit.ensures.room c.submit.ensures.does).1
 
+pub returns-in-Submit-clause-refused : goal.returns-in-Submit-clause-refused
+returns-in-Submit-clause-refused g c = λ h s.
+    let sub : Submission = record { name = c.in-Submit.name; key = c.in-Submit.key; number = c.in-Submit.number; ticket = c.in-Submit.ticket; asked = c.in-Submit.asked } in
+    (submit_done g.X.Game.rules c.args.self.now c.submit.new.self h s c.args.pass sub c.args.call c.submit.result c.in-Submit.is c.submit.ensures.room c.submit.ensures.does).2
+
 pub returns-in-Take-clause-answered : goal.returns-in-Take-clause-answered
 returns-in-Take-clause-answered g c = λ h s.
     (take_done g.X.Game.rules c.args.self.now c.take.new.self h s c.args.pass c.args.call c.take.result c.in-Take.is c.take.ensures.room c.take.ensures.reply c.take.ensures.after c.take.ensures.fed).0
@@ -35,3 +48,7 @@ returns-in-Take-clause-answered g c = λ h s.
 pub returns-in-Take-clause-stands : goal.returns-in-Take-clause-stands
 returns-in-Take-clause-stands g c = λ h s.
     (take_done g.X.Game.rules c.args.self.now c.take.new.self h s c.args.pass c.args.call c.take.result c.in-Take.is c.take.ensures.room c.take.ensures.reply c.take.ensures.after c.take.ensures.fed).1
+
+pub returns-in-Take-clause-refused : goal.returns-in-Take-clause-refused
+returns-in-Take-clause-refused g c = λ h s.
+    (take_done g.X.Game.rules c.args.self.now c.take.new.self h s c.args.pass c.args.call c.take.result c.in-Take.is c.take.ensures.room c.take.ensures.reply c.take.ensures.after c.take.ensures.fed).2
