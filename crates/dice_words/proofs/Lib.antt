@@ -1,0 +1,3 @@
+pub mod ShuffleLemmas
+pub mod StripLemmas
+pub mod WordsLemmas

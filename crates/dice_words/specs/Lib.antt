@@ -1,0 +1,5 @@
+pub mod Dice
+pub mod Reading
+pub mod Standing
+pub mod Strip
+pub mod Words
