@@ -1,137 +1,117 @@
 //! Pig: rolls and holds at their edges, ends, and the text of scores.
 
-ghost use Rattle.std.specs.Prelude.{◌≡◌, ◌<◌, ◌≤◌, [], length, IfOk};
-
-use super::{ending, is_written, one, opening, play};
+use super::{ending, is_written, play};
 use crate::{Pig, Scores};
 use dice_words::Tape;
-use game_sheet::{Args, Event, EventQueue, List, Outcome};
-use game_trait::{Game, Halt};
+use game_sheet::{Args, Event, EventQueue, List, Outcome, Seat};
+use game_trait::Halt;
 use std::alloc::Global;
 use std::test::Fail;
 
-/// The scores after a move without arguments, and whether it ended the turn.
-fn make<X: Game>(
-    game: &X,
-    alloc: Global,
-    g: &X::G,
-    seat: u8,
-    place: u8,
-    tape: &mut Tape,
-) -> Result<(X::G, bool), Halt>
-    requires { place < length (X.rules game.now).sheet.moves }
-{
+/// The scores of a pot and two totals.
+fn scores(alloc: Global, pot: u32, first: u32, second: u32) -> Result<Scores, Fail> {
+    Ok(Scores::of(pot, List::from_slice(alloc, &[first, second])?))
+}
+
+/// The pot after a roll of a seat, and whether the turn ended; none where it isn't allowed.
+fn roll(alloc: Global, pot: u32, seat: Seat, tape: &mut Tape) -> Result<Option<(u32, bool)>, Fail> {
+    let game = Pig::new(alloc)?;
+    let before = scores(alloc, pot, 1, 2)?;
     let mut events = EventQueue::new();
-    let scores = play(game, alloc, g, seat, place, &Args::new(), tape, &mut events)?;
-    Ok((
-        scores,
-        matches!(events.list(), [Event::EndTurn { to: None }]),
-    ))
+    match play(
+        &game,
+        alloc,
+        &before,
+        seat,
+        0,
+        &Args::new(),
+        tape,
+        &mut events,
+    ) {
+        Ok(after) => {
+            let ends = matches!(events.list(), [Event::EndTurn { to: None }]);
+            Ok(Some((after.pot(), ends)))
+        }
+        Err(Halt::Invalid) => Ok(None),
+        Err(halt) => Err(Fail::from(halt)),
+    }
+}
+
+/// The text of the scores after a seat held its pot, where that ended the turn; none where it isn't allowed.
+fn is_held(
+    alloc: Global,
+    pot: u32,
+    first: u32,
+    seat: Seat,
+    text: &str,
+) -> Result<Option<bool>, Fail> {
+    let game = Pig::new(alloc)?;
+    let before = scores(alloc, pot, first, 11)?;
+    let mut events = EventQueue::new();
+    let tape = &mut Tape::blank();
+    match play(
+        &game,
+        alloc,
+        &before,
+        seat,
+        1,
+        &Args::new(),
+        tape,
+        &mut events,
+    ) {
+        Ok(after) => {
+            let ends = matches!(events.list(), [Event::EndTurn { to: None }]);
+            Ok(Some(ends && is_written(&game, alloc, &after, text)?))
+        }
+        Err(Halt::Invalid) => Ok(None),
+        Err(halt) => Err(Fail::from(halt)),
+    }
+}
+
+/// Who won with these totals.
+fn winner(alloc: Global, first: u32, second: u32) -> Result<Option<Seat>, Fail> {
+    let game = Pig::new(alloc)?;
+    match ending(&game, alloc, &scores(alloc, 0, first, second)?) {
+        Some(Outcome::Winner(seat)) => Ok(Some(seat)),
+        _ => Ok(None),
+    }
 }
 
 fn zeros() -> Tape {
     Tape::live([0; 32], 0, 0)
 }
 
-fn scores(alloc: Global, pot: u32, totals: &[u32]) -> Result<Scores, Fail>
-    requires { length totals.now ≤ 8 }
-{
-    Ok(Scores::of(pot, List::from_slice(alloc, totals)?))
-}
-
 #[test]
 fn rolls_fill_the_pot_until_a_one(rt: HostRuntime) -> Result<(), Fail> {
     let alloc = rt.alloc();
-    let game = Pig::new(alloc)?;
     let mut tape = zeros();
-    let mut points = opening(&game, alloc)?;
-    let rolls = [(5, false), (9, false), (15, false), (0, true)];
-    for (pot, ends) in rolls {
-        let (rolled, ended) = make(&game, alloc, &points, 1, 0, &mut tape)?;
-        assert!(rt; rolled.pot() == pot && ended == ends);
-        points = rolled;
-    }
-    assert!(rt; is_written(&game, alloc, &points, "{\"pot\":0,\"totals\":[0,0]}")?);
+    assert!(rt; roll(alloc, 0, 1, &mut tape)? == Some((5, false)));
+    assert!(rt; roll(alloc, 5, 1, &mut tape)? == Some((9, false)));
+    assert!(rt; roll(alloc, 9, 0, &mut tape)? == Some((15, false)));
+    assert!(rt; roll(alloc, 15, 0, &mut tape)? == Some((0, true)));
+    assert!(rt; roll(alloc, 15, 2, &mut tape)?.is_none());
+    assert!(rt; tape.used() == 4);
+    assert!(rt; roll(alloc, 4294967290, 0, &mut zeros())? == Some((4294967295, false)));
+    assert!(rt; roll(alloc, 4294967291, 0, &mut zeros())?.is_none());
     Ok(())
 }
 
 #[test]
 fn a_hold_moves_the_pot_to_the_total(rt: HostRuntime) -> Result<(), Fail> {
     let alloc = rt.alloc();
-    let game = Pig::new(alloc)?;
-    let points = scores(alloc, 9, &[0, 11])?;
-    let (held, ended) = make(&game, alloc, &points, 0, 1, &mut Tape::blank())?;
-    assert!(rt; ended);
-    assert!(rt; is_written(&game, alloc, &held, "{\"pot\":0,\"totals\":[9,11]}")?);
-    assert!(rt; ending(&game, alloc, &held).is_none());
-    let (held, _) = make(&game, alloc, &points, 1, 1, &mut Tape::blank())?;
-    assert!(rt; matches!(ending(&game, alloc, &held), Some(Outcome::Winner(1))));
-    let empty = scores(alloc, 0, &[9, 11])?;
-    let answer = make(&game, alloc, &empty, 0, 1, &mut Tape::blank());
-    assert!(rt; matches!(answer, Err(Halt::Invalid)));
+    assert!(rt; is_held(alloc, 9, 0, 0, "{\"pot\":0,\"totals\":[9,11]}")? == Some(true));
+    assert!(rt; is_held(alloc, 9, 0, 1, "{\"pot\":0,\"totals\":[0,20]}")? == Some(true));
+    assert!(rt; is_held(alloc, 0, 9, 0, "")?.is_none());
+    assert!(rt; is_held(alloc, 9, 0, 2, "")?.is_none());
+    assert!(rt; is_held(alloc, 9, 4294967287, 0, "")?.is_none());
     Ok(())
 }
 
 #[test]
 fn the_least_seat_with_20_wins(rt: HostRuntime) -> Result<(), Fail> {
     let alloc = rt.alloc();
-    let game = Pig::new(alloc)?;
-    let points = scores(alloc, 0, &[19, 25, 30])?;
-    assert!(rt; matches!(ending(&game, alloc, &points), Some(Outcome::Winner(1))));
-    let points = scores(alloc, 0, &[20, 25])?;
-    assert!(rt; matches!(ending(&game, alloc, &points), Some(Outcome::Winner(0))));
-    Ok(())
-}
-
-/// Whether a move of a seat is invalid and draws no word.
-fn is_refused<X: Game>(
-    game: &X,
-    alloc: Global,
-    g: &X::G,
-    seat: u8,
-    place: u8,
-    args: &Args,
-) -> bool
-    requires { place < length (X.rules game.now).sheet.moves }
-{
-    let mut tape = zeros();
-    let mut events = EventQueue::new();
-    let answer = play(game, alloc, g, seat, place, args, &mut tape, &mut events);
-    matches!(answer, Err(Halt::Invalid)) && tape.used() == 0
-}
-
-#[test]
-fn seats_without_a_total_may_not_move(rt: HostRuntime) -> Result<(), Fail> {
-    let alloc = rt.alloc();
-    let game = Pig::new(alloc)?;
-    let none = Args::new();
-    let two = scores(alloc, 3, &[1, 2])?;
-    let six = scores(alloc, 3, &[1, 2, 3, 4, 5, 6])?;
-    assert!(rt; is_refused(&game, alloc, &two, 2, 0, &none));
-    assert!(rt; is_refused(&game, alloc, &two, 2, 1, &none));
-    assert!(rt; is_refused(&game, alloc, &six, 4, 0, &none));
-    assert!(rt; is_refused(&game, alloc, &six, 4, 1, &none));
-    assert!(rt; is_refused(&game, alloc, &two, 0, 0, &one(1)));
-    assert!(rt; is_refused(&game, alloc, &two, 0, 1, &one(1)));
-    let (rolled, _) = make(&game, alloc, &six, 3, 0, &mut zeros())?;
-    assert!(rt; rolled.pot() == 8);
-    Ok(())
-}
-
-#[test]
-fn sums_past_32_bits_are_invalid(rt: HostRuntime) -> Result<(), Fail> {
-    let alloc = rt.alloc();
-    let game = Pig::new(alloc)?;
-    let points = scores(alloc, 4294967290, &[5, 6])?;
-    let (rolled, _) = make(&game, alloc, &points, 0, 0, &mut zeros())?;
-    assert!(rt; rolled.pot() == 4294967295);
-    let answer = make(&game, alloc, &rolled, 0, 0, &mut zeros());
-    assert!(rt; matches!(answer, Err(Halt::Invalid)));
-    let (held, _) = make(&game, alloc, &points, 0, 1, &mut Tape::blank())?;
-    assert!(rt; matches!(held.totals(), [4294967295, 6]));
-    let answer = make(&game, alloc, &points, 1, 1, &mut Tape::blank());
-    assert!(rt; matches!(answer, Err(Halt::Invalid)));
-    let answer = make(&game, alloc, &points, 0, 0, &mut Tape::blank());
-    assert!(rt; matches!(answer, Err(Halt::Spent)));
+    assert!(rt; winner(alloc, 19, 19)?.is_none());
+    assert!(rt; winner(alloc, 19, 20)? == Some(1));
+    assert!(rt; winner(alloc, 20, 25)? == Some(0));
     Ok(())
 }
