@@ -1,3 +1,6 @@
+pub mod Deed
 pub mod Gives
 pub mod InSheet
+pub mod Pot
+pub mod Queues
 pub mod Rules

@@ -1,19 +1,62 @@
--- What a game means: its sheet, and each of its functions over states of the type G.
--- Seats, places of moves in the sheet and arguments are plain numbers here.
-use Rattle.std.specs.Prelude.{ℕ, ℤ, List, Option}
+-- What a game means: its sheet, and each of its functions over states of the type G, the context and the words that the action has left.
+-- Seats, places in the sheet's tables and arguments are plain numbers here. A hook that leaves the state gives the same state.
+use Rattle.std.specs.Prelude.{ℕ, ℤ, Bool, false, List, [], Option, None}
 use Rattle.game_sheet.specs.declared.act.Outcome.{Outcome}
 use Rattle.game_sheet.specs.declared.ctx.Ctx.{Ctx}
 use Rattle.game_sheet.specs.declared.sheet.Sheet.{Sheet}
+use Rattle.game_trait.specs.Deed.{Barred, Deed, Done, Lack}
 use Rattle.serde_json.specs.Data.{Data}
 
 pub record Rules (G : Type 0) : Type 0 where
   -- the fixed description of the game
   pub sheet : Sheet
   -- the first state, of the number of seats
-  pub setup : ℕ → G
-  -- the state after a move, of the seat, the place of the move and the arguments; none where the move is invalid
-  pub play : G → Ctx → ℕ → ℕ → List ℤ → Option G
+  pub setup : ℕ → List ℕ → Deed G Lack
+  -- the state after a move, of the seat, the place of the move and the arguments
+  pub play : G → Ctx → ℕ → ℕ → List ℤ → List ℕ → Deed G Barred
+  -- after a move, of the seat that made it
+  pub on_move : G → Ctx → ℕ → List ℕ → Deed G Lack
+  -- as a turn begins, and as it ends
+  pub turn_begin : G → Ctx → List ℕ → Deed G Lack
+  pub turn_end : G → Ctx → List ℕ → Deed G Lack
+  -- as a phase begins, and as it ends
+  pub phase_begin : G → Ctx → ℕ → List ℕ → Deed G Lack
+  pub phase_end : G → Ctx → ℕ → List ℕ → Deed G Lack
+  -- once the match has ended
+  pub game_end : G → Ctx → List ℕ → Deed G Lack
   -- how the match ends in a state, if it does
   pub end_if : G → Ctx → Option Outcome
+  -- whether the turn, and whether the phase, ends in a state
+  pub turn_end_if : G → Ctx → Bool
+  pub phase_end_if : G → Ctx → Bool
+  -- the play order of a phase or match whose order is the game's own
+  pub play_order : G → Ctx → List ℕ
   -- what of a state is written down
   pub value : G → Data
+
+-- a hook that does nothing
+abbrev pub idle : {G : Type 0} → G → Ctx → List ℕ → Deed G Lack
+idle g ctx words = Done g words []
+
+-- the same for a hook that is told a seat or a phase
+abbrev pub idle_at : {G : Type 0} → G → Ctx → ℕ → List ℕ → Deed G Lack
+idle_at g ctx at words = Done g words []
+
+-- a game whose hooks do nothing, in which nothing ends by itself; another game is this one with some of its parts in their place
+abbrev pub plain : {G : Type 0} → Sheet → (ℕ → List ℕ → Deed G Lack) → (G → Ctx → ℕ → ℕ → List ℤ → List ℕ → Deed G Barred) → (G → Data) → Rules G
+plain sheet setup play value = record {
+  sheet = sheet;
+  setup = setup;
+  play = play;
+  on_move = idle_at;
+  turn_begin = idle;
+  turn_end = idle;
+  phase_begin = idle_at;
+  phase_end = idle_at;
+  game_end = idle;
+  end_if = λ g ctx. None;
+  turn_end_if = λ g ctx. false;
+  phase_end_if = λ g ctx. false;
+  play_order = λ g ctx. [];
+  value = value;
+}

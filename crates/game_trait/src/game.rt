@@ -1,39 +1,26 @@
 //! The trait that each game implements.
 
-ghost use Rattle.std.specs.Prelude.{◌≡◌, ◌<◌, ◌≤◌, length, false, IfOk};
+ghost use Rattle.std.specs.Prelude.{◌≡◌, ◌<◌, ◌≤◌, [], length, false, IfOk};
+ghost use Rattle.dice_words.specs.Strip.{Follows};
 ghost use Rattle.serde_json.specs.View.{view};
 ghost use Rattle.serde_json.specs.Written.{has_float};
-ghost use Rattle.game_trait.specs.Gives.{Gives};
-ghost use Rattle.game_trait.specs.Rules.{Rules};
 ghost use Rattle.game_sheet.specs.SheetFits.{SheetFits};
+ghost use Rattle.game_trait.specs.Gives.{Gives, Hooks, Opens};
+ghost use Rattle.game_trait.specs.Queues.{KeepsToSheet};
+ghost use Rattle.game_trait.specs.Rules.{Rules};
 
-use game_sheet::{Args, Ctx, MoveId, NoMemory, Outcome, Seat, Sheet};
+use crate::halt::{Halt, HookHalt};
+use dice_words::Tape;
+use game_sheet::{Args, Ctx, EventQueue, List, MoveId, NoMemory, Outcome, PhaseId, Seat, Sheet};
 use serde_json::Value;
 use std::alloc::Global;
 
-/// Why a move gave no new state.
-#[derive(Clone, Copy, PartialEq, Eq, Debug)]
-pub enum Halt {
-    /// The game doesn't allow the move.
-    Invalid,
-    /// There was no memory.
-    NoMemory,
-}
-
-impl From<NoMemory> for Halt {
-    ghost use Rattle.std.specs.Prelude.{◌≡◌};
-    ghost use Rattle.game_trait.specs.declared.game.Halt.TheVariants.{NoMemory as Starved};
-
-    ghost from_gives = { λ _ halt. halt ≡ Starved };
-
-    fn from(_error: NoMemory) -> Self {
-        Halt::NoMemory
-    }
-}
-
-/// A game: a sheet, and what its moves do.
+/// A game: a sheet, what its moves do, and what it does by itself as turns and phases begin and end.
 ///
-/// Every function reads its state and makes a new one; want of memory is the only answer that its meaning doesn't fix.
+/// Every function reads its state and makes a new one. A hook that answers none leaves the state as it is. What game
+/// code draws from the tape and puts into the queue of events, which it is handed empty, is part of what it means; the
+/// tape and the queue are worth nothing after an answer that isn't Ok. Want of memory is the only answer that no
+/// meaning fixes.
 pub trait Game {
     /// The game's own state.
     type G: Drop;
@@ -47,10 +34,11 @@ pub trait Game {
         ensures fits { SheetFits (rules self.now).sheet };
 
     /// The state at the beginning of a match, of a number of seats that the sheet allows.
-    fn setup(&self, alloc: Global, seats: u8) -> Result<Self::G, NoMemory>
+    fn setup(&self, alloc: Global, seats: u8, tape: &mut Tape) -> Result<Self::G, HookHalt>
         requires least { (rules self.now).sheet.min_seats ≤ seats }
         requires most { seats ≤ (rules self.now).sheet.max_seats }
-        ensures { IfOk result (λ g. g ≡ (rules self.now).setup seats) };
+        ensures deed { Opens result tape.new.left ((rules self.now).setup seats tape.old.left) }
+        ensures follows { Follows tape.old tape.new };
 
     /// The state after a seat's move, which the sheet names by its place.
     fn play(
@@ -61,13 +49,110 @@ pub trait Game {
         seat: Seat,
         id: MoveId,
         args: &Args,
+        tape: &mut Tape,
+        events: &mut EventQueue,
     ) -> Result<Self::G, Halt>
-        requires { id < length (rules self.now).sheet.moves }
-        ensures { Gives result ((rules self.now).play g.now ctx.now seat id args.now) };
+        requires known { id < length (rules self.now).sheet.moves }
+        requires queue { events.old ≡ [] }
+        ensures deed { Gives result tape.new.left events.new ((rules self.now).play g.now ctx.now seat id args.now tape.old.left) }
+        ensures follows { Follows tape.old tape.new };
+
+    /// What happens after a seat's move.
+    fn on_move(
+        &self,
+        alloc: Global,
+        g: &Self::G,
+        ctx: &Ctx,
+        seat: Seat,
+        tape: &mut Tape,
+        events: &mut EventQueue,
+    ) -> Result<Option<Self::G>, HookHalt>
+        requires queue { events.old ≡ [] }
+        ensures deed { Hooks result g.now tape.new.left events.new ((rules self.now).on_move g.now ctx.now seat tape.old.left) }
+        ensures follows { Follows tape.old tape.new };
+
+    /// What happens as a turn begins.
+    fn turn_begin(
+        &self,
+        alloc: Global,
+        g: &Self::G,
+        ctx: &Ctx,
+        tape: &mut Tape,
+        events: &mut EventQueue,
+    ) -> Result<Option<Self::G>, HookHalt>
+        requires queue { events.old ≡ [] }
+        ensures deed { Hooks result g.now tape.new.left events.new ((rules self.now).turn_begin g.now ctx.now tape.old.left) }
+        ensures follows { Follows tape.old tape.new };
+
+    /// What happens as a turn ends.
+    fn turn_end(
+        &self,
+        alloc: Global,
+        g: &Self::G,
+        ctx: &Ctx,
+        tape: &mut Tape,
+        events: &mut EventQueue,
+    ) -> Result<Option<Self::G>, HookHalt>
+        requires queue { events.old ≡ [] }
+        ensures deed { Hooks result g.now tape.new.left events.new ((rules self.now).turn_end g.now ctx.now tape.old.left) }
+        ensures follows { Follows tape.old tape.new };
+
+    /// What happens as a phase begins.
+    fn phase_begin(
+        &self,
+        alloc: Global,
+        g: &Self::G,
+        ctx: &Ctx,
+        phase: PhaseId,
+        tape: &mut Tape,
+        events: &mut EventQueue,
+    ) -> Result<Option<Self::G>, HookHalt>
+        requires queue { events.old ≡ [] }
+        ensures deed { Hooks result g.now tape.new.left events.new ((rules self.now).phase_begin g.now ctx.now phase tape.old.left) }
+        ensures follows { Follows tape.old tape.new };
+
+    /// What happens as a phase ends.
+    fn phase_end(
+        &self,
+        alloc: Global,
+        g: &Self::G,
+        ctx: &Ctx,
+        phase: PhaseId,
+        tape: &mut Tape,
+        events: &mut EventQueue,
+    ) -> Result<Option<Self::G>, HookHalt>
+        requires queue { events.old ≡ [] }
+        ensures deed { Hooks result g.now tape.new.left events.new ((rules self.now).phase_end g.now ctx.now phase tape.old.left) }
+        ensures follows { Follows tape.old tape.new };
+
+    /// What happens once the match has ended. Events that it queues are dropped.
+    fn game_end(
+        &self,
+        alloc: Global,
+        g: &Self::G,
+        ctx: &Ctx,
+        tape: &mut Tape,
+        events: &mut EventQueue,
+    ) -> Result<Option<Self::G>, HookHalt>
+        requires queue { events.old ≡ [] }
+        ensures deed { Hooks result g.now tape.new.left events.new ((rules self.now).game_end g.now ctx.now tape.old.left) }
+        ensures follows { Follows tape.old tape.new };
 
     /// How the match ends in this state; none where it goes on.
     fn end_if(&self, g: &Self::G, ctx: &Ctx) -> Option<Outcome>
         ensures { result ≡ (rules self.now).end_if g.now ctx.now };
+
+    /// Whether the turn ends in this state.
+    fn turn_end_if(&self, g: &Self::G, ctx: &Ctx) -> bool
+        ensures { result ≡ (rules self.now).turn_end_if g.now ctx.now };
+
+    /// Whether the phase ends in this state.
+    fn phase_end_if(&self, g: &Self::G, ctx: &Ctx) -> bool
+        ensures { result ≡ (rules self.now).phase_end_if g.now ctx.now };
+
+    /// The play order where the order in force is the game's own.
+    fn play_order(&self, alloc: Global, g: &Self::G, ctx: &Ctx) -> Result<List<Seat>, NoMemory>
+        ensures { IfOk result (λ order. order ≡ (rules self.now).play_order g.now ctx.now) };
 
     /// The state as JSON, without a float.
     fn to_value(&self, alloc: Global, g: &Self::G) -> Result<Value, NoMemory>
@@ -77,4 +162,7 @@ pub trait Game {
     /// An equal state.
     fn copy(&self, alloc: Global, g: &Self::G) -> Result<Self::G, NoMemory>
         ensures { IfOk result (λ copied. copied ≡ g.now) };
+
+    /// The events that game code queues name rows of the sheet alone.
+    ghost in_sheet: { (game : Self) → KeepsToSheet (rules game) };
 }

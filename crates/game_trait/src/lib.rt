@@ -2,5 +2,9 @@
 #![tactic(auto)]
 
 mod game;
+mod halt;
+#[cfg(test)]
+mod tests;
 
-pub use game::{Game, Halt};
+pub use game::Game;
+pub use halt::{Halt, HookHalt};

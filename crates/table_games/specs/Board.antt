@@ -3,8 +3,9 @@ use Rattle.std.specs.Prelude.{ℕ, Bool, false, if◌then◌else◌, nat_eq, nat
 use Rattle.std.specs.List.{find, list_all, list_any}
 use Rattle.game_sheet.specs.declared.act.Outcome.{Outcome}
 use Rattle.game_sheet.specs.declared.act.Outcome.TheVariants.{Winner, Draw}
-use Rattle.serde_json.specs.Data.{Data, null, number, unsigned, array, object, member, no_members}
+use Rattle.serde_json.specs.Data.{Data, array, object, member, no_members}
 use Rattle.serde_json.specs.View.{items_of}
+use Rattle.table_games.specs.Rows.{seat_value}
 use Rattle.table_games.specs.declared.board.Board.{Board}
 
 abbrev pub empty : Board
@@ -56,9 +57,8 @@ outcome None full = if full then Some Draw else None
 abbrev pub winner : Board → Option ℕ
 winner b = find (has_line b) (0 ∷ 1 ∷ [])
 
-abbrev pub cell_value : Option ℕ → Data
-cell_value None = null
-cell_value (Some seat) = number (unsigned seat)
+abbrev pub cells_value : List (Option ℕ) → Data
+cells_value cells = array (items_of (map seat_value cells))
 
 abbrev pub board_value : Board → Data
-board_value b = object (member (codes "cells") (array (items_of (map cell_value b.cells))) no_members)
+board_value b = object (member (codes "cells") (cells_value b.cells) no_members)

@@ -1,11 +1,13 @@
 //! The board of tic-tac-toe.
 
-ghost use Rattle.std.specs.Prelude.{◌≡◌, map, IfOk, slice_get};
+ghost use Rattle.std.specs.Prelude.{◌≡◌, false, IfOk, slice_get};
 ghost use Rattle.std.specs.List.{list_any};
 ghost use Rattle.serde_json.specs.View.{view};
-ghost use Rattle.table_games.specs.Board.{board_value, cell_value, click, empty, has_line, holds, is_full, is_of, outcome, winner};
+ghost use Rattle.serde_json.specs.Written.{has_float};
+ghost use Rattle.table_games.specs.Board.{board_value, cells_value, click, empty, has_line, holds, is_full, is_of, outcome, winner};
 
-use game_sheet::{Outcome, Seat};
+use crate::rows::seat_value;
+use game_sheet::{NoMemory, Outcome, Seat};
 use serde_json::{Value, json};
 use std::alloc::{AllocError, Global};
 
@@ -37,7 +39,7 @@ impl Board {
     }
 
     /// An equal board.
-    pub(crate) fn copy(&self) -> Self
+    pub fn copy(&self) -> Self
         ensures { result ≡ self.now }
     {
         Board { cells: self.cells }
@@ -119,24 +121,30 @@ impl Board {
     }
 
     /// The board as JSON.
-    pub(crate) fn to_value(&self, alloc: Global) -> Result<Value, AllocError>
+    pub fn to_value(&self, alloc: Global) -> Result<Value, NoMemory>
+        ensures value { IfOk result (λ v. view v ≡ board_value self.now) }
+        ensures float_free { IfOk result (λ v. has_float (view v) ≡ false) }
+    {
+        let value = self.cells_object(alloc)?;
+        Ok(value)
+    }
+
+    /// An object with the cells as its one member.
+    fn cells_object(&self, alloc: Global) -> Result<Value, AllocError>
         ensures { IfOk result (λ v. view v ≡ board_value self.now) }
     {
-        let cells = cell_values(alloc, &self.cells)?;
-        json!(in alloc; {"cells": Value::Array(cells)})
+        let cells = cells_value(alloc, &self.cells)?;
+        json!(in alloc; {"cells": cells})
     }
 }
 
-/// Each cell as JSON: null, or the seat that holds it.
-fn cell_values(alloc: Global, cells: &[Option<Seat>]) -> Result<Vec<Value>, AllocError>
-    ensures { IfOk result (λ values. map view values.items ≡ map cell_value cells.now) }
+/// The cells as JSON: each null, or the seat that holds it.
+fn cells_value(alloc: Global, cells: &[Option<Seat>]) -> Result<Value, AllocError>
+    ensures { IfOk result (λ v. view v ≡ cells_value cells.now) }
 {
     let mut values = Vec::new(alloc);
     for cell in cells {
-        values.push(match cell {
-            Some(seat) => Value::from(*seat),
-            None => Value::Null,
-        })?;
+        values.push(seat_value(*cell))?;
     }
-    Ok(values)
+    Ok(Value::Array(values))
 }

@@ -2,9 +2,18 @@
 #![tactic(auto)]
 
 mod board;
+mod countdown_game;
+mod heap;
+mod pig_game;
+mod rows;
+mod scores;
 #[cfg(test)]
 mod tests;
 mod tic_tac_toe;
 
 pub use board::Board;
+pub use countdown_game::Countdown;
+pub use heap::Heap;
+pub use pig_game::Pig;
+pub use scores::Scores;
 pub use tic_tac_toe::TicTacToe;

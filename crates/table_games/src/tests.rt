@@ -1,14 +1,18 @@
-//! Tic-tac-toe through the trait: lines, draws, refused clicks and the text of a board.
+//! The games through the trait, each at its edges.
 
-ghost use Rattle.std.specs.Prelude.{◌≡◌, ◌<◌, ◌≤◌, length};
+ghost use Rattle.std.specs.Prelude.{◌≡◌, ◌<◌, ◌≤◌, [], length};
 
-use crate::TicTacToe;
-use game_sheet::{Args, Ctx, List, MoveId, NoMemory, Outcome};
-use game_trait::{Game, Halt};
+mod countdown;
+mod pig;
+mod tic_tac_toe;
+
+use dice_words::Tape;
+use game_sheet::{Args, Ctx, EventQueue, List, MoveId, Outcome};
+use game_trait::{Game, Halt, HookHalt};
 use std::alloc::Global;
 use std::test::Fail;
 
-fn ctx(alloc: Global) -> Ctx {
+fn first_turn(alloc: Global) -> Ctx {
     Ctx {
         seats: 2,
         turn: 1,
@@ -31,105 +35,40 @@ fn one(argument: i32) -> Args
     args
 }
 
-/// A click through the trait's bound.
-fn click<X: Game>(game: &X, alloc: Global, g: &X::G, seat: u8, args: &Args) -> Result<X::G, Halt>
-    requires { 0 < length (X.rules game.now).sheet.moves }
+/// A move through the trait's bound.
+fn play<X: Game>(
+    game: &X,
+    alloc: Global,
+    g: &X::G,
+    seat: u8,
+    place: u8,
+    args: &Args,
+    tape: &mut Tape,
+    events: &mut EventQueue,
+) -> Result<X::G, Halt>
+    requires known { place < length (X.rules game.now).sheet.moves }
+    requires queue { events.old ≡ [] }
 {
-    game.play(alloc, g, &ctx(alloc), seat, MoveId::at(0), args)
+    let ctx = first_turn(alloc);
+    game.play(alloc, g, &ctx, seat, MoveId::at(place), args, tape, events)
 }
 
 /// The first state for two seats, through the trait's bound.
-fn opening<X: Game>(game: &X, alloc: Global) -> Result<X::G, NoMemory>
+fn opening<X: Game>(game: &X, alloc: Global) -> Result<X::G, HookHalt>
     requires least { (X.rules game.now).sheet.min_seats ≤ 2 }
     requires most { 2 ≤ (X.rules game.now).sheet.max_seats }
 {
-    game.setup(alloc, 2)
+    game.setup(alloc, 2, &mut Tape::blank())
 }
 
 /// How the match ends, through the trait's bound.
 fn ending<X: Game>(game: &X, alloc: Global, g: &X::G) -> Option<Outcome> {
-    game.end_if(g, &ctx(alloc))
+    game.end_if(g, &first_turn(alloc))
 }
 
-/// Whether a state is written as this text.
+/// Whether a copy of a state is written as this text.
 fn is_written<X: Game>(game: &X, alloc: Global, g: &X::G, text: &str) -> Result<bool, Fail> {
-    let written = game.to_value(alloc, g)?.to_string(alloc)?;
+    let copied = game.copy(alloc, g)?;
+    let written = game.to_value(alloc, &copied)?.to_string(alloc)?;
     Ok(written.as_str() == text)
-}
-
-#[test]
-fn a_board_is_written_as_its_cells(rt: HostRuntime) -> Result<(), Fail> {
-    let alloc = rt.alloc();
-    let game = TicTacToe::new(alloc)?;
-    let board = click(&game, alloc, &opening(&game, alloc)?, 0, &one(0))?;
-    let board = game.copy(alloc, &click(&game, alloc, &board, 1, &one(3))?)?;
-    let text = "{\"cells\":[0,null,null,1,null,null,null,null,null]}";
-    assert!(rt; is_written(&game, alloc, &board, text)?);
-    Ok(())
-}
-
-#[test]
-fn each_line_wins(rt: HostRuntime) -> Result<(), Fail> {
-    let alloc = rt.alloc();
-    let game = TicTacToe::new(alloc)?;
-    let lines = [
-        [0, 1, 2],
-        [3, 4, 5],
-        [6, 7, 8],
-        [0, 3, 6],
-        [1, 4, 7],
-        [2, 5, 8],
-        [0, 4, 8],
-        [2, 4, 6],
-    ];
-    for line in lines {
-        let mut board = opening(&game, alloc)?;
-        for place in line {
-            assert!(rt; ending(&game, alloc, &board).is_none());
-            board = click(&game, alloc, &board, 1, &one(place))?;
-        }
-        assert!(rt;
-            matches!(ending(&game, alloc, &board), Some(Outcome::Winner(1))),
-            "{line:?}"
-        );
-    }
-    Ok(())
-}
-
-#[test]
-fn a_full_board_without_a_line_is_a_draw(rt: HostRuntime) -> Result<(), Fail> {
-    let alloc = rt.alloc();
-    let game = TicTacToe::new(alloc)?;
-    let mut board = opening(&game, alloc)?;
-    for place in [0, 2, 3, 7, 8] {
-        board = click(&game, alloc, &board, 0, &one(place))?;
-    }
-    for place in [1, 4, 5, 6] {
-        assert!(rt; ending(&game, alloc, &board).is_none());
-        board = click(&game, alloc, &board, 1, &one(place))?;
-    }
-    assert!(rt; matches!(ending(&game, alloc, &board), Some(Outcome::Draw)));
-    Ok(())
-}
-
-#[test]
-fn clicks_out_of_form_are_invalid(rt: HostRuntime) -> Result<(), Fail> {
-    let alloc = rt.alloc();
-    let game = TicTacToe::new(alloc)?;
-    let board = click(&game, alloc, &opening(&game, alloc)?, 0, &one(4))?;
-    for place in [4, 9, -1] {
-        let answer = click(&game, alloc, &board, 1, &one(place));
-        assert!(rt; matches!(answer, Err(Halt::Invalid)));
-    }
-    assert!(rt; matches!(click(&game, alloc, &board, 2, &one(3)), Err(Halt::Invalid)));
-    assert!(rt;
-        matches!(
-            click(&game, alloc, &board, 1, &Args::new()),
-            Err(Halt::Invalid)
-        )
-    );
-    let mut two = one(3);
-    two.push(5);
-    assert!(rt; matches!(click(&game, alloc, &board, 1, &two), Err(Halt::Invalid)));
-    Ok(())
 }

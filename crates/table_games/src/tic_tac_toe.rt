@@ -2,21 +2,33 @@
 
 ghost use Rattle.std.specs.Prelude.{◌≡◌, IfOk};
 ghost use Rattle.table_games.specs.Board.{clicks};
-ghost use Rattle.table_games.specs.TicTacToe.{fixed_sheet, tic_tac_toe};
+ghost use Rattle.table_games.specs.TicTacToe.{fixed_sheet};
 
 use crate::board::Board;
+use crate::rows::make_ordinary;
+use dice_words::Tape;
 use game_sheet::{
-    Args, Ctx, List, MoveId, MoveRow, NoMemory, Order, Outcome, Seat, Sheet, Text, TurnRow,
+    Args, Ctx, EventQueue, List, MoveId, NoMemory, Order, Outcome, PhaseId, Seat, Sheet, Text,
+    TurnRow,
 };
-use game_trait::{Game, Halt};
+use game_trait::{Game, Halt, HookHalt};
 use serde_json::Value;
 use std::alloc::Global;
+use std::marker::Model;
 
 /// The game, which holds its sheet.
 #[derive(Drop)]
 pub struct TicTacToe {
     sheet: Sheet,
-    ghost fixed: { sheet ≡ fixed_sheet },
+}
+
+impl Model for TicTacToe {
+    // It is always the same game.
+    ghost Value = { Unit {0} };
+
+    ghost view = { λ _. tt };
+
+    ghost invariant = { λ game. game.sheet ≡ fixed_sheet };
 }
 
 impl TicTacToe {
@@ -28,16 +40,20 @@ impl TicTacToe {
 }
 
 impl Game for TicTacToe {
+    ghost use Rattle.table_games.specs.InSheet.{tic_tac_toe_in_sheet};
+    ghost use Rattle.table_games.specs.TicTacToe.{tic_tac_toe};
+
     type G = Board;
 
     ghost rules = { λ _. tic_tac_toe };
+
+    ghost in_sheet = { λ _. tic_tac_toe_in_sheet };
 
     fn sheet(&self) -> &Sheet {
         &self.sheet
     }
 
-    fn setup(&self, alloc: Global, seats: u8) -> Result<Board, NoMemory> {
-        let _ = (alloc, seats);
+    fn setup(&self, alloc: Global, seats: u8, tape: &mut Tape) -> Result<Board, HookHalt> {
         Ok(Board::new())
     }
 
@@ -49,17 +65,99 @@ impl Game for TicTacToe {
         seat: Seat,
         id: MoveId,
         args: &Args,
+        tape: &mut Tape,
+        events: &mut EventQueue,
     ) -> Result<Board, Halt> {
         clicks(g, seat, args.as_slice()).ok_or(Halt::Invalid)
+    }
+
+    fn on_move(
+        &self,
+        alloc: Global,
+        g: &Board,
+        ctx: &Ctx,
+        seat: Seat,
+        tape: &mut Tape,
+        events: &mut EventQueue,
+    ) -> Result<Option<Board>, HookHalt> {
+        Ok(None)
+    }
+
+    fn turn_begin(
+        &self,
+        alloc: Global,
+        g: &Board,
+        ctx: &Ctx,
+        tape: &mut Tape,
+        events: &mut EventQueue,
+    ) -> Result<Option<Board>, HookHalt> {
+        Ok(None)
+    }
+
+    fn turn_end(
+        &self,
+        alloc: Global,
+        g: &Board,
+        ctx: &Ctx,
+        tape: &mut Tape,
+        events: &mut EventQueue,
+    ) -> Result<Option<Board>, HookHalt> {
+        Ok(None)
+    }
+
+    fn phase_begin(
+        &self,
+        alloc: Global,
+        g: &Board,
+        ctx: &Ctx,
+        phase: PhaseId,
+        tape: &mut Tape,
+        events: &mut EventQueue,
+    ) -> Result<Option<Board>, HookHalt> {
+        Ok(None)
+    }
+
+    fn phase_end(
+        &self,
+        alloc: Global,
+        g: &Board,
+        ctx: &Ctx,
+        phase: PhaseId,
+        tape: &mut Tape,
+        events: &mut EventQueue,
+    ) -> Result<Option<Board>, HookHalt> {
+        Ok(None)
+    }
+
+    fn game_end(
+        &self,
+        alloc: Global,
+        g: &Board,
+        ctx: &Ctx,
+        tape: &mut Tape,
+        events: &mut EventQueue,
+    ) -> Result<Option<Board>, HookHalt> {
+        Ok(None)
     }
 
     fn end_if(&self, g: &Board, ctx: &Ctx) -> Option<Outcome> {
         g.outcome()
     }
 
+    fn turn_end_if(&self, g: &Board, ctx: &Ctx) -> bool {
+        false
+    }
+
+    fn phase_end_if(&self, g: &Board, ctx: &Ctx) -> bool {
+        false
+    }
+
+    fn play_order(&self, alloc: Global, g: &Board, ctx: &Ctx) -> Result<List<Seat>, NoMemory> {
+        Ok(List::new(alloc))
+    }
+
     fn to_value(&self, alloc: Global, g: &Board) -> Result<Value, NoMemory> {
-        let value = g.to_value(alloc)?;
-        Ok(value)
+        g.to_value(alloc)
     }
 
     fn copy(&self, alloc: Global, g: &Board) -> Result<Board, NoMemory> {
@@ -82,13 +180,7 @@ fn make_sheet(alloc: Global) -> Result<Sheet, NoMemory>
     ensures { IfOk result (λ made. made ≡ fixed_sheet) }
 {
     let mut moves = List::new(alloc);
-    moves.push(MoveRow {
-        name: Text::from_str(alloc, "clickCell")?,
-        redact: false,
-        client: true,
-        no_limit: false,
-        ignore_stale: false,
-    })?;
+    moves.push(make_ordinary(alloc, "clickCell")?)?;
     Ok(Sheet {
         name: Text::from_str(alloc, "tic-tac-toe")?,
         min_seats: 2,

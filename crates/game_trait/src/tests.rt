@@ -1,0 +1,288 @@
+//! The trait at a small game, which draws words and queues events.
+
+ghost use Rattle.std.specs.Prelude.{◌≡◌, ℕ, List as Items, length, ◌<◌, ◌≤◌, ◌%◌, [], IfOk, OnOk, OnErr, replicate};
+ghost use Rattle.game_sheet.specs.SheetFits.{SheetFits};
+ghost use Rattle.game_trait.specs.Gives.{Gives, Hooks};
+ghost use Rattle.game_trait.specs.Pot.{queue_told, roll};
+ghost use Rattle.dice_words.specs.Strip.{Follows};
+ghost use Rattle.game_sheet.specs.declared.act.Event.TheVariants.{EndPhase as PhaseEnds};
+
+use crate::{Game, Halt, HookHalt};
+use dice_words::Tape;
+use game_sheet::{
+    Args, Crowded, Ctx, Event, EventQueue, List, MoveId, MoveRow, NoMemory, Order, Outcome,
+    PhaseId, Seat, Sheet, Text, TurnRow,
+};
+use serde_json::Value;
+use std::alloc::Global;
+use std::test::Fail;
+
+/// The game, by its sheet. Its state is the pot.
+#[derive(Drop)]
+struct Pot {
+    sheet: Sheet,
+    ghost fits: { SheetFits sheet },
+}
+
+/// A roll on the pot.
+fn roll(pot: u32, tape: &mut Tape, events: &mut EventQueue) -> Result<u32, Halt>
+    requires { events.old ≡ [] }
+    ensures deed { Gives result tape.new.left events.new (roll pot tape.old.left) }
+    ensures follows { Follows tape.old tape.new }
+{
+    let word = tape.word()?;
+    if word % 6 == 0 {
+        events.push(Event::EndTurn { to: None })?;
+        Ok(0)
+    } else {
+        Ok(pot % 1000 + word % 6)
+    }
+}
+
+/// Queues so many ends of the phase.
+fn queue(count: u32, events: &mut EventQueue) -> Result<(), Crowded>
+    requires { events.old ≡ [] }
+    ensures ok { OnOk result ((count ≤ 16) × (events.new ≡ replicate count PhaseEnds)) }
+    ensures err { OnErr result (16 < count) }
+{
+    'queue: for _i in 0..count {
+        events.push(Event::EndPhase)?;
+    }
+    Ok(())
+}
+
+/// The pot after as many ends of the phase are queued as the one argument says.
+fn queue_told(pot: u32, args: &[i32], events: &mut EventQueue) -> Result<u32, Halt>
+    requires { events.old ≡ [] }
+    ensures { (words : Items ℕ) → Gives result words events.new (queue_told args.now pot words) }
+{
+    match args {
+        [count] if *count >= 0 => {
+            queue(*count as u32, events)?;
+            Ok(pot)
+        }
+        _ => Err(Halt::Invalid),
+    }
+}
+
+impl Game for Pot {
+    ghost use Rattle.game_trait.specs.Pot.{pot_in_sheet, pot_rules};
+
+    type G = u32;
+
+    ghost rules = { λ pot. pot_rules pot.sheet };
+
+    ghost in_sheet = { λ pot. pot_in_sheet pot.sheet };
+
+    fn sheet(&self) -> &Sheet {
+        &self.sheet
+    }
+
+    fn setup(&self, alloc: Global, seats: u8, tape: &mut Tape) -> Result<u32, HookHalt> {
+        Ok(0)
+    }
+
+    fn play(
+        &self,
+        alloc: Global,
+        g: &u32,
+        ctx: &Ctx,
+        seat: Seat,
+        id: MoveId,
+        args: &Args,
+        tape: &mut Tape,
+        events: &mut EventQueue,
+    ) -> Result<u32, Halt> {
+        if id.place() == 0 {
+            roll(*g, tape, events)
+        } else {
+            queue_told(*g, args.as_slice(), events)
+        }
+    }
+
+    fn on_move(
+        &self,
+        alloc: Global,
+        g: &u32,
+        ctx: &Ctx,
+        seat: Seat,
+        tape: &mut Tape,
+        events: &mut EventQueue,
+    ) -> Result<Option<u32>, HookHalt> {
+        Ok(None)
+    }
+
+    fn turn_begin(
+        &self,
+        alloc: Global,
+        g: &u32,
+        ctx: &Ctx,
+        tape: &mut Tape,
+        events: &mut EventQueue,
+    ) -> Result<Option<u32>, HookHalt> {
+        let word = tape.word()?;
+        Ok(Some(word % 1000))
+    }
+
+    fn turn_end(
+        &self,
+        alloc: Global,
+        g: &u32,
+        ctx: &Ctx,
+        tape: &mut Tape,
+        events: &mut EventQueue,
+    ) -> Result<Option<u32>, HookHalt> {
+        Ok(None)
+    }
+
+    fn phase_begin(
+        &self,
+        alloc: Global,
+        g: &u32,
+        ctx: &Ctx,
+        phase: PhaseId,
+        tape: &mut Tape,
+        events: &mut EventQueue,
+    ) -> Result<Option<u32>, HookHalt> {
+        Ok(None)
+    }
+
+    fn phase_end(
+        &self,
+        alloc: Global,
+        g: &u32,
+        ctx: &Ctx,
+        phase: PhaseId,
+        tape: &mut Tape,
+        events: &mut EventQueue,
+    ) -> Result<Option<u32>, HookHalt> {
+        Ok(None)
+    }
+
+    fn game_end(
+        &self,
+        alloc: Global,
+        g: &u32,
+        ctx: &Ctx,
+        tape: &mut Tape,
+        events: &mut EventQueue,
+    ) -> Result<Option<u32>, HookHalt> {
+        Ok(None)
+    }
+
+    fn end_if(&self, g: &u32, ctx: &Ctx) -> Option<Outcome> {
+        None
+    }
+
+    fn turn_end_if(&self, g: &u32, ctx: &Ctx) -> bool {
+        false
+    }
+
+    fn phase_end_if(&self, g: &u32, ctx: &Ctx) -> bool {
+        false
+    }
+
+    fn play_order(&self, alloc: Global, g: &u32, ctx: &Ctx) -> Result<List<Seat>, NoMemory> {
+        Ok(List::new(alloc))
+    }
+
+    fn to_value(&self, alloc: Global, g: &u32) -> Result<Value, NoMemory> {
+        Ok(Value::from(*g))
+    }
+
+    fn copy(&self, alloc: Global, g: &u32) -> Result<u32, NoMemory> {
+        Ok(*g)
+    }
+}
+
+/// The game with two moves for one seat.
+fn make_pot(alloc: Global) -> Result<Pot, NoMemory>
+    ensures moves { IfOk result (λ pot. length pot.sheet.moves ≡ 2) }
+    ensures least { IfOk result (λ pot. pot.sheet.min_seats ≡ 1) }
+    ensures most { IfOk result (λ pot. pot.sheet.max_seats ≡ 1) }
+{
+    let mut moves = List::new(alloc);
+    moves.push(make_move(alloc, "roll")?)?;
+    moves.push(make_move(alloc, "queue")?)?;
+    let turn = TurnRow {
+        order: Order::Default,
+        min_moves: 0,
+        max_moves: None,
+        active: None,
+    };
+    Ok(Pot {
+        sheet: Sheet {
+            name: Text::from_str(alloc, "pot")?,
+            min_seats: 1,
+            max_seats: 1,
+            moves,
+            base: List::new(alloc),
+            turn,
+            phases: List::new(alloc),
+            stages: List::new(alloc),
+            specs: List::new(alloc),
+            events: List::new(alloc),
+        },
+    })
+}
+
+/// An ordinary move.
+fn make_move(alloc: Global, name: &str) -> Result<MoveRow, NoMemory> {
+    Ok(MoveRow {
+        name: Text::from_str(alloc, name)?,
+        redact: false,
+        client: true,
+        no_limit: false,
+        ignore_stale: false,
+    })
+}
+
+/// The context of a first turn.
+fn first_turn(alloc: Global) -> Ctx {
+    Ctx {
+        seats: 1,
+        turn: 1,
+        current: 0,
+        order: List::new(alloc),
+        pos: 0,
+        phase: None,
+        active: None,
+        moves: 0,
+        over: None,
+    }
+}
+
+/// How a move that queues so many events halts on a first state, if it does, through the trait's bound.
+fn halt_of<X: Game>(game: &X, alloc: Global, count: i32) -> Result<Option<Halt>, HookHalt>
+    requires moves { 1 < length (X.rules game.now).sheet.moves }
+    requires least { (X.rules game.now).sheet.min_seats ≤ 1 }
+    requires most { 1 ≤ (X.rules game.now).sheet.max_seats }
+{
+    let mut args = Args::new();
+    args.push(count);
+    let mut tape = Tape::blank();
+    let g = game.setup(alloc, 1, &mut tape)?;
+    let mut events = EventQueue::new();
+    let ctx = first_turn(alloc);
+    let played = game.play(
+        alloc,
+        &g,
+        &ctx,
+        0,
+        MoveId::at(1),
+        &args,
+        &mut tape,
+        &mut events,
+    );
+    Ok(played.err())
+}
+
+#[test]
+fn a_seventeenth_event_is_one_too_many(rt: HostRuntime) -> Result<(), Fail> {
+    let alloc = rt.alloc();
+    let game = make_pot(alloc)?;
+    assert!(rt; halt_of(&game, alloc, 16)?.is_none());
+    assert!(rt; matches!(halt_of(&game, alloc, 17)?, Some(Halt::Crowded)));
+    assert!(rt; matches!(halt_of(&game, alloc, -1)?, Some(Halt::Invalid)));
+    Ok(())
+}

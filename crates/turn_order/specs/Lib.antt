@@ -1,0 +1,2 @@
+pub mod PlayOrder
+pub mod Position
