@@ -2,22 +2,27 @@
 
 use crate::{
     Bytes, Crowded, Ctx, Event, EventQueue, List, MoveId, MoveRow, NoMemory, Order, Outcome,
-    PhaseId, PhaseRow, Place, Sheet, SheetFault, SpecId, SpecRow, StageId, StageRow, Text, TurnRow,
+    PhaseId, PhaseRow, Place, Sheet, SpecId, SpecRow, StageId, StageRow, Text, TurnRow,
     check_sheet,
 };
 use std::alloc::Global;
+use std::process::Abort;
 use std::test::Fail;
+
+fn row(alloc: Global, name: &str) -> Result<MoveRow, NoMemory> {
+    Ok(MoveRow {
+        name: Text::from_str(alloc, name)?,
+        redact: false,
+        client: true,
+        no_limit: false,
+        ignore_stale: false,
+    })
+}
 
 fn moves(alloc: Global, names: &[&str]) -> Result<List<MoveRow>, NoMemory> {
     let mut rows = List::new(alloc);
     for name in names {
-        rows.push(MoveRow {
-            name: Text::from_str(alloc, name)?,
-            redact: false,
-            client: true,
-            no_limit: false,
-            ignore_stale: false,
-        })?;
+        rows.push(row(alloc, name)?)?;
     }
     Ok(rows)
 }
@@ -28,13 +33,7 @@ fn many_moves(alloc: Global, count: u8) -> Result<List<MoveRow>, NoMemory> {
     let mut name = String::new(alloc);
     for _row in 0..count {
         name.push('a')?;
-        rows.push(MoveRow {
-            name: Text::from_str(alloc, name.as_str())?,
-            redact: false,
-            client: true,
-            no_limit: false,
-            ignore_stale: false,
-        })?;
+        rows.push(row(alloc, name.as_str())?)?;
     }
     Ok(rows)
 }
@@ -144,112 +143,163 @@ fn plain(alloc: Global) -> Result<Sheet, NoMemory> {
     })
 }
 
-/// Two sheets for each rule in the rules' order, each plain but for the one thing that breaks its rule.
-fn spoiled(alloc: Global, nr: u8) -> Result<Sheet, NoMemory> {
+fn with_name(alloc: Global, name: &str) -> Result<Sheet, NoMemory> {
     let mut sheet = plain(alloc)?;
-    match nr {
-        0 => sheet.name = Text::from_str(alloc, "")?,
-        1 => sheet.name = Text::from_str(alloc, "Piles")?,
-        2 => sheet.min_seats = 5,
-        3 => sheet.max_seats = 9,
-        4 => sheet.moves = many_moves(alloc, 0)?,
-        5 => sheet.moves = moves(alloc, &["take", "pass", "take"])?,
-        6 => sheet.phases = phases(alloc, &["draw", "play 2"], false)?,
-        7 => sheet.phases = phases(
-            alloc,
-            &[
-                "a", "b", "c", "d", "e", "f", "g", "h", "i", "j", "k", "l", "m", "n", "o", "p", "q",
-            ],
-            false,
-        )?,
-        8 => sheet.stages = stages(alloc, &["bid-1", "wait"], None)?,
-        9 => sheet.stages = stages(alloc, &["bid", "bid"], None)?,
-        _ => return spoiled_rows(alloc, nr),
-    }
+    sheet.name = Text::from_str(alloc, name)?;
     Ok(sheet)
 }
 
-/// The sheets for the rules from the sixth on.
-fn spoiled_rows(alloc: Global, nr: u8) -> Result<Sheet, NoMemory> {
+fn with_seats(alloc: Global, min_seats: u8, max_seats: u8) -> Result<Sheet, NoMemory> {
     let mut sheet = plain(alloc)?;
-    match nr {
-        10 => sheet.base = List::from_slice(alloc, &[MoveId::at(0), MoveId::at(2)])?,
-        11 => sheet.stages = stage_with(alloc, &[MoveId::at(2)])?,
-        12 => sheet.phases = phases(alloc, &["draw", "play"], true)?,
-        13 => sheet.stages = stages(alloc, &["bid", "wait"], Some(2))?,
-        14 => sheet.turn = turn(Order::Default, 0, Some(0), None),
-        15 => sheet.phases = phase_of(alloc, turn(Order::Default, 3, Some(2), None))?,
-        16 => sheet.turn = turn(Order::Once, 1, Some(1), None),
-        17 => {
-            let seats = List::from_slice(alloc, &[0, 2])?;
-            sheet.phases = phase_of(alloc, turn(Order::Custom(seats), 0, None, None))?;
-        }
-        18 => sheet.specs = specs(alloc, 2, 1, 1, Some(1))?,
-        _ => sheet.specs = specs(alloc, 2, 2, 1, None)?,
-    }
+    sheet.min_seats = min_seats;
+    sheet.max_seats = max_seats;
     Ok(sheet)
+}
+
+fn with_moves(alloc: Global, moves: List<MoveRow>) -> Result<Sheet, NoMemory> {
+    let mut sheet = plain(alloc)?;
+    sheet.moves = moves;
+    Ok(sheet)
+}
+
+fn with_base(alloc: Global, base: &[MoveId]) -> Result<Sheet, NoMemory> {
+    let mut sheet = plain(alloc)?;
+    sheet.base = List::from_slice(alloc, base)?;
+    Ok(sheet)
+}
+
+fn with_turn(alloc: Global, turn: TurnRow) -> Result<Sheet, NoMemory> {
+    let mut sheet = plain(alloc)?;
+    sheet.turn = turn;
+    Ok(sheet)
+}
+
+fn with_phases(alloc: Global, phases: List<PhaseRow>) -> Result<Sheet, NoMemory> {
+    let mut sheet = plain(alloc)?;
+    sheet.phases = phases;
+    Ok(sheet)
+}
+
+fn with_stages(alloc: Global, stages: List<StageRow>) -> Result<Sheet, NoMemory> {
+    let mut sheet = plain(alloc)?;
+    sheet.stages = stages;
+    Ok(sheet)
+}
+
+fn with_specs(alloc: Global, specs: List<SpecRow>) -> Result<Sheet, NoMemory> {
+    let mut sheet = plain(alloc)?;
+    sheet.specs = specs;
+    Ok(sheet)
+}
+
+/// An order of so many entries, each this seat.
+fn custom(alloc: Global, entries: u8, seat: u8) -> Result<Order, NoMemory> {
+    let mut seats = List::new(alloc);
+    for _entry in 0..entries {
+        seats.push(seat)?;
+    }
+    Ok(Order::Custom(seats))
+}
+
+/// Seventeen names of phases.
+const SEVENTEEN: [&str; 17] = [
+    "a", "b", "c", "d", "e", "f", "g", "h", "i", "j", "k", "l", "m", "n", "o", "p", "q",
+];
+
+/// Two sheets for each of the first five rules, each plain but for what breaks its rule.
+fn spoiled_tables(alloc: Global, nr: u8) -> Result<Sheet, NoMemory> {
+    match nr {
+        0 => with_name(alloc, ""),
+        1 => with_name(alloc, "Piles"),
+        2 => with_seats(alloc, 5, 4),
+        3 => with_seats(alloc, 2, 9),
+        4 => with_moves(alloc, many_moves(alloc, 0)?),
+        5 => with_moves(alloc, moves(alloc, &["take", "pass", "take"])?),
+        6 => with_phases(alloc, phases(alloc, &["draw", "play 2"], false)?),
+        7 => with_phases(alloc, phases(alloc, &SEVENTEEN, false)?),
+        8 => with_stages(alloc, stages(alloc, &["bid-1", "wait"], None)?),
+        _ => with_stages(alloc, stages(alloc, &["bid", "bid"], None)?),
+    }
+}
+
+/// Two sheets for each of the other five rules.
+fn spoiled_rows(alloc: Global, nr: u8) -> Result<Sheet, NoMemory> {
+    match nr {
+        0 => with_base(alloc, &[MoveId::at(0), MoveId::at(2)]),
+        1 => with_stages(alloc, stage_with(alloc, &[MoveId::at(2)])?),
+        2 => with_phases(alloc, phases(alloc, &["draw", "play"], true)?),
+        3 => with_stages(alloc, stages(alloc, &["bid", "wait"], Some(2))?),
+        4 => with_turn(alloc, turn(Order::Default, 0, Some(0), None)),
+        5 => with_phases(
+            alloc,
+            phase_of(alloc, turn(Order::Default, 3, Some(2), None))?,
+        ),
+        6 => with_turn(alloc, turn(Order::Once, 1, Some(1), None)),
+        7 => with_phases(
+            alloc,
+            phase_of(alloc, turn(custom(alloc, 2, 2)?, 0, None, None))?,
+        ),
+        8 => with_specs(alloc, specs(alloc, 2, 1, 1, Some(1))?),
+        _ => with_specs(alloc, specs(alloc, 2, 2, 1, None)?),
+    }
+}
+
+/// Sheets that stand at a bound or one past it.
+fn at_a_bound(alloc: Global, nr: u8) -> Result<Sheet, NoMemory> {
+    match nr {
+        0 => with_name(alloc, "a-game-of-32-letters-or-digits-9"),
+        1 => with_name(alloc, "a-game-of-33-letters-or-digits-10"),
+        2 => with_seats(alloc, 8, 8),
+        3 => with_moves(alloc, many_moves(alloc, 32)?),
+        4 => with_moves(alloc, many_moves(alloc, 33)?),
+        5 => with_phases(
+            alloc,
+            phase_of(alloc, turn(Order::Once, 1, Some(1), Some(1)))?,
+        ),
+        6 => with_phases(
+            alloc,
+            phase_of(alloc, turn(Order::Default, 1, Some(1), Some(2)))?,
+        ),
+        7 => with_turn(alloc, turn(custom(alloc, 64, 1)?, 0, None, None)),
+        8 => with_turn(alloc, turn(custom(alloc, 65, 1)?, 0, None, None)),
+        9 => with_turn(alloc, turn(custom(alloc, 0, 1)?, 0, None, None)),
+        10 => with_specs(alloc, specs(alloc, 2, 1, 2, None)?),
+        _ => with_specs(alloc, specs(alloc, 2, 1, 1, Some(2))?),
+    }
+}
+
+/// Asserts that a sheet of a table breaks this rule first; 0 is none.
+fn assert_rule(rt: &impl Abort, nr: u8, sheet: &Sheet, rule: u8) {
+    let broken = match check_sheet(sheet) {
+        Ok(()) => 0,
+        Err(fault) => fault.rule,
+    };
+    assert_eq!(rt; broken, rule, "sheet {nr}");
 }
 
 #[test]
 fn each_rule_is_named_by_two_sheets(rt: HostRuntime) -> Result<(), Fail> {
-    let alloc = rt.alloc();
-    assert_eq!(rt; check_sheet(&plain(alloc)?), Ok(()));
-    for nr in 0..20 {
-        let rule = nr / 2 + 1;
-        assert_eq!(rt;
-            check_sheet(&spoiled(alloc, nr)?),
-            Err(SheetFault { rule }),
-            "sheet {nr}"
-        );
+    for nr in 0..10u8 {
+        assert_rule(&rt, nr, &spoiled_tables(rt.alloc(), nr)?, nr / 2 + 1);
+        assert_rule(&rt, nr, &spoiled_rows(rt.alloc(), nr)?, nr / 2 + 6);
     }
     Ok(())
 }
 
-#[test]
-fn the_first_broken_rule_is_named(rt: HostRuntime) -> Result<(), Fail> {
-    let alloc = rt.alloc();
-    let mut sheet = spoiled(alloc, 19)?;
-    assert_eq!(rt; check_sheet(&sheet), Err(SheetFault { rule: 10 }));
-    sheet.turn = turn(Order::Once, 1, Some(0), None);
-    assert_eq!(rt; check_sheet(&sheet), Err(SheetFault { rule: 8 }));
-    sheet.moves = many_moves(alloc, 1)?;
-    assert_eq!(rt; check_sheet(&sheet), Err(SheetFault { rule: 6 }));
-    sheet.min_seats = 0;
-    assert_eq!(rt; check_sheet(&sheet), Err(SheetFault { rule: 2 }));
-    Ok(())
-}
+/// The rules that the sheets at a bound break.
+const AT_A_BOUND: [u8; 12] = [0, 1, 0, 0, 3, 0, 8, 0, 9, 9, 10, 10];
 
 #[test]
 fn what_stands_at_a_bound_passes(rt: HostRuntime) -> Result<(), Fail> {
-    let alloc = rt.alloc();
-    let mut sheet = plain(alloc)?;
-    sheet.name = Text::from_str(alloc, "a-game-of-32-letters-or-digits-9")?;
-    sheet.moves = many_moves(alloc, 32)?;
-    sheet.phases = phase_of(alloc, turn(Order::Once, 1, Some(1), Some(1)))?;
-    assert_eq!(rt; check_sheet(&sheet), Ok(()));
-    sheet.moves = many_moves(alloc, 33)?;
-    assert_eq!(rt; check_sheet(&sheet), Err(SheetFault { rule: 3 }));
-    sheet.moves = moves(alloc, &["take", "pass"])?;
-    sheet.turn = turn(
-        Order::Custom(List::from_slice(alloc, &[1; 64])?),
-        0,
-        None,
-        None,
-    );
-    assert_eq!(rt; check_sheet(&sheet), Ok(()));
-    sheet.turn = turn(
-        Order::Custom(List::from_slice(alloc, &[1; 65])?),
-        0,
-        None,
-        None,
-    );
-    assert_eq!(rt; check_sheet(&sheet), Err(SheetFault { rule: 9 }));
-    sheet.turn = turn(Order::Default, 0, None, None);
-    sheet.phases = phases(alloc, &[], false)?;
-    sheet.specs = specs(alloc, 1, 1, 2, None)?;
-    assert_eq!(rt; check_sheet(&sheet), Err(SheetFault { rule: 10 }));
-    sheet.specs = specs(alloc, 1, 1, 1, Some(1))?;
-    assert_eq!(rt; check_sheet(&sheet), Err(SheetFault { rule: 10 }));
+    for nr in 0..12u8 {
+        assert_rule(
+            &rt,
+            nr,
+            &at_a_bound(rt.alloc(), nr)?,
+            AT_A_BOUND[nr as usize],
+        );
+    }
+    assert_rule(&rt, 12, &plain(rt.alloc())?, 0);
     Ok(())
 }
 
