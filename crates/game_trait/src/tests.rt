@@ -221,7 +221,7 @@ fn make_sheet(alloc: Global) -> Result<Sheet, NoMemory> {
 }
 
 /// The game of a sheet that fits.
-fn pot(sheet: Sheet) -> Option<Pot> {
+fn make_pot(sheet: Sheet) -> Option<Pot> {
     match check_sheet(&sheet) {
         Ok(()) => Some(Pot { sheet }),
         Err(_) => None,
@@ -284,7 +284,7 @@ fn halt_of<X: Game>(game: &X, alloc: Global, count: i32) -> Result<Option<Halt>,
 #[test]
 fn a_seventeenth_event_is_one_too_many(rt: HostRuntime) -> Result<(), Fail> {
     let alloc = rt.alloc();
-    let game = pot(make_sheet(alloc)?).ok_or("sheet")?;
+    let game = make_pot(make_sheet(alloc)?).ok_or("sheet")?;
     assert!(rt; halt_of(&game, alloc, 16)?.is_none());
     assert!(rt; matches!(halt_of(&game, alloc, 17)?, Some(Halt::Crowded)));
     assert!(rt; matches!(halt_of(&game, alloc, -1)?, Some(Halt::Invalid)));
