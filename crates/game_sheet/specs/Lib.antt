@@ -1,2 +1,4 @@
 pub mod MatchName
+pub mod Pieces
 pub mod SheetFits
+pub mod SheetRules

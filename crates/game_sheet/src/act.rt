@@ -41,7 +41,7 @@ impl Act {
 }
 
 /// A change of turn, phase, stage or end that a game queues or a player asks for.
-#[derive(Clone, Copy)]
+#[derive(Clone, Copy, PartialEq, Eq, Debug)]
 pub enum Event {
     /// Ends the turn.
     EndTurn {
@@ -75,7 +75,7 @@ pub enum Event {
 }
 
 /// The kinds of event that a sheet may allow its players.
-#[derive(Clone, Copy, PartialEq, Eq)]
+#[derive(Clone, Copy, PartialEq, Eq, Debug)]
 pub enum EventKind {
     /// Ends the turn.
     EndTurn,
@@ -92,7 +92,7 @@ pub enum EventKind {
 }
 
 /// How a match ended.
-#[derive(Clone, Copy)]
+#[derive(Clone, Copy, PartialEq, Eq, Debug)]
 pub enum Outcome {
     /// A seat won.
     Winner(Seat),
@@ -103,7 +103,7 @@ pub enum Outcome {
 }
 
 /// Why a session's stream ended.
-#[derive(Clone, Copy)]
+#[derive(Clone, Copy, PartialEq, Eq, Debug)]
 pub enum Bye {
     /// The session's seat was left, or its match was removed.
     Left,

@@ -1,13 +1,16 @@
 //! Bytes that are handed out, in pieces.
 
-ghost use Rattle.std.specs.Prelude.{◌≡◌, ◌<◌, ◌==◌, [], length, if◌then◌else◌};
+ghost use Rattle.std.specs.Prelude.{◌≡◌, ◌+◌, ◌<◌, [], length, slice_get};
+ghost use Rattle.std.specs.List.{concat};
+ghost use Rattle.game_sheet.specs.Pieces.{pieces, IsWholeLines};
 
 use std::alloc::Global;
 use std::marker::Model;
 
 /// Finished bytes on their way out, such as whole lines for a client. Contracts see the bytes.
 ///
-/// They are read piece by piece; the pieces in order are the bytes, and no piece is empty.
+/// They are read piece by piece: the pieces in order are the bytes, no piece is empty, and each but the last ends with a
+/// newline.
 #[derive(Drop)]
 pub struct Bytes {
     whole: Vec<u8>,
@@ -38,17 +41,20 @@ impl Bytes {
         Bytes { whole }
     }
 
-    /// How many pieces there are: one, or none where there is no byte.
+    /// How many pieces there are. It takes no memory.
     pub fn count(&self) -> u32
-        ensures { result ≡ (if length self.now == 0 then 0 else 1) }
+        ensures count { result ≡ length (pieces self.now) }
+        ensures whole { concat (pieces self.now) ≡ self.now }
     {
         if self.whole.is_empty() { 0 } else { 1 }
     }
 
-    /// The piece at a place, counted from 0.
+    /// The piece at a place, counted from 0. It takes no memory.
     pub fn piece(&self, place: u32) -> &[u8]
-        requires { place < (if length self.now == 0 then 0 else 1) }
-        ensures { result.now ≡ self.now }
+        requires { place < length (pieces self.now) }
+        ensures value { slice_get (pieces self.now) place ≡ Some result.now }
+        ensures some { 0 < length result.now }
+        ensures lines { place + 1 < length (pieces self.now) → IsWholeLines result.now }
     {
         let _place = place;
         self.whole.as_slice()

@@ -1,8 +1,12 @@
 //! The context of a match: what the flow of turns and phases has come to.
 
+ghost use Rattle.std.specs.Prelude.{◌≡◌, IfOk};
+
 use crate::act::Outcome;
 use crate::ids::{PhaseId, Seat, StageId};
 use crate::list::List;
+use crate::memory::NoMemory;
+use std::alloc::Global;
 
 /// What every viewer sees of a match besides the game's own state.
 #[derive(Drop)]
@@ -25,4 +29,28 @@ pub struct Ctx {
     pub moves: u32,
     /// How the match ended, if it has.
     pub over: Option<Outcome>,
+}
+
+impl Ctx {
+    /// An equal context.
+    pub fn copy(&self, alloc: Global) -> Result<Self, NoMemory>
+        ensures { IfOk result (λ copied. copied ≡ self.now) }
+    {
+        let order = List::from_slice(alloc, self.order.as_slice())?;
+        let active = match &self.active {
+            None => None,
+            Some(rows) => Some(List::from_slice(alloc, rows.as_slice())?),
+        };
+        Ok(Ctx {
+            seats: self.seats,
+            turn: self.turn,
+            current: self.current,
+            order,
+            pos: self.pos,
+            phase: self.phase,
+            active,
+            moves: self.moves,
+            over: self.over,
+        })
+    }
 }

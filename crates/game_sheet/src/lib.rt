@@ -4,6 +4,7 @@
 mod act;
 mod args;
 mod bytes;
+mod check;
 mod ctx;
 mod event_queue;
 mod ids;
@@ -13,11 +14,14 @@ mod match_name;
 mod memory;
 mod refusal;
 mod sheet;
+#[cfg(test)]
+mod tests;
 mod text;
 
 pub use act::{Act, Bye, Event, EventKind, Outcome};
 pub use args::Args;
 pub use bytes::Bytes;
+pub use check::{SheetFault, check_sheet, unbroken};
 pub use ctx::Ctx;
 pub use event_queue::{Crowded, EventQueue};
 pub use ids::{MoveId, Number, PhaseId, Seat, SpecId, StageId};

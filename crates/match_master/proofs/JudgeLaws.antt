@@ -15,7 +15,7 @@ use Rattle.game_trait.specs.InSheet.{ActInSheet, EventInSheet}
 use Rattle.game_trait.specs.Rules.{Rules}
 use Rattle.move_log.specs.declared.entry.Entry.{Entry}
 use Rattle.phase_flow.specs.Action.{once}
-use Rattle.phase_flow.specs.declared.table.Table.{Table}
+use Rattle.phase_flow.specs.Reached.{Reached}
 use Rattle.reducer.specs.Accepted.{Accepted}
 use Rattle.reducer.specs.Fold.{fold, refusal, standing as standing_at}
 use Rattle.reducer.specs.Sound.{IsSound}
@@ -101,10 +101,10 @@ all_in_sheet sheet asked.Redo = tt
 pub act_in_sheet : (sheet : Sheet) (a : Asked) (act : Act) → act_of sheet a ≡ Some act → ActInSheet sheet act
 act_in_sheet sheet a act h = subst (SomeInSheet sheet) h (all_in_sheet sheet a)
 
-ok_refusal : {G : Type 0} (r : Result (Table G) GameRule) (t : Table G) → r ≡ Ok t → refusal r ≡ None
+ok_refusal : {G : Type 0} (r : Result (Reached G) GameRule) (t : Reached G) → r ≡ Ok t → refusal r ≡ None
 ok_refusal r t h = rw h refl
 
-err_refusal : {G : Type 0} (r : Result (Table G) GameRule) (rule : GameRule) → r ≡ Err rule → refusal r ≡ Some rule
+err_refusal : {G : Type 0} (r : Result (Reached G) GameRule) (rule : GameRule) → r ≡ Err rule → refusal r ≡ Some rule
 err_refusal r rule h = rw h refl
 
 module _ {X G : Type 0} (rules : X → Rules G) (room : ℕ) where
@@ -139,13 +139,13 @@ module _ {X G : Type 0} (rules : X → Rules G) (room : ℕ) where
   -- the same, of what is kept of the match
   pub accepted_at : (m : Match X G) (kept : Kept X G) → kept_of rules m ≡ kept → (viewer : Option ℕ) (s : Submission) (seat : ℕ) (act : Act) (next : Standing G) (entry : Entry) → viewer ≡ Some seat
       → act_of (rules kept.game).sheet s.asked ≡ Some act → once (rules kept.game) kept.state.table seat act ≡ Ok next.table
-      → ((first : Table G) (accepted : List Accepted) → kept.state ≡ standing_at (rules kept.game) first accepted → next ≡ standing_at (rules kept.game) first (record { seat = seat; act = act } ∷ accepted))
+      → ((first : Reached G) (accepted : List Accepted) → kept.state ≡ standing_at (rules kept.game) first accepted → next ≡ standing_at (rules kept.game) first (record { seat = seat; act = act } ∷ accepted))
       → IsSound (rules kept.game) next → entry ≡ entry_on kept.state.table kept.state.number (record { seat = seat; act = act }) → public_broken rules room m viewer s ≡ None
       → IsAccepted rules room m viewer s next entry
   accepted_at m kept e =
       subst (λ (k : Kept X G). (viewer : Option ℕ) (s : Submission) (seat : ℕ) (act : Act) (next : Standing G) (entry : Entry) → viewer ≡ Some seat
       → act_of (rules k.game).sheet s.asked ≡ Some act → once (rules k.game) k.state.table seat act ≡ Ok next.table
-      → ((first : Table G) (accepted : List Accepted) → k.state ≡ standing_at (rules k.game) first accepted → next ≡ standing_at (rules k.game) first (record { seat = seat; act = act } ∷ accepted))
+      → ((first : Reached G) (accepted : List Accepted) → k.state ≡ standing_at (rules k.game) first accepted → next ≡ standing_at (rules k.game) first (record { seat = seat; act = act } ∷ accepted))
       → IsSound (rules k.game) next → entry ≡ entry_on k.state.table k.state.number (record { seat = seat; act = act }) → public_broken rules room m viewer s ≡ None
       → IsAccepted rules room m viewer s next entry) e
       (λ viewer s seat act next entry p q o st sound en n. accepted_is m viewer s seat act next entry p q n o (st m.first m.accepted refl) sound en)

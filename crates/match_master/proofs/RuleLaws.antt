@@ -5,6 +5,7 @@ use Rattle.game_sheet.specs.declared.act.Act.{Act}
 use Rattle.game_sheet.specs.declared.ctx.Ctx.{Ctx}
 use Rattle.game_sheet.specs.declared.sheet.Sheet.{Sheet}
 use Rattle.game_trait.specs.Rules.{Rules}
+use Rattle.stage_map.specs.Moves.{may}
 use Rattle.wire_json.specs.Resolve.{act_of}
 use Rattle.wire_json.specs.declared.asked.Asked.{Asked}
 use Rattle.wire_json.specs.declared.reason.Reason.{Reason}
@@ -43,6 +44,7 @@ seat_admitted sheet ctx number seat a at h =
       act = found.0;
       viewer_is = refl;
       act_is = found.1;
+      active = not_false (may ctx seat) h.1.1.1.0;
       below = h.1.0;
       has = subst (λ o. has_act sheet ctx seat a o ≡ true) found.1 (not_false (has_act sheet ctx seat a (act_of sheet a)) h.1.1.1.1.0);
     }

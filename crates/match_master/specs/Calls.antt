@@ -4,7 +4,7 @@ use Rattle.game_trait.specs.Rules.{Rules}
 use Rattle.game_sheet.specs.declared.refusal.GameRule.{GameRule}
 use Rattle.game_sheet.specs.declared.sheet.Sheet.{Sheet}
 use Rattle.phase_flow.specs.Action.{begin}
-use Rattle.phase_flow.specs.declared.table.Table.{Table}
+use Rattle.phase_flow.specs.Reached.{Reached}
 use Rattle.wire_json.specs.declared.reason.Reason.{Reason}
 use Rattle.wire_json.specs.declared.verdict.Verdict.{Verdict}
 use Rattle.wire_json.specs.declared.verdict.Verdict.TheVariants as verdict
@@ -24,7 +24,7 @@ abbrev pub seats_fit : Sheet → ℕ → Bool
 seats_fit sheet seats = nat_le sheet.min_seats seats && nat_le seats sheet.max_seats
 
 module _ {X G : Type 0} (rules : X → Rules G) where
-  abbrev pub made : ℕ → X → ℕ → List ℕ → Result (Table G) GameRule → Result (Match X G) RoomReply
+  abbrev pub made : ℕ → X → ℕ → List ℕ → Result (Reached G) GameRule → Result (Match X G) RoomReply
   made serials game seats seed (Ok first) =
       Ok (record { game = game; seats = seats; seed = seed; serial = serials + 1; first = first; accepted = [] })
   made serials game seats seed (Err rule) = Err reply.NoStart

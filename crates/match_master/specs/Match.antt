@@ -1,8 +1,8 @@
--- A match: its game, seats, seed and serial, the table at its start, and its accepted actions, the latest first.
+-- A match: its game, seats, seed and serial, what it began with, and its accepted actions, the latest first.
 use Rattle.std.specs.Prelude.{ℕ, List, [], ◌∷◌, ◌++◌, length, false}
 use Rattle.game_trait.specs.Rules.{Rules}
 use Rattle.move_log.specs.declared.entry.Entry.{Entry}
-use Rattle.phase_flow.specs.declared.table.Table.{Table}
+use Rattle.phase_flow.specs.Reached.{Reached}
 use Rattle.reducer.specs.Accepted.{Accepted}
 use Rattle.reducer.specs.Fold.{fold}
 
@@ -11,12 +11,12 @@ pub record Match (X G : Type 0) : Type 0 where
   pub seats : ℕ
   pub seed : List ℕ
   pub serial : ℕ
-  pub first : Table G
+  pub first : Reached G
   pub accepted : List Accepted
 
 module _ {X G : Type 0} (rules : X → Rules G) where
   -- the table that the match has come to
-  abbrev pub table_of : Match X G → Table G
+  abbrev pub table_of : Match X G → Reached G
   table_of m = fold (rules m.game) m.first m.accepted
 
 -- the state number: the count of accepted actions
@@ -24,11 +24,11 @@ abbrev pub number_of : {X G : Type 0} → Match X G → ℕ
 number_of m = length m.accepted
 
 -- the log's entry of an action that is accepted on a table at a number
-abbrev pub entry_on : {G : Type 0} → Table G → ℕ → Accepted → Entry
+abbrev pub entry_on : {G : Type 0} → Reached G → ℕ → Accepted → Entry
 entry_on t number a = record { seat = a.seat; act = a.act; hidden = false; number = number; turn = t.ctx.turn; phase = t.ctx.phase; words = 0 }
 
 -- the log of the accepted actions, the oldest first
-abbrev pub log_from : {G : Type 0} → Rules G → Table G → List Accepted → List Entry
+abbrev pub log_from : {G : Type 0} → Rules G → Reached G → List Accepted → List Entry
 log_from rules first [] = []
 log_from rules first (a ∷ accepted) = log_from rules first accepted ++ entry_on (fold rules first accepted) (length accepted) a ∷ []
 

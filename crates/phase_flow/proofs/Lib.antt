@@ -1,2 +1,3 @@
-mod Opening
+mod Fits
 mod Settling
+mod Sounds

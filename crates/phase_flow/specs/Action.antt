@@ -1,56 +1,72 @@
--- How a match begins, and what one action makes of its table: the next table, or the rule that the action breaks.
-use Rattle.std.specs.Prelude.{ℕ, ◌+◌, Bool, false, not, ◌&&◌, if◌then◌else◌, nat_eq, List, slice_get, Option, Some, None, Result, Err}
-use Rattle.std.specs.List.{range_with_len}
+-- How a match begins, and what one action makes of it: what it has then come to, or the rule that the action breaks. An action may draw
+-- 256 words, from the place that the match has reached; the place goes on by the words that it draws.
+use Rattle.std.specs.Prelude.{ℕ, ◌+◌, ◌-◌, ◌%◌, ◌^◌, Bool, true, false, not, if◌then◌else◌, is_none, nat_eq, List, length, position, slice_get, Option, Some, None, Result, Ok, Err}
+use Rattle.dice_words.specs.Words.{words}
 use Rattle.game_sheet.specs.declared.act.Act.{Act}
-use Rattle.game_sheet.specs.declared.act.Act.TheVariants.{Move, Event, Undo, Redo}
-use Rattle.game_sheet.specs.declared.ctx.Ctx.{Ctx}
+use Rattle.game_sheet.specs.declared.act.Act.TheVariants.{Move, Event as Asks, Undo, Redo}
+use Rattle.game_sheet.specs.declared.act.Event.{Event}
+use Rattle.game_sheet.specs.declared.act.Event.TheVariants.{EndTurn, EndPhase, EndStage}
 use Rattle.game_sheet.specs.declared.refusal.GameRule.{GameRule}
 use Rattle.game_sheet.specs.declared.refusal.GameRule.TheVariants.{InvalidMove}
 use Rattle.game_sheet.specs.declared.sheet.MoveRow.{MoveRow}
 use Rattle.game_sheet.specs.declared.sheet.Sheet.{Sheet}
+use Rattle.game_trait.specs.Deed.{Barred, Deed, Done, GaveUp, Invalid, Lacks}
 use Rattle.game_trait.specs.Rules.{Rules}
 use Rattle.phase_flow.specs.declared.table.Table.{Table}
-use Rattle.phase_flow.specs.Settle.{settle}
+use Rattle.phase_flow.specs.Flow as flow
+use Rattle.phase_flow.specs.Reached.{Reached, reached, table_of}
+use Rattle.phase_flow.specs.Step.{At, Ends, Step, rule_of}
+use Rattle.stage_map.specs.Active.{is_listed}
 
--- the first turn is that of seat 0, in a play order of all seats
-abbrev pub opening : ℕ → Ctx
-opening seats = record {
-  seats = seats;
-  turn = 1;
-  current = 0;
-  order = range_with_len 0 seats;
-  pos = 0;
-  phase = None;
-  active = None;
-  moves = 0;
-  over = None;
-}
+-- the words that an action may draw from a place on
+abbrev pub words_from : List ℕ → ℕ → List ℕ
+words_from seed place = words seed 0 place 256
 
-abbrev pub first_table : {G : Type 0} → Rules G → ℕ → Table G
-first_table rules seats = record { g = rules.setup seats; ctx = opening seats }
+-- the place after an action that leaves these of its words
+abbrev pub place_after : ℕ → List ℕ → ℕ
+place_after place left = (place + (256 - length left)) % 2 ^ 64
 
--- a match of a number of seats and with a seed, whose words no rule draws yet
-unfoldable pub begin : {G : Type 0} → Rules G → ℕ → List ℕ → Result (Table G) GameRule
-begin rules seats seed = settle rules 64 (first_table rules seats)
+-- what a flow comes to that began at a place
+abbrev pub come_to : {G : Type 0} → List ℕ → ℕ → Step G → Result (Reached G) GameRule
+come_to seed place (At t left tasks after) = Ok (reached seed (place_after place left) t)
+come_to seed place (Ends rule) = Err rule
+
+-- a match with a number of seats and a seed
+unfoldable pub begin : {G : Type 0} → Rules G → ℕ → List ℕ → Result (Reached G) GameRule
+begin rules seats seed = come_to seed 0 (flow.begin rules seats (words_from seed 0))
 
 abbrev pub has_no_limit : Option MoveRow → Bool
 has_no_limit None = false
 has_no_limit (Some row) = row.no_limit
 
--- a move counts where it is the current seat's and counts toward a limit
-abbrev pub is_counted : Sheet → Ctx → ℕ → ℕ → Bool
-is_counted sheet ctx seat id = nat_eq seat ctx.current && not (has_no_limit (slice_get sheet.moves id))
+-- a move counts unless its row says that it counts toward no limit
+abbrev pub counts : Sheet → ℕ → Bool
+counts sheet id = not (has_no_limit (slice_get sheet.moves id))
 
-abbrev pub counted : Bool → Ctx → Ctx
-counted is ctx = if is then record ctx { moves = ctx.moves + 1 } else ctx
+-- a move is played, and then comes what follows from it
+abbrev pub played : {G : Type 0} → Rules G → Table G → ℕ → Bool → Deed G Barred → Step G
+played rules t seat is (Done g left events) = flow.moved rules seat is (record t { g = g }) left events
+played rules t seat is (GaveUp Invalid) = Ends InvalidMove
+played rules t seat is (GaveUp (Lacks lack)) = Ends (rule_of lack)
 
-abbrev pub played : {G : Type 0} → Rules G → Ctx → Bool → Option G → Result (Table G) GameRule
-played rules ctx is None = Err InvalidMove
-played rules ctx is (Some g) = settle rules 64 (record { g = g; ctx = counted is ctx })
+-- there is no phase to end, no place of that seat in the play order, or no stage of the player's to end
+abbrev pub is_invalid : {G : Type 0} → ℕ → Event → Table G → Bool
+is_invalid seat EndPhase t = is_none t.ctx.phase
+is_invalid seat (EndTurn (Some to)) t = is_none (position (nat_eq to) t.ctx.order)
+is_invalid seat EndStage t = not (is_listed t.active seat)
+is_invalid seat event t = false
 
--- an event, an undo and a redo aren't actions of this flow: no match asks for one, and it is answered as an invalid move
-unfoldable pub once : {G : Type 0} → Rules G → Table G → ℕ → Act → Result (Table G) GameRule
-once rules t seat (Move id args) = played rules t.ctx (is_counted rules.sheet t.ctx seat id) (rules.play t.g t.ctx seat id args)
-once rules t seat (Event event) = Err InvalidMove
-once rules t seat Undo = Err InvalidMove
-once rules t seat Redo = Err InvalidMove
+-- a seat asks for an event
+abbrev pub asked : {G : Type 0} → Rules G → Table G → ℕ → Event → List ℕ → Step G
+asked rules t seat event words = if is_invalid seat event t then Ends InvalidMove else flow.run_event rules seat event t words
+
+-- no action takes one back or makes one again: neither is asked for, and each is answered as an invalid move
+abbrev pub acted : {G : Type 0} → Rules G → Table G → ℕ → Act → List ℕ → Step G
+acted rules t seat (Move id args) words = played rules t seat (counts rules.sheet id) (rules.play t.g t.ctx seat id args words)
+acted rules t seat (Asks event) words = asked rules t seat event words
+acted rules t seat Undo words = Ends InvalidMove
+acted rules t seat Redo words = Ends InvalidMove
+
+-- an action of a seat on a match
+unfoldable pub once : {G : Type 0} → Rules G → Reached G → ℕ → Act → Result (Reached G) GameRule
+once rules r seat act = come_to r.seed r.place (acted rules (table_of r) seat act (words_from r.seed r.place))

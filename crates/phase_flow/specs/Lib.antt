@@ -1,4 +1,11 @@
 pub mod Action
+pub mod Automatic
+pub mod Comes
+pub mod Flow
+pub mod IsSound
 pub mod Placed
+pub mod Reached
+pub mod Rows
 pub mod Settle
-pub mod Tells
+pub mod Step
+pub mod Turns

@@ -1,52 +1,77 @@
--- What follows from a move by itself: the match ends where the game says so, else the turn ends where its moves are used up.
--- So it goes on until nothing follows any more. An action runs at most sixty-four such tasks; one that begins another is refused.
-use Rattle.std.specs.Prelude.{ℕ, zero, suc, ◌+◌, ◌%◌, if◌then◌else◌, nat_lt, nat_le, length, slice_index, Option, Some, None, Result, Ok, Err}
+-- How a table is settled. Tasks run first in, first out, and what each one does is a line for each kind of event. Before each of them the task
+-- that comes by itself may be put in front. Nothing runs once the match is over, and no action begins a sixty-fifth task.
+use Rattle.std.specs.Prelude.{ℕ, zero, suc, Bool, true, false, if◌then◌else◌, nat_eq, nat_lt, List, [], ◌∷◌, length, position, Option, Some, None}
+use Rattle.game_sheet.specs.declared.act.Event.{Event}
+use Rattle.game_sheet.specs.declared.act.Event.TheVariants.{EndTurn, EndPhase, SetPhase, EndStage, SetStage, SetActive, EndGame}
 use Rattle.game_sheet.specs.declared.act.Outcome.{Outcome}
 use Rattle.game_sheet.specs.declared.ctx.Ctx.{Ctx}
-use Rattle.game_sheet.specs.declared.refusal.GameRule.{GameRule}
 use Rattle.game_sheet.specs.declared.refusal.GameRule.TheVariants.{TooManyEvents}
-use Rattle.game_sheet.specs.declared.sheet.TurnRow.{TurnRow}
 use Rattle.game_trait.specs.Rules.{Rules}
-use Rattle.phase_flow.specs.declared.settle.Task.{Task}
-use Rattle.phase_flow.specs.declared.settle.Task.TheVariants.{EndTurn, EndGame}
+use Rattle.stage_map.specs.Set.{set}
+use Rattle.stage_map.specs.Stages.{end_stage, set_stage}
+use Rattle.turn_order.specs.Position.{next}
 use Rattle.phase_flow.specs.declared.table.Table.{Table}
+use Rattle.phase_flow.specs.declared.task.Task.{Task}
+use Rattle.phase_flow.specs.Automatic.{with_automatic}
+use Rattle.phase_flow.specs.Rows.{phase_after, turn_row}
+use Rattle.phase_flow.specs.Step.{At, Ends, Step, by_itself, carry_on, ended_with}
+use Rattle.phase_flow.specs.Turns.{enter, pass_on, with_active}
 
--- the turn ends by itself where it may end and has had its greatest count of moves
-abbrev pub full_turn : Option ℕ → Ctx → Option Task
-full_turn None ctx = None
-full_turn (Some most) ctx = if nat_le most ctx.moves then Some EndTurn else None
+-- the seat that a task speaks of
+abbrev pub speaking : Option ℕ → Ctx → ℕ
+speaking None ctx = ctx.current
+speaking (Some seat) ctx = seat
 
-abbrev pub turn_ended : TurnRow → Ctx → Option Task
-turn_ended row ctx = if nat_lt ctx.moves row.min_moves then None else full_turn row.max_moves ctx
+abbrev pub over : {G : Type 0} → Outcome → Table G → Table G
+over outcome t = record t { ctx = record t.ctx { over = Some outcome } }
 
-abbrev pub ended : Option Outcome → TurnRow → Ctx → Option Task
-ended (Some outcome) row ctx = Some (EndGame outcome)
-ended None row ctx = turn_ended row ctx
+module _ {G : Type 0} (rules : Rules G) where
+  -- the turn passes to a seat of the play order, and to no other
+  abbrev pub pass_to : Option ℕ → Table G → List ℕ → List Task → Step G
+  pass_to None t words tasks = At t words tasks false
+  pass_to (Some place) t words tasks = pass_on rules place t words tasks
 
--- nothing follows once the match is over
-abbrev pub unless_over : Option Outcome → Option Task → Option Task
-unless_over (Some outcome) task = None
-unless_over None task = task
+  -- the turn passes to the next position; without one the phase's end is put in front
+  abbrev pub pass_or_end : Option ℕ → Table G → List ℕ → List Task → Step G
+  pass_or_end None t words tasks = At t words (by_itself EndPhase ∷ tasks) true
+  pass_or_end (Some place) t words tasks = pass_on rules place t words tasks
 
-abbrev pub automatic : {G : Type 0} → Rules G → Table G → Option Task
-automatic rules t = unless_over t.ctx.over (ended (rules.end_if t.g t.ctx) rules.sheet.turn t.ctx)
+  abbrev pub end_turn_to : Option ℕ → Table G → List ℕ → List Task → Step G
+  end_turn_to (Some seat) t words tasks = pass_to (position (nat_eq seat) t.ctx.order) t words tasks
+  end_turn_to None t words tasks = pass_or_end (next (turn_row rules.sheet t.ctx).order t.ctx.pos (length t.ctx.order)) t words tasks
 
--- the turn of the seat at a place of the play order begins
-abbrev pub turn : ℕ → Ctx → Ctx
-turn place ctx = record ctx { turn = ctx.turn + 1; current = slice_index ctx.order place; pos = place; moves = 0 }
+  abbrev pub end_turn : Option ℕ → Table G → List ℕ → List Task → Step G
+  end_turn to t words tasks = if nat_lt t.ctx.moves (turn_row rules.sheet t.ctx).min_moves then At t words tasks false else end_turn_to to t words tasks
 
-abbrev pub run_on : Task → Ctx → Ctx
-run_on EndTurn ctx = turn ((ctx.pos + 1) % length ctx.order) ctx
-run_on (EndGame outcome) ctx = record ctx { over = Some outcome }
+  abbrev pub end_phase : Option ℕ → Table G → List ℕ → List Task → Step G
+  end_phase None t words tasks = At t words tasks false
+  end_phase (Some phase) t words tasks = enter rules (phase_after rules.sheet phase) t words tasks
 
-abbrev pub run : {G : Type 0} → Task → Table G → Table G
-run task t = record t { ctx = run_on task t.ctx }
+  -- the match is over, and the hook runs; all other tasks are dropped
+  abbrev pub end_game : Table G → List ℕ → Step G
+  end_game t words = ended_with t (rules.game_end t.g t.ctx words)
 
-abbrev pub follow : {G : Type 0} → Option Task → Table G → (Task → Result (Table G) GameRule) → Result (Table G) GameRule
-follow None t go = Ok t
-follow (Some task) t go = go task
+  -- what a task does
+  abbrev pub run : Event → Option ℕ → Table G → List ℕ → List Task → Step G
+  run (EndTurn to) speaker t words tasks = end_turn to t words tasks
+  run EndPhase speaker t words tasks = end_phase t.ctx.phase t words tasks
+  run (SetPhase to) speaker t words tasks = enter rules (Some to) t words tasks
+  run (SetActive spec) speaker t words tasks = At (with_active (set rules.sheet spec t.ctx.current t.ctx.order t.active) t) words tasks false
+  run (SetStage to) speaker t words tasks = At (with_active (set_stage (speaking speaker t.ctx) to t.active) t) words tasks false
+  run EndStage speaker t words tasks = At (with_active (end_stage rules.sheet (speaking speaker t.ctx) t.ctx.current t.ctx.order t.active) t) words tasks false
+  run (EndGame outcome) speaker t words tasks = end_game (over outcome t) words
 
--- the number is that of the tasks that may still begin
-unfoldable pub settle : {G : Type 0} → Rules G → ℕ → Table G → Result (Table G) GameRule
-settle rules zero t = follow (automatic rules t) t (λ task. Err TooManyEvents)
-settle rules (suc n) t = follow (automatic rules t) t (λ task. settle rules n (run task t))
+-- nothing is left to do once the match is over, or with no task left; else the first task is next
+abbrev pub next_by : {G : Type 0} → Option Outcome → Table G → List ℕ → List Task → (Task → List Task → Step G) → Step G
+next_by (Some outcome) t words tasks go = At t words [] false
+next_by None t words [] go = At t words [] false
+next_by None t words (task ∷ tasks) go = go task tasks
+
+abbrev pub next_task : {G : Type 0} → Table G → List ℕ → List Task → (Task → List Task → Step G) → Step G
+next_task t words tasks go = next_by t.ctx.over t words tasks go
+
+-- a table settled, where so many tasks may still begin; `after` says that the last one was a turn's end that put a phase's end in front
+unfoldable pub settle : {G : Type 0} → Rules G → ℕ → Table G → List ℕ → List Task → Bool → Step G
+settle rules zero t words tasks after = next_task t words (with_automatic rules after t tasks) (λ task rest. Ends TooManyEvents)
+settle rules (suc n) t words tasks after =
+    next_task t words (with_automatic rules after t tasks) (λ task rest. carry_on (run rules task.event task.speaker t words rest) (settle rules n))

@@ -1,10 +1,23 @@
-//! The flow of a match: how it begins, and what follows from a move by itself.
+//! The flow of a match: how it begins, and what follows from a move or an event.
 #![tactic(auto)]
 
-mod action;
-mod context;
+mod automatic;
+mod calls;
+mod flow;
+mod flow_no;
+mod hooks;
+mod laws;
+mod line;
+mod map;
+mod rows;
+mod run;
 mod settle;
 mod table;
+mod task;
+mod turns;
 
-pub use action::{begin, once};
+pub use calls::{begin, moved, run_event};
+pub use flow_no::FlowNo;
+pub use laws::bounds_grow;
 pub use table::Table;
+pub use task::Task;

@@ -1,12 +1,15 @@
 //! All that a match has come to.
 
 use game_sheet::Ctx;
+use stage_map::Active;
 
-/// The state of the game, and the context of the match.
+/// The state of the game, the context of the match and its map of active players.
 #[derive(Drop)]
 pub struct Table<G> {
-    /// The game's own state.
+    /// The state of the game.
     pub g: G,
-    /// What every viewer sees besides.
+    /// The context of the match.
     pub ctx: Ctx,
+    /// The map with its counts, its follower and the earlier maps; the context shows a part of it.
+    pub active: Active,
 }

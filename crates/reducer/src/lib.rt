@@ -1,6 +1,7 @@
 //! The state of a match as the fold of its accepted actions: its start, and one action more.
 #![tactic(auto)]
 
+mod act;
 mod fold;
 mod state;
 #[cfg(test)]

@@ -1,48 +1,49 @@
-//! The reducer at a small game: two seats take stones from a pile, one a turn, and the match is drawn when none is left.
+//! The reducer at a small game, whose phases, stages and turns the tests choose.
 
-ghost use Rattle.std.specs.Prelude.{◌≡◌, ◌+◌, ◌<◌, IfOk, length};
+ghost use Rattle.std.specs.Prelude.{◌≡◌, ◌<◌, ◌+◌, IfOk, IfSome, length};
 ghost use Rattle.game_sheet.specs.SheetFits.{SheetFits};
 ghost use Rattle.reducer.specs.Sound.{IsSound};
 
 use crate::{StartNo, State, start, step};
+use dice_words::Tape;
 use game_sheet::{
-    Act, Args, Ctx, Event, GameNo, GameRule, List, MoveId, MoveRow, NoMemory, Order, Outcome, Seat,
-    Sheet, Text, TurnRow,
+    Act, Args, Ctx, Event, EventQueue, GameNo, GameRule, List, MoveId, MoveRow, NoMemory, Order,
+    Outcome, PhaseId, PhaseRow, Place, Seat, Sheet, SpecId, SpecRow, StageId, StageRow, Text,
+    TurnRow, check_sheet,
 };
-use game_trait::{Game, Halt};
+use game_trait::{Game, Halt, HookHalt};
 use serde_json::Value;
+use stage_map::is_active;
 use std::alloc::Global;
 use std::test::Fail;
 
-/// The game, by its sheet. Its state is how many stones are left.
+/// The game, by its sheet and what its phases lead to.
 #[derive(Drop)]
-struct Pile {
+struct Toy {
     sheet: Sheet,
+    chained: bool,
+    endless: bool,
     ghost fits: { SheetFits sheet },
+    ghost two_phases: { 1 < length sheet.phases },
+    ghost three_phases: { 2 < length sheet.phases },
+    ghost a_stage: { 0 < length sheet.stages },
 }
 
-impl Game for Pile {
-    ghost use Rattle.std.specs.Prelude.{ℕ, suc, zero, ◌-◌, nat_eq, if◌then◌else◌, Some, None};
-    ghost use Rattle.game_sheet.specs.declared.act.Outcome.TheVariants.{Draw};
-    ghost use Rattle.serde_json.specs.Data.{number, unsigned};
+impl Game for Toy {
+    ghost use Rattle.reducer.specs.Toy.{toy_in_sheet, toy_rules};
 
     type G = u32;
 
-    ghost rules = { λ pile. record {
-      sheet = pile.sheet;
-      setup = λ seats. 3;
-      play = λ g ctx seat id args. if nat_eq g 0 then None else Some (g - 1);
-      end_if = λ g ctx. if nat_eq g 0 then Some Draw else None;
-      value = λ g. number (unsigned g);
-    } };
+    ghost rules = { λ toy. toy_rules toy.sheet toy.chained toy.endless };
+
+    ghost in_sheet = { λ toy. toy_in_sheet toy.sheet toy.chained toy.endless toy.two_phases toy.three_phases toy.a_stage };
 
     fn sheet(&self) -> &Sheet {
         &self.sheet
     }
 
-    fn setup(&self, alloc: Global, seats: u8) -> Result<u32, NoMemory> {
-        let _ = (alloc, seats);
-        Ok(3)
+    fn setup(&self, alloc: Global, seats: u8, tape: &mut Tape) -> Result<u32, HookHalt> {
+        Ok(0)
     }
 
     fn play(
@@ -53,15 +54,112 @@ impl Game for Pile {
         seat: Seat,
         id: MoveId,
         args: &Args,
+        tape: &mut Tape,
+        events: &mut EventQueue,
     ) -> Result<u32, Halt> {
-        if *g == 0 {
-            return Err(Halt::Invalid);
+        if self.endless {
+            events.push(Event::SetPhase { to: PhaseId::at(1) })?;
         }
-        Ok(*g - 1)
+        Ok(g.wrapping_add(1))
+    }
+
+    fn on_move(
+        &self,
+        alloc: Global,
+        g: &u32,
+        ctx: &Ctx,
+        seat: Seat,
+        tape: &mut Tape,
+        events: &mut EventQueue,
+    ) -> Result<Option<u32>, HookHalt> {
+        Ok(None)
+    }
+
+    fn turn_begin(
+        &self,
+        alloc: Global,
+        g: &u32,
+        ctx: &Ctx,
+        tape: &mut Tape,
+        events: &mut EventQueue,
+    ) -> Result<Option<u32>, HookHalt> {
+        Ok(None)
+    }
+
+    fn turn_end(
+        &self,
+        alloc: Global,
+        g: &u32,
+        ctx: &Ctx,
+        tape: &mut Tape,
+        events: &mut EventQueue,
+    ) -> Result<Option<u32>, HookHalt> {
+        Ok(None)
+    }
+
+    fn phase_begin(
+        &self,
+        alloc: Global,
+        g: &u32,
+        ctx: &Ctx,
+        phase: PhaseId,
+        tape: &mut Tape,
+        events: &mut EventQueue,
+    ) -> Result<Option<u32>, HookHalt> {
+        if self.chained {
+            if phase.place() == 1 {
+                events.push(Event::EndTurn { to: None })?;
+                events.push(Event::SetStage { to: StageId::at(0) })?;
+            }
+        } else if self.endless {
+            let to = if phase.place() == 1 { 2 } else { 1 };
+            events.push(Event::SetPhase {
+                to: PhaseId::at(to),
+            })?;
+        }
+        Ok(None)
+    }
+
+    fn phase_end(
+        &self,
+        alloc: Global,
+        g: &u32,
+        ctx: &Ctx,
+        phase: PhaseId,
+        tape: &mut Tape,
+        events: &mut EventQueue,
+    ) -> Result<Option<u32>, HookHalt> {
+        if self.chained {
+            events.push(Event::SetPhase { to: PhaseId::at(1) })?;
+        }
+        Ok(None)
+    }
+
+    fn game_end(
+        &self,
+        alloc: Global,
+        g: &u32,
+        ctx: &Ctx,
+        tape: &mut Tape,
+        events: &mut EventQueue,
+    ) -> Result<Option<u32>, HookHalt> {
+        Ok(None)
     }
 
     fn end_if(&self, g: &u32, ctx: &Ctx) -> Option<Outcome> {
-        if *g == 0 { Some(Outcome::Draw) } else { None }
+        None
+    }
+
+    fn turn_end_if(&self, g: &u32, ctx: &Ctx) -> bool {
+        false
+    }
+
+    fn phase_end_if(&self, g: &u32, ctx: &Ctx) -> bool {
+        false
+    }
+
+    fn play_order(&self, alloc: Global, g: &u32, ctx: &Ctx) -> Result<List<Seat>, NoMemory> {
+        Ok(List::new(alloc))
     }
 
     fn to_value(&self, alloc: Global, g: &u32) -> Result<Value, NoMemory> {
@@ -73,110 +171,276 @@ impl Game for Pile {
     }
 }
 
-fn make_pile(alloc: Global) -> Result<Pile, NoMemory>
-    ensures { IfOk result (λ pile. length pile.sheet.moves ≡ 1) }
-{
+/// A turn row in which the order alone and perhaps the limits say something.
+fn turn_row(order: Order, least: u32, most: Option<u32>, active: Option<SpecId>) -> TurnRow {
+    TurnRow {
+        order,
+        min_moves: least,
+        max_moves: most,
+        active,
+    }
+}
+
+/// A phase without a follower.
+fn make_phase(
+    alloc: Global,
+    name: &str,
+    start: bool,
+    turn: Option<TurnRow>,
+) -> Result<PhaseRow, NoMemory> {
+    Ok(PhaseRow {
+        name: Text::from_str(alloc, name)?,
+        start,
+        next: None,
+        moves: None,
+        turn,
+    })
+}
+
+/// Phases a, b and c, the first of them with its own turn if one is given, in which case a match begins in it.
+fn phases(alloc: Global, first: Option<TurnRow>) -> Result<List<PhaseRow>, NoMemory> {
+    let mut rows = List::new(alloc);
+    rows.push(make_phase(alloc, "a", first.is_some(), first)?)?;
+    rows.push(make_phase(alloc, "b", false, None)?)?;
+    rows.push(make_phase(alloc, "c", false, None)?)?;
+    Ok(rows)
+}
+
+/// A spec that puts the current seat on the map without a stage, or the others into the first stage, for one move.
+fn make_spec(alloc: Global, current: bool, next: Option<SpecId>) -> SpecRow {
+    let at_stage = Place {
+        stage: Some(StageId::at(0)),
+    };
+    SpecRow {
+        current: if current {
+            Some(Place { stage: None })
+        } else {
+            None
+        },
+        others: if current { None } else { Some(at_stage) },
+        all: None,
+        value: List::new(alloc),
+        min_moves: 0,
+        max_moves: Some(1),
+        revert: false,
+        next,
+    }
+}
+
+/// The sheet of a game with one move and one stage.
+fn make_sheet(
+    alloc: Global,
+    seats: u8,
+    turn: TurnRow,
+    phases: List<PhaseRow>,
+    specs: List<SpecRow>,
+) -> Result<Sheet, NoMemory> {
     let mut moves = List::new(alloc);
     moves.push(MoveRow {
-        name: Text::from_str(alloc, "take")?,
+        name: Text::from_str(alloc, "go")?,
         redact: false,
         client: true,
         no_limit: false,
         ignore_stale: false,
     })?;
-    Ok(Pile {
-        sheet: Sheet {
-            name: Text::from_str(alloc, "pile")?,
-            min_seats: 2,
-            max_seats: 2,
-            moves,
-            base: List::from_slice(alloc, &[MoveId::at(0)])?,
-            turn: TurnRow {
-                order: Order::Default,
-                min_moves: 1,
-                max_moves: Some(1),
-                active: None,
-            },
-            phases: List::new(alloc),
-            stages: List::new(alloc),
-            specs: List::new(alloc),
-            events: List::new(alloc),
-        },
+    let mut stages = List::new(alloc);
+    stages.push(StageRow {
+        name: Text::from_str(alloc, "s")?,
+        next: None,
+        moves: None,
+    })?;
+    Ok(Sheet {
+        name: Text::from_str(alloc, "toy")?,
+        min_seats: seats,
+        max_seats: seats,
+        moves,
+        base: List::from_slice(alloc, &[MoveId::at(0)])?,
+        turn,
+        phases,
+        stages,
+        specs,
+        events: List::new(alloc),
     })
 }
 
-/// A match of two seats, through the trait's bound.
-fn opened<X: Game>(alloc: Global, game: &X) -> Result<State<X::G>, StartNo>
-    ensures sound { IfOk result (IsSound (X.rules game.now)) }
-    ensures number { IfOk result (λ s. s.number ≡ 0) }
-{
-    start(alloc, game, 2, &[0; 32])
+/// The game of a sheet that fits and has three phases and a stage.
+fn make_toy(sheet: Sheet, chained: bool, endless: bool) -> Option<Toy> {
+    if check_sheet(&sheet).is_err() || sheet.phases.len() < 3 || sheet.stages.len() < 1 {
+        return None;
+    }
+    Some(Toy {
+        sheet,
+        chained,
+        endless,
+    })
 }
 
-/// The state after a seat took a stone, through the trait's bound.
-fn taken<X: Game>(
+/// An action of a seat, through the trait's bound; a seat that may not act, and a move that isn't there, are `NotYours` here.
+fn acted<X: Game>(
     alloc: Global,
     game: &X,
     state: &State<X::G>,
     seat: Seat,
+    event: Option<Event>,
 ) -> Result<State<X::G>, GameNo>
-    requires room { state.now.number < 4096 }
     requires sound { IsSound (X.rules game.now) state.now }
-    requires moves { 0 < length (X.rules game.now).sheet.moves }
     ensures sound { IfOk result (IsSound (X.rules game.now)) }
-    ensures number { IfOk result (λ s. s.number ≡ state.now.number + 1) }
 {
-    let take = Act::Move {
-        id: MoveId::at(0),
-        args: Args::new(),
+    let sheet = game.sheet();
+    if state.number() >= 4096 || !is_active(state.ctx(), seat) || sheet.moves.len() == 0 {
+        return Err(GameNo::Broken(GameRule::NotYours));
+    }
+    let act = match event {
+        None => Act::Move {
+            id: MoveId::at(0),
+            args: Args::new(),
+        },
+        Some(Event::EndTurn { to }) => Act::Event(Event::EndTurn { to }),
+        Some(Event::EndStage) => Act::Event(Event::EndStage),
+        Some(_) => Act::Event(Event::EndPhase),
     };
-    step(alloc, game, state, seat, &take)
+    step(alloc, game, state, seat, &act)
 }
 
-/// The state after one move of each seat, through the trait's bound.
-fn after_a_round<X: Game>(alloc: Global, game: &X) -> Result<State<X::G>, Fail>
-    requires moves { 0 < length (X.rules game.now).sheet.moves }
+/// A match, through the trait's bound.
+fn opened<X: Game>(alloc: Global, game: &X, seats: u8) -> Result<State<X::G>, StartNo>
     ensures sound { IfOk result (IsSound (X.rules game.now)) }
-    ensures number { IfOk result (λ s. s.number ≡ 2) }
 {
-    let first = opened(alloc, game)?;
-    let second = taken(alloc, game, &first, 0)?;
-    let third = taken(alloc, game, &second, 1)?;
-    Ok(third)
+    start(alloc, game, seats, &[0; 32])
 }
 
-/// Whether the state shows this turn, current seat, place and count of moves, and so many stones.
-fn shows(state: &State<u32>, turn: u32, current: Seat, pos: u8, moves: u32, stones: u32) -> bool {
-    let ctx = state.ctx();
-    ctx.turn == turn
-        && ctx.current == current
-        && ctx.pos == pos
-        && ctx.moves == moves
-        && *state.g() == stones
+/// Whether the map is shown as this one row.
+fn shows_one(ctx: &Ctx, seat: Seat, stage: Option<StageId>) -> bool {
+    match &ctx.active {
+        None => false,
+        Some(rows) => match rows.as_slice() {
+            [row] => row.0 == seat && row.1 == stage,
+            _ => false,
+        },
+    }
+}
+
+/// Whether an answer is this refusal.
+fn is_refused(answer: &Result<State<u32>, GameNo>, rule: GameRule) -> bool {
+    match answer {
+        Err(GameNo::Broken(broken)) => *broken == rule,
+        _ => false,
+    }
 }
 
 #[test]
-fn a_match_goes_from_its_start_to_its_end(rt: HostRuntime) -> Result<(), Fail> {
+fn chained_phases(rt: HostRuntime) -> Result<(), Fail> {
     let alloc = rt.alloc();
-    let game = make_pile(alloc)?;
-    let round = after_a_round(alloc, &game)?;
-    assert!(rt; shows(&round, 3, 0, 0, 0, 1));
-    let last = taken(alloc, &game, &round, 0)?;
-    assert!(rt; shows(&last, 3, 0, 0, 1, 0));
-    assert!(rt; matches!(last.ctx().over, Some(Outcome::Draw)));
+    let once = turn_row(Order::Once, 0, Some(1), None);
+    let plain = turn_row(Order::Default, 0, None, None);
+    let rows = phases(alloc, Some(once))?;
+    let game = make_toy(
+        make_sheet(alloc, 3, plain, rows, List::new(alloc))?,
+        true,
+        false,
+    )
+    .ok_or("sheet")?;
+    let first = opened(alloc, &game, 3)?;
+    let second = acted(alloc, &game, &first, 0, None)?;
+    let third = acted(alloc, &game, &second, 1, None)?;
+    let last = acted(alloc, &game, &third, 2, None)?;
+    let ctx = last.ctx();
+    assert!(rt; ctx.phase == Some(PhaseId::at(1)));
+    assert!(rt; ctx.turn == 6 && ctx.current == 2 && ctx.pos == 2 && ctx.moves == 0);
+    assert!(rt; shows_one(ctx, 2, Some(StageId::at(0))));
     assert!(rt; last.number() == 3);
     Ok(())
 }
 
 #[test]
-fn broken_rules_are_named(rt: HostRuntime) -> Result<(), Fail> {
+fn endless_phases(rt: HostRuntime) -> Result<(), Fail> {
     let alloc = rt.alloc();
-    let game = make_pile(alloc)?;
+    let plain = turn_row(Order::Default, 0, None, None);
+    let rows = phases(alloc, None)?;
+    let game = make_toy(
+        make_sheet(alloc, 2, plain, rows, List::new(alloc))?,
+        false,
+        true,
+    )
+    .ok_or("sheet")?;
+    let first = opened(alloc, &game, 2)?;
+    let refused = acted(alloc, &game, &first, 0, None);
+    assert!(rt; is_refused(&refused, GameRule::TooManyEvents));
+    assert!(rt; first.number() == 0 && *first.g() == 0 && first.place() == 0);
+    Ok(())
+}
+
+#[test]
+fn a_spec_with_a_follower(rt: HostRuntime) -> Result<(), Fail> {
+    let alloc = rt.alloc();
+    let turn = turn_row(Order::Default, 0, None, Some(SpecId::at(0)));
+    let mut specs = List::new(alloc);
+    specs.push(make_spec(alloc, true, Some(SpecId::at(1))))?;
+    specs.push(make_spec(alloc, false, None))?;
+    let game = make_toy(
+        make_sheet(alloc, 2, turn, phases(alloc, None)?, specs)?,
+        false,
+        false,
+    )
+    .ok_or("sheet")?;
+    let first = opened(alloc, &game, 2)?;
+    assert!(rt; shows_one(first.ctx(), 0, None));
+    let second = acted(alloc, &game, &first, 0, None)?;
+    assert!(rt; shows_one(second.ctx(), 1, Some(StageId::at(0))));
+    let last = acted(alloc, &game, &second, 1, None)?;
+    assert!(rt; last.ctx().active.is_none() && last.ctx().moves == 1);
+    Ok(())
+}
+
+#[test]
+fn events_of_players(rt: HostRuntime) -> Result<(), Fail> {
+    let alloc = rt.alloc();
+    let turn = turn_row(Order::Default, 1, Some(2), None);
+    let rows = phases(alloc, None)?;
+    let game = make_toy(
+        make_sheet(alloc, 2, turn, rows, List::new(alloc))?,
+        false,
+        false,
+    )
+    .ok_or("sheet")?;
+    let first = opened(alloc, &game, 2)?;
+    let early = acted(alloc, &game, &first, 0, Some(Event::EndTurn { to: None }));
+    assert!(rt; is_refused(&early, GameRule::TooEarly));
+    let nobody = acted(
+        alloc,
+        &game,
+        &first,
+        0,
+        Some(Event::EndTurn { to: Some(2) }),
+    );
+    assert!(rt; is_refused(&nobody, GameRule::InvalidMove));
+    let no_phase = acted(alloc, &game, &first, 0, Some(Event::EndPhase));
+    assert!(rt; is_refused(&no_phase, GameRule::InvalidMove));
+    let no_stage = acted(alloc, &game, &first, 0, Some(Event::EndStage));
+    assert!(rt; is_refused(&no_stage, GameRule::InvalidMove));
+    let moved = acted(alloc, &game, &first, 0, None)?;
+    let passed = acted(alloc, &game, &moved, 0, Some(Event::EndTurn { to: None }))?;
+    let ctx = passed.ctx();
+    assert!(rt; ctx.turn == 2 && ctx.current == 1 && ctx.moves == 0);
+    let third = acted(alloc, &game, &passed, 1, None)?;
+    let last = acted(alloc, &game, &third, 1, None)?;
+    assert!(rt; last.ctx().turn == 3 && last.ctx().current == 0 && last.number() == 4);
+    Ok(())
+}
+
+#[test]
+fn seats_out_of_bounds(rt: HostRuntime) -> Result<(), Fail> {
+    let alloc = rt.alloc();
+    let plain = turn_row(Order::Default, 0, None, None);
+    let rows = phases(alloc, None)?;
+    let game = make_toy(
+        make_sheet(alloc, 2, plain, rows, List::new(alloc))?,
+        false,
+        false,
+    )
+    .ok_or("sheet")?;
     for seats in [0, 1, 3, 255] {
-        assert!(rt; matches!(start(alloc, &game, seats, &[0; 32]), Err(StartNo::BadSeats)));
+        assert!(rt; matches!(opened(alloc, &game, seats), Err(StartNo::BadSeats)));
     }
-    let first = opened(alloc, &game)?;
-    let refused = step(alloc, &game, &first, 0, &Act::Event(Event::EndPhase));
-    assert!(rt; matches!(refused, Err(GameNo::Broken(GameRule::InvalidMove))));
     Ok(())
 }

@@ -3,6 +3,8 @@
 
 mod play_order;
 mod position;
+#[cfg(test)]
+mod tests;
 
 pub use play_order::{all_seats, list_from};
 pub use position::{first, next};

@@ -30,11 +30,8 @@ pub fn next(order: &Order, pos: u8, len: u8) -> Option<u8>
     match order {
         Order::Once if pos + 1 == len => None,
         Order::Once => Some(pos + 1),
-        Order::Default
-        | Order::Reset
-        | Order::Continue
-        | Order::Custom(_)
-        | Order::CustomFrom => Some(after(pos, len)),
+        Order::Default | Order::Reset | Order::Continue | Order::Custom(_) | Order::CustomFrom =>
+            Some(after(pos, len)),
     }
 }
 

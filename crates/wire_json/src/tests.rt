@@ -8,7 +8,7 @@ use crate::{
 };
 use game_sheet::{
     Act, Args, Event, EventKind, Key, List, MatchName, MoveRow, NoMemory, Order, Outcome, PhaseRow,
-    Sheet, StageRow, Text, TurnRow,
+    Sheet, StageRow, Text, TurnRow, check_sheet,
 };
 use json_tree::{FieldFault, LineFault, Tree, contains_float};
 use serde_json::Value;
@@ -335,7 +335,7 @@ fn lines_to_clients_are_written_and_read_back(rt: HostRuntime) -> Result<(), Fai
     Ok(())
 }
 
-fn little_sheet(alloc: Global) -> Result<Sheet, NoMemory>
+fn little_sheet(alloc: Global) -> Result<Sheet, Fail>
     ensures { IfOk result (λ sheet. SheetFits sheet) }
 {
     let mut moves = List::new(alloc);
@@ -366,7 +366,7 @@ fn little_sheet(alloc: Global) -> Result<Sheet, NoMemory>
         max_moves: None,
         active: None,
     };
-    Ok(Sheet {
+    let sheet = Sheet {
         name: Text::from_str(alloc, "little")?,
         min_seats: 2,
         max_seats: 2,
@@ -377,7 +377,9 @@ fn little_sheet(alloc: Global) -> Result<Sheet, NoMemory>
         stages,
         specs: List::new(alloc),
         events: List::new(alloc),
-    })
+    };
+    check_sheet(&sheet)?;
+    Ok(sheet)
 }
 
 #[test]

@@ -1,25 +1,34 @@
 -- Each answer is one turn of the settling of the present table, by the invariant the same as the whole.
-use Rattle.std.proofs.Common.{◌≡◌, ◌-◌, suc, arith, ◌∙◌, ap}
-use Rattle.phase_flow.specs.Settle.{settle}
-use Rattle.phase_flow.proofs.Settling.{settle_done, settle_full, settle_begun}
+use Rattle.std.proofs.Common.{◌≡◌, ◌-◌, suc, arith, rules, ◌∙◌, sym}
+use Rattle.game_trait.specs.Rules.{Rules}
+use Rattle.phase_flow.specs.Settle.{run, settle}
+use Rattle.phase_flow.specs.Step.{Step}
+use Rattle.phase_flow.proofs.Settling.{settle_done, settle_full, settle_begun, fails_on, goes_on}
 use Rattle.phase_flow.proofs.settle.settle.Goals as goal
 
 pub returns-in_default-clause-answer : goal.returns-in_default-clause-answer
 returns-in_default-clause-answer g c =
-    settle_done (g.X.Game.rules c.args.game.now) c.tasks.left c.tasks.table c.in_default.ensures ∙ c.tasks.invariant.same
+    sym c.tasks.invariant.same ∙ settle_done (g.X.Game.rules c.args.game.now) c.tasks.left c.tasks.table c.tasks.tape.left c.tasks.tasks c.tasks.after c.in_default.ensures
 
 pub returns-then-left-eq0-clause-answer : goal.returns-then-left-eq0-clause-answer
 returns-then-left-eq0-clause-answer g c =
-    settle_full (g.X.Game.rules c.args.game.now) c.tasks.left c.tasks.table c.in-Some.task c.if-left-eq0.true c.in-Some.ensures ∙ c.tasks.invariant.same
+    sym c.tasks.invariant.same
+    ∙ settle_full (g.X.Game.rules c.args.game.now) c.tasks.left c.tasks.table c.tasks.tape.left c.tasks.tasks c.tasks.after _ _ c.if-left-eq0.true c.in-Some.ensures.0 c.in-Some.ensures.1
+
+pub returns-in-Err-clause-answer : goal.returns-in-Err-clause-answer
+returns-in-Err-clause-answer g c =
+    fails_on c.in-Err.why _ _ (settle (g.X.Game.rules c.args.game.now) (c.tasks.left - 1)) c.in-Err.ensures.ran
+    (sym c.tasks.invariant.same
+    ∙ settle_begun (g.X.Game.rules c.args.game.now) c.tasks.left (c.tasks.left - 1) c.tasks.table c.tasks.tape.left c.tasks.tasks c.tasks.after c.in-Some.task _ (omega arith) c.in-Some.ensures.0 c.in-Some.ensures.1)
 
 pub tasks-preserved : goal.tasks-preserved
 tasks-preserved g c = record {
-  same = (let one : c.tasks.left ≡ suc (c.tasks.left - 1) = omega arith in
-      ap (λ ctx. settle (g.X.Game.rules c.args.game.now) (c.tasks.left - 1) (record c.tasks.table { ctx = ctx })) c.run.ensures.value
-      ∙ settle_begun (g.X.Game.rules c.args.game.now) c.tasks.left (c.tasks.left - 1) c.tasks.table c.in-Some.task one c.in-Some.ensures
+  same =
+      (goes_on _ _ (settle (g.X.Game.rules c.args.game.now) (c.tasks.left - 1)) c.run.new.table c.run.new.tape.left c.run.new.tasks c.in-Ok.put c.in-Ok.ensures.ran
+      (settle_begun (g.X.Game.rules c.args.game.now) c.tasks.left (c.tasks.left - 1) c.tasks.table c.tasks.tape.left c.tasks.tasks c.tasks.after c.in-Some.task _ (omega arith) c.in-Some.ensures.0 c.in-Some.ensures.1)
       ∙ c.tasks.invariant.same);
   few = omega arith;
-  placed = c.run.ensures.placed (g.X.Game.rules c.args.game.now).sheet c.tasks.invariant.placed;
-  turn = omega arith;
-  moves = omega arith;
+  turn = omega (arith, c.in-Ok.ensures.goes.turn);
+  placed = c.in-Ok.ensures.goes.placed;
+  follows = search rules;
 }
