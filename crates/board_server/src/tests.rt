@@ -74,9 +74,19 @@ fn a_match_is_won(rt: HostRuntime) -> Result<(), Fail> {
 
 #[test]
 fn turns_of_countdown_end_by_moves_and_by_themselves(rt: HostRuntime) -> Result<(), Fail> {
-    let (exit, printed) = played(rt.alloc(), countdown::SCRIPT, &[], &[])?;
+    let (exit, printed) = played(rt.alloc(), countdown::TURNS, &[], &[])?;
     assert_eq!(rt; exit, Exit::Done);
-    assert_eq!(rt; printed.as_slice(), countdown::TRANSCRIPT);
+    assert_eq!(rt; printed.as_slice(), countdown::TURNS_TRANSCRIPT);
+    Ok(())
+}
+
+/// A script's match has the seed 76b8e0ada0f13d90405d6ae55386bd28bdd219b8a08ded1aa836efcc8b770dc7, by which ChaCha20 gives
+/// the faces 3 and 2 first.
+#[test]
+fn wild_takes_are_rolled_by_the_seed_of_the_match(rt: HostRuntime) -> Result<(), Fail> {
+    let (exit, printed) = played(rt.alloc(), countdown::WILD, &[], &[])?;
+    assert_eq!(rt; exit, Exit::Done);
+    assert_eq!(rt; printed.as_slice(), countdown::WILD_TRANSCRIPT);
     Ok(())
 }
 

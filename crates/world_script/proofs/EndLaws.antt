@@ -5,7 +5,8 @@ use Rattle.board_links.specs.Pieces.{told_bytes}
 use Rattle.match_master.specs.Held.{Held, StandsFor}
 use Rattle.match_master.specs.declared.call.RoomCall.{RoomCall}
 use Rattle.room_desk.specs.Entry.{Entry}
-use Rattle.any_game.specs.AnyRules.{AnyG, any_rules}
+use Rattle.any_game.specs.AnyRules.{any_rules}
+use Rattle.any_game.specs.declared.any_g.AnyG.{AnyG}
 use Rattle.any_game.specs.GameKind.{GameKind}
 use Rattle.world_script.specs.Reading.{Raises, given_after, StandsAt, Moves}
 use Rattle.world_script.specs.Running.{Ends, ExitRaises, RanLine, RanRaises, StopsEarly, stop_at, end_at}
@@ -69,13 +70,13 @@ module _ (bytes before : List ℕ) (book : Held GameKind AnyG) (stage : Stage) (
   stop_ends held u next.Line line reader' left' exit now m s g e = absurd (no_exit exit e)
   stop_ends held u next.End line reader' left' exit now m s g e =
       subst (λ x. Ends bytes left' before held x) (exit_is Done exit e)
-        (ends_whole bytes before book stage given reader left (to_come reader left) held u left' (none_after (Some next.End) line reader reader' left left' reader.ended refl m u.read.at_end s) m.lines.0)
+      (ends_whole bytes before book stage given reader left (to_come reader left) held u left' (none_after (Some next.End) line reader reader' left left' reader.ended refl m u.read.at_end s) m.lines.0)
   stop_ends held u next.TooLong line reader' left' exit now m s g e =
       subst (λ x. Ends bytes left' before held x) (ap (λ n. BadLine (n + 1)) (sym g) ∙ exit_is (BadLine (now + 1)) exit e)
-        (ends_at bytes before book stage given reader left (to_come reader left) held u TooLong m.lines.0)
+      (ends_at bytes before book stage given reader left (to_come reader left) held u TooLong m.lines.0)
   stop_ends held u next.TooMany line reader' left' exit now m s g e =
       subst (λ x. Ends bytes left' before held x) (ap (λ n. BadLine (n + 1)) (sym g) ∙ exit_is (BadLine (now + 1)) exit e)
-        (ends_at bytes before book stage given reader left (to_come reader left) held u TooMany m.lines.0)
+      (ends_at bytes before book stage given reader left (to_come reader left) held u TooMany m.lines.0)
   stop_ends held u next.ReadFault line reader' left' exit now m s g e =
       subst (λ x. Ends bytes left' before held x) (exit_is ReadFault exit e) (stops_at bytes before book stage given reader left (to_come reader left) held u line reader' left' m s.0 s.1)
   stop_ends held u next.NoMemory line reader' left' exit now m s g e =
@@ -88,13 +89,13 @@ module _ (bytes before : List ℕ) (book : Held GameKind AnyG) (stage : Stage) (
       → RanLine u.h stage line book' after_stage (told_bytes held) after r → now ≡ given + 1 → end_at r now ≡ Some exit → Ends bytes left' before after exit
   end_ends line rest held u left' book' after_stage after ran.Done exit now l g e = absurd (no_exit exit e)
   end_ends line rest held u left' book' after_stage after ran.BadLine exit now l g e =
-    subst (λ x. Ends bytes left' before after x) (ap BadLine (sym g) ∙ exit_is (BadLine now) exit e)
-        (subst (λ h. Ends bytes left' before h (BadLine (given + 1))) (same_held (first_line line rest) held u after l.1) (ends_bad bytes before book stage given reader left line rest held u l.0))
+      subst (λ x. Ends bytes left' before after x) (ap BadLine (sym g) ∙ exit_is (BadLine now) exit e)
+      (subst (λ h. Ends bytes left' before h (BadLine (given + 1))) (same_held (first_line line rest) held u after l.1) (ends_bad bytes before book stage given reader left line rest held u l.0))
   end_ends line rest held u left' book' after_stage after ran.WriteFault exit now l g e =
       subst (λ x. Ends bytes left' before after x) (exit_is WriteFault exit e) (breaks bytes before book stage given reader left line rest held u after l)
   end_ends line rest held u left' book' after_stage after ran.NoMemory exit now l g e =
-    subst (λ x. Ends bytes left' before after x) (exit_is NoMemory exit e)
-        (subst (λ h. Ends bytes left' before h NoMemory) (same_held (first_line line rest) held u after l) (stops bytes before book stage given reader left (first_line line rest) held u))
+      subst (λ x. Ends bytes left' before after x) (exit_is NoMemory exit e)
+      (subst (λ h. Ends bytes left' before h NoMemory) (same_held (first_line line rest) held u after l) (stops bytes before book stage given reader left (first_line line rest) held u))
 
   -- the first line that is left, read and then run
   pub line_ends : (held : Option (List ℕ)) (u : Underway bytes before book stage given reader left (to_come reader left) held) (n : Next) (count : ℕ) (line : List ℕ) (reader' : Reader) (left' : List ℕ)

@@ -1,7 +1,8 @@
 -- What each line makes of a run, and how a run ends.
 use Rattle.std.proofs.Common.{◌≡◌, ◌+◌, ℕ, zero, suc, false, List, [], ◌∷◌, ◌++◌, take, drop, Option, Some, None, refl, sym, ap, ◌∙◌, append_assoc, append-nil}
 use Rattle.match_master.specs.Held.{Held, StandsFor}
-use Rattle.any_game.specs.AnyRules.{AnyG, any_rules}
+use Rattle.any_game.specs.AnyRules.{any_rules}
+use Rattle.any_game.specs.declared.any_g.AnyG.{AnyG}
 use Rattle.any_game.specs.GameKind.{GameKind}
 use Rattle.board_links.specs.Pieces.{told_bytes}
 use Rattle.world_script.specs.Forms.{step_of, stage_after}

@@ -4,7 +4,8 @@ use Rattle.std.proofs.lemmas.Bool.{true≢false}
 use Rattle.match_master.specs.declared.call.RoomCall.{RoomCall}
 use Rattle.match_master.specs.Held.{Held, StandsFor}
 use Rattle.room_desk.specs.Entry.{Entry}
-use Rattle.any_game.specs.AnyRules.{AnyG, any_rules}
+use Rattle.any_game.specs.AnyRules.{any_rules}
+use Rattle.any_game.specs.declared.any_g.AnyG.{AnyG}
 use Rattle.any_game.specs.GameKind.{GameKind}
 use Rattle.world_script.specs.Reader.{Reader, fresh, whole_to_come}
 use Rattle.world_script.specs.Reading.{Moves}

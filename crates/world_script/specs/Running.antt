@@ -1,6 +1,7 @@
 -- How a run of a script ends, beside the script that was read and the bytes that the sink held before and holds after.
 use Rattle.std.specs.Prelude.{◌≡◌, ◌+◌, ℕ, Bool, false, IsSome, List, [], ◌++◌, take, Option, Some, None}
-use Rattle.any_game.specs.AnyRules.{AnyG, any_rules}
+use Rattle.any_game.specs.AnyRules.{any_rules}
+use Rattle.any_game.specs.declared.any_g.AnyG.{AnyG}
 use Rattle.any_game.specs.GameKind.{GameKind}
 use Rattle.board_links.specs.Faults.{HasRisen}
 use Rattle.room_desk.specs.Entry.{Entry}
