@@ -1,8 +1,9 @@
 .PHONY: demo test
 
-# Plays the example match and prints its transcript. The first time it proves and builds the program and what it stands on.
+# Plays the example matches and prints their transcripts. The first time it proves and builds the program and what it stands on.
 demo:
 	@cd crates/board_server && rt run -- script < ../../examples/tic-tac-toe.script
+	@cd crates/board_server && rt run -- script < ../../examples/countdown.script
 
 test:
 	rt ci

@@ -2,7 +2,6 @@
 
 ghost use Rattle.std.specs.Prelude.{◌≡◌, ◌≤◌, IsSome, true, false};
 ghost use Rattle.board_links.specs.Pieces.{told_bytes};
-ghost use Rattle.table_games.specs.declared.tic_tac_toe.TicTacToe.{TicTacToe as Playing};
 ghost use Rattle.world_script.specs.Running.{Ends, ExitRaises};
 ghost use Rattle.world_script.specs.declared.exit.Exit.TheVariants.{Usage};
 ghost use Rattle.board_server.specs.Words.{asks_script, status};
@@ -28,7 +27,7 @@ pub fn run<S: Source, K: Sink>(
     ensures untouched_sink { asks_script words.now ≡ false → sink.new ≡ sink.old }
     ensures raises { asks_script words.now ≡ true → ExitRaises result (S.faults source.old) (S.faults source.new) (K.faults sink.old) (K.faults sink.new) }
     ensures ends { asks_script words.now ≡ true → IsSome (S.left source.old) → IsSome (K.held sink.old)
-        → (game : Playing) × Ends game (told_bytes (S.left source.old)) (told_bytes (S.left source.new)) (told_bytes (K.held sink.old)) (K.held sink.new) result }
+        → Ends (told_bytes (S.left source.old)) (told_bytes (S.left source.new)) (told_bytes (K.held sink.old)) (K.held sink.new) result }
 {
     if is_script(words) {
         run_script(alloc, source, sink)

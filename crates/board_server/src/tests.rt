@@ -1,5 +1,6 @@
 //! Runs in memory.
 
+mod countdown;
 mod win;
 
 use crate::run::{run, status};
@@ -68,6 +69,74 @@ fn a_match_is_won(rt: HostRuntime) -> Result<(), Fail> {
     let (exit, printed) = played(rt.alloc(), win::SCRIPT, &[], &[])?;
     assert_eq!(rt; exit, Exit::Done);
     assert_eq!(rt; printed.as_slice(), win::TRANSCRIPT);
+    Ok(())
+}
+
+#[test]
+fn turns_of_countdown_end_by_moves_and_by_themselves(rt: HostRuntime) -> Result<(), Fail> {
+    let (exit, printed) = played(rt.alloc(), countdown::TURNS, &[], &[])?;
+    assert_eq!(rt; exit, Exit::Done);
+    assert_eq!(rt; printed.as_slice(), countdown::TURNS_TRANSCRIPT);
+    Ok(())
+}
+
+/// A script's match has the seed 76b8e0ada0f13d90405d6ae55386bd28bdd219b8a08ded1aa836efcc8b770dc7, by which ChaCha20 gives
+/// the faces 3 and 2 first.
+#[test]
+fn wild_takes_are_rolled_by_the_seed_of_the_match(rt: HostRuntime) -> Result<(), Fail> {
+    let (exit, printed) = played(rt.alloc(), countdown::WILD, &[], &[])?;
+    assert_eq!(rt; exit, Exit::Done);
+    assert_eq!(rt; printed.as_slice(), countdown::WILD_TRANSCRIPT);
+    Ok(())
+}
+
+#[test]
+fn a_game_is_opened_by_its_name_for_seats_that_it_allows(rt: HostRuntime) -> Result<(), Fail> {
+    let alloc = rt.alloc();
+    let opens: [&[u8]; 4] = [
+        b"open tic-tac-toe 2",
+        b"open countdown 2",
+        b"open countdown 3",
+        b"open countdown 4",
+    ];
+    for script in opens {
+        let (exit, printed) = played(alloc, script, &[], &[])?;
+        assert_eq!(rt; exit, Exit::Done);
+        assert_eq!(rt; printed.as_slice(), b"open 0-1\n".as_slice());
+    }
+    let others: [&[u8]; 6] = [
+        b"open countdown 1",
+        b"open countdown 5",
+        b"open tic-tac-toe 3",
+        b"open Countdown 2",
+        b"open count 2",
+        b"open \xff 2",
+    ];
+    for script in others {
+        let (exit, printed) = played(alloc, script, &[], &[])?;
+        assert_eq!(rt; exit, Exit::BadLine { line: 1 });
+        assert_eq!(rt; printed.as_slice(), b"".as_slice());
+    }
+    Ok(())
+}
+
+#[test]
+fn a_session_has_the_seat_of_its_number_and_syncs_before_it_acts(
+    rt: HostRuntime,
+) -> Result<(), Fail> {
+    let alloc = rt.alloc();
+    let others: [&[u8]; 5] = [
+        b"open countdown 2\ns2 {\"key\":\"00000000000000000000000000000002\",\"match\":\"0-1\",\"seat\":2,\"type\":\"sync\"}",
+        b"open countdown 2\ns0 {\"key\":\"00000000000000000000000000000001\",\"match\":\"0-1\",\"seat\":1,\"type\":\"sync\"}",
+        b"open countdown 2\ns0 {\"act\":{\"args\":[3],\"kind\":\"move\",\"move\":\"take\"},\"key\":\"00000000000000000000000000000000\",\"match\":\"0-1\",\"number\":0,\"ticket\":1,\"type\":\"act\"}",
+        b"open countdown 2\nt0",
+        b"open countdown 2\nopen countdown 2",
+    ];
+    for script in others {
+        let (exit, printed) = played(alloc, script, &[], &[])?;
+        assert_eq!(rt; exit, Exit::BadLine { line: 2 });
+        assert_eq!(rt; printed.as_slice(), b"open 0-1\n".as_slice());
+    }
     Ok(())
 }
 

@@ -11,7 +11,7 @@ use crate::{Game, Halt, HookHalt};
 use dice_words::Tape;
 use game_sheet::{
     Args, Crowded, Ctx, Event, EventQueue, List, MoveId, MoveRow, NoMemory, Order, Outcome,
-    PhaseId, Seat, Sheet, Text, TurnRow,
+    PhaseId, Seat, Sheet, Text, TurnRow, check_sheet,
 };
 use serde_json::Value;
 use std::alloc::Global;
@@ -195,12 +195,8 @@ impl Game for Pot {
     }
 }
 
-/// The game with two moves for one seat.
-fn make_pot(alloc: Global) -> Result<Pot, NoMemory>
-    ensures moves { IfOk result (λ pot. length pot.sheet.moves ≡ 2) }
-    ensures least { IfOk result (λ pot. pot.sheet.min_seats ≡ 1) }
-    ensures most { IfOk result (λ pot. pot.sheet.max_seats ≡ 1) }
-{
+/// A sheet with two moves for one seat.
+fn make_sheet(alloc: Global) -> Result<Sheet, NoMemory> {
     let mut moves = List::new(alloc);
     moves.push(make_move(alloc, "roll")?)?;
     moves.push(make_move(alloc, "queue")?)?;
@@ -210,20 +206,26 @@ fn make_pot(alloc: Global) -> Result<Pot, NoMemory>
         max_moves: None,
         active: None,
     };
-    Ok(Pot {
-        sheet: Sheet {
-            name: Text::from_str(alloc, "pot")?,
-            min_seats: 1,
-            max_seats: 1,
-            moves,
-            base: List::new(alloc),
-            turn,
-            phases: List::new(alloc),
-            stages: List::new(alloc),
-            specs: List::new(alloc),
-            events: List::new(alloc),
-        },
+    Ok(Sheet {
+        name: Text::from_str(alloc, "pot")?,
+        min_seats: 1,
+        max_seats: 1,
+        moves,
+        base: List::new(alloc),
+        turn,
+        phases: List::new(alloc),
+        stages: List::new(alloc),
+        specs: List::new(alloc),
+        events: List::new(alloc),
     })
+}
+
+/// The game of a sheet that fits.
+fn make_pot(sheet: Sheet) -> Option<Pot> {
+    match check_sheet(&sheet) {
+        Ok(()) => Some(Pot { sheet }),
+        Err(_) => None,
+    }
 }
 
 /// An ordinary move.
@@ -253,11 +255,13 @@ fn first_turn(alloc: Global) -> Ctx {
 }
 
 /// How a move that queues so many events halts on a first state, if it does, through the trait's bound.
-fn halt_of<X: Game>(game: &X, alloc: Global, count: i32) -> Result<Option<Halt>, HookHalt>
-    requires moves { 1 < length (X.rules game.now).sheet.moves }
-    requires least { (X.rules game.now).sheet.min_seats ≤ 1 }
-    requires most { 1 ≤ (X.rules game.now).sheet.max_seats }
-{
+///
+/// A game that isn't for one seat with two moves gives no state here.
+fn halt_of<X: Game>(game: &X, alloc: Global, count: i32) -> Result<Option<Halt>, HookHalt> {
+    let sheet = game.sheet();
+    if sheet.min_seats > 1 || sheet.max_seats < 1 || sheet.moves.len() < 2 {
+        return Err(HookHalt::NoMemory);
+    }
     let mut args = Args::new();
     args.push(count);
     let mut tape = Tape::blank();
@@ -280,7 +284,7 @@ fn halt_of<X: Game>(game: &X, alloc: Global, count: i32) -> Result<Option<Halt>,
 #[test]
 fn a_seventeenth_event_is_one_too_many(rt: HostRuntime) -> Result<(), Fail> {
     let alloc = rt.alloc();
-    let game = make_pot(alloc)?;
+    let game = make_pot(make_sheet(alloc)?).ok_or("sheet")?;
     assert!(rt; halt_of(&game, alloc, 16)?.is_none());
     assert!(rt; matches!(halt_of(&game, alloc, 17)?, Some(Halt::Crowded)));
     assert!(rt; matches!(halt_of(&game, alloc, -1)?, Some(Halt::Invalid)));

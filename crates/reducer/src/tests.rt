@@ -182,7 +182,7 @@ fn turn_row(order: Order, least: u32, most: Option<u32>, active: Option<SpecId>)
 }
 
 /// A phase without a follower.
-fn phase(
+fn make_phase(
     alloc: Global,
     name: &str,
     start: bool,
@@ -200,14 +200,14 @@ fn phase(
 /// Phases a, b and c, the first of them with its own turn if one is given, in which case a match begins in it.
 fn phases(alloc: Global, first: Option<TurnRow>) -> Result<List<PhaseRow>, NoMemory> {
     let mut rows = List::new(alloc);
-    rows.push(phase(alloc, "a", first.is_some(), first)?)?;
-    rows.push(phase(alloc, "b", false, None)?)?;
-    rows.push(phase(alloc, "c", false, None)?)?;
+    rows.push(make_phase(alloc, "a", first.is_some(), first)?)?;
+    rows.push(make_phase(alloc, "b", false, None)?)?;
+    rows.push(make_phase(alloc, "c", false, None)?)?;
     Ok(rows)
 }
 
 /// A spec that puts the current seat on the map without a stage, or the others into the first stage, for one move.
-fn spec(alloc: Global, current: bool, next: Option<SpecId>) -> SpecRow {
+fn make_spec(alloc: Global, current: bool, next: Option<SpecId>) -> SpecRow {
     let at_stage = Place {
         stage: Some(StageId::at(0)),
     };
@@ -228,7 +228,7 @@ fn spec(alloc: Global, current: bool, next: Option<SpecId>) -> SpecRow {
 }
 
 /// The sheet of a game with one move and one stage.
-fn sheet(
+fn make_sheet(
     alloc: Global,
     seats: u8,
     turn: TurnRow,
@@ -264,7 +264,7 @@ fn sheet(
 }
 
 /// The game of a sheet that fits and has three phases and a stage.
-fn toy(sheet: Sheet, chained: bool, endless: bool) -> Option<Toy> {
+fn make_toy(sheet: Sheet, chained: bool, endless: bool) -> Option<Toy> {
     if check_sheet(&sheet).is_err() || sheet.phases.len() < 3 || sheet.stages.len() < 1 {
         return None;
     }
@@ -334,7 +334,12 @@ fn chained_phases(rt: HostRuntime) -> Result<(), Fail> {
     let once = turn_row(Order::Once, 0, Some(1), None);
     let plain = turn_row(Order::Default, 0, None, None);
     let rows = phases(alloc, Some(once))?;
-    let game = toy(sheet(alloc, 3, plain, rows, List::new(alloc))?, true, false).ok_or("sheet")?;
+    let game = make_toy(
+        make_sheet(alloc, 3, plain, rows, List::new(alloc))?,
+        true,
+        false,
+    )
+    .ok_or("sheet")?;
     let first = opened(alloc, &game, 3)?;
     let second = acted(alloc, &game, &first, 0, None)?;
     let third = acted(alloc, &game, &second, 1, None)?;
@@ -352,7 +357,12 @@ fn endless_phases(rt: HostRuntime) -> Result<(), Fail> {
     let alloc = rt.alloc();
     let plain = turn_row(Order::Default, 0, None, None);
     let rows = phases(alloc, None)?;
-    let game = toy(sheet(alloc, 2, plain, rows, List::new(alloc))?, false, true).ok_or("sheet")?;
+    let game = make_toy(
+        make_sheet(alloc, 2, plain, rows, List::new(alloc))?,
+        false,
+        true,
+    )
+    .ok_or("sheet")?;
     let first = opened(alloc, &game, 2)?;
     let refused = acted(alloc, &game, &first, 0, None);
     assert!(rt; is_refused(&refused, GameRule::TooManyEvents));
@@ -365,10 +375,10 @@ fn a_spec_with_a_follower(rt: HostRuntime) -> Result<(), Fail> {
     let alloc = rt.alloc();
     let turn = turn_row(Order::Default, 0, None, Some(SpecId::at(0)));
     let mut specs = List::new(alloc);
-    specs.push(spec(alloc, true, Some(SpecId::at(1))))?;
-    specs.push(spec(alloc, false, None))?;
-    let game = toy(
-        sheet(alloc, 2, turn, phases(alloc, None)?, specs)?,
+    specs.push(make_spec(alloc, true, Some(SpecId::at(1))))?;
+    specs.push(make_spec(alloc, false, None))?;
+    let game = make_toy(
+        make_sheet(alloc, 2, turn, phases(alloc, None)?, specs)?,
         false,
         false,
     )
@@ -387,7 +397,12 @@ fn events_of_players(rt: HostRuntime) -> Result<(), Fail> {
     let alloc = rt.alloc();
     let turn = turn_row(Order::Default, 1, Some(2), None);
     let rows = phases(alloc, None)?;
-    let game = toy(sheet(alloc, 2, turn, rows, List::new(alloc))?, false, false).ok_or("sheet")?;
+    let game = make_toy(
+        make_sheet(alloc, 2, turn, rows, List::new(alloc))?,
+        false,
+        false,
+    )
+    .ok_or("sheet")?;
     let first = opened(alloc, &game, 2)?;
     let early = acted(alloc, &game, &first, 0, Some(Event::EndTurn { to: None }));
     assert!(rt; is_refused(&early, GameRule::TooEarly));
@@ -418,8 +433,8 @@ fn seats_out_of_bounds(rt: HostRuntime) -> Result<(), Fail> {
     let alloc = rt.alloc();
     let plain = turn_row(Order::Default, 0, None, None);
     let rows = phases(alloc, None)?;
-    let game = toy(
-        sheet(alloc, 2, plain, rows, List::new(alloc))?,
+    let game = make_toy(
+        make_sheet(alloc, 2, plain, rows, List::new(alloc))?,
         false,
         false,
     )

@@ -8,7 +8,7 @@ use crate::rows::make_ordinary;
 use dice_words::Tape;
 use game_sheet::{
     Args, Ctx, EventKind, EventQueue, List, MoveId, NoMemory, Order, Outcome, PhaseId, Seat, Sheet,
-    Text, TurnRow,
+    Text, TurnRow, unbroken,
 };
 use game_trait::{Game, Halt, HookHalt};
 use serde_json::Value;
@@ -48,8 +48,9 @@ impl Game for Countdown {
 
     ghost in_sheet = { λ _. countdown_in_sheet };
 
+    #[tactic(auto, unfolding(game_sheet::specs::SheetRules::broken))]
     fn sheet(&self) -> &Sheet {
-        &self.sheet
+        unbroken(&self.sheet)
     }
 
     fn setup(&self, alloc: Global, seats: u8, tape: &mut Tape) -> Result<Heap, HookHalt> {

@@ -45,6 +45,29 @@ impl Scores {
         })
     }
 
+    /// The scores of this pot and these totals.
+    pub fn of(pot: u32, totals: List<u32>) -> Self
+        requires { length totals ≤ 8 }
+        ensures { result ≡ record { pot = pot; totals = totals } }
+    {
+        Scores { pot, totals }
+    }
+
+    /// The points in the pot.
+    pub fn pot(&self) -> u32
+        ensures { result ≡ self.now.pot }
+    {
+        self.pot
+    }
+
+    /// The totals, seat by seat.
+    pub fn totals(&self) -> &[u32]
+        ensures value { result.now ≡ self.now.totals }
+        ensures most { length self.now.totals ≤ 8 }
+    {
+        self.totals.as_slice()
+    }
+
     /// Equal scores.
     pub fn copy(&self, alloc: Global) -> Result<Self, NoMemory>
         ensures { IfOk result (λ copied. copied ≡ self.now) }

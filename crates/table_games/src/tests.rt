@@ -3,6 +3,7 @@
 ghost use Rattle.std.specs.Prelude.{◌≡◌, ◌<◌, ◌≤◌, [], length};
 
 mod countdown;
+mod pig;
 mod tic_tac_toe;
 
 use dice_words::Tape;

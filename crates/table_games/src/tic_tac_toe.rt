@@ -9,7 +9,7 @@ use crate::rows::make_ordinary;
 use dice_words::Tape;
 use game_sheet::{
     Args, Ctx, EventQueue, List, MoveId, NoMemory, Order, Outcome, PhaseId, Seat, Sheet, Text,
-    TurnRow,
+    TurnRow, unbroken,
 };
 use game_trait::{Game, Halt, HookHalt};
 use serde_json::Value;
@@ -49,8 +49,9 @@ impl Game for TicTacToe {
 
     ghost in_sheet = { λ _. tic_tac_toe_in_sheet };
 
+    #[tactic(auto, unfolding(game_sheet::specs::SheetRules::broken))]
     fn sheet(&self) -> &Sheet {
-        &self.sheet
+        unbroken(&self.sheet)
     }
 
     fn setup(&self, alloc: Global, seats: u8, tape: &mut Tape) -> Result<Board, HookHalt> {

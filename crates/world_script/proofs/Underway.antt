@@ -1,16 +1,16 @@
 -- What a run of a script has come to, before its next line.
-use Rattle.std.proofs.Common.{◌≡◌, ℕ, true, false, List, [], ◌∷◌, ◌++◌, Option, Some, refl, sym, ap, ◌∙◌, append_assoc, append-nil}
+use Rattle.std.proofs.Common.{◌≡◌, ℕ, ◌+◌, true, false, List, [], ◌∷◌, ◌++◌, Option, Some, refl, sym, ap, ◌∙◌, append_assoc, append-nil}
 use Rattle.std.proofs.lemmas.Bool.{true≢false}
 use Rattle.match_master.specs.declared.call.RoomCall.{RoomCall}
 use Rattle.match_master.specs.Held.{Held, StandsFor}
 use Rattle.room_desk.specs.Entry.{Entry}
-use Rattle.table_games.specs.declared.board.Board.{Board}
-use Rattle.table_games.specs.declared.tic_tac_toe.TicTacToe.{TicTacToe}
+use Rattle.any_game.specs.AnyRules.{any_rules}
+use Rattle.any_game.specs.declared.any_g.AnyG.{AnyG}
+use Rattle.any_game.specs.GameKind.{GameKind}
 use Rattle.world_script.specs.Reader.{Reader, fresh, whole_to_come}
 use Rattle.world_script.specs.Reading.{Moves}
-use Rattle.world_script.specs.Running.{tic_tac_toe_rules, played}
-use Rattle.world_script.specs.ScriptLines.{Script, Ending, Ended, no_lines, no_whole_line, script, whole_lines, lines_from}
-use Rattle.world_script.specs.Transcript.{printed, bad_from, no_lines_yet}
+use Rattle.world_script.specs.ScriptLines.{Script, Ending, Ended, no_lines, first_line, no_whole_line, script, whole_lines, lines_from}
+use Rattle.world_script.specs.Transcript.{transcript, printed, bad_from, no_lines_yet}
 use Rattle.world_script.specs.declared.next.Next.TheVariants.{Line, ReadFault}
 use Rattle.world_script.specs.declared.stage.Stage.{Stage}
 use Rattle.world_script.proofs.Moving.{none_after}
@@ -28,18 +28,16 @@ pub record HasRead (bytes : List ℕ) (done : List (List ℕ)) (reader : Reader)
 
 -- the lines that were run, the history that they made, and what they added. Whatever lines are still to come, the transcript is
 -- what was added, and then what those print from here on.
-pub record Underway (bytes before : List ℕ) (book : Held TicTacToe Board) (hand : Option TicTacToe) (stage : Stage) (given : ℕ) (reader : Reader) (left : List ℕ) (rest : Script) (held : Option (List ℕ)) : Type 0 where
-  pub game : TicTacToe
-  pub h : List (Entry (RoomCall TicTacToe))
+pub record Underway (bytes before : List ℕ) (book : Held GameKind AnyG) (stage : Stage) (given : ℕ) (reader : Reader) (left : List ℕ) (rest : Script) (held : Option (List ℕ)) : Type 0 where
+  pub h : List (Entry (RoomCall GameKind))
   pub done : List (List ℕ)
   pub gained : List ℕ
-  pub stands : StandsFor tic_tac_toe_rules book h
-  pub at_hand : stage.opened ≡ false → hand ≡ Some game
+  pub stands : StandsFor any_rules book h
   pub read : HasRead bytes done reader left
   pub lines : (script bytes).lines ≡ done ++ rest.lines
   pub ending : (script bytes).ending ≡ rest.ending
   pub added : held ≡ Some (before ++ gained)
-  pub so_far : (more : List (List ℕ)) → played game (done ++ more) ≡ gained ++ printed tic_tac_toe_rules game more stage h
+  pub so_far : (more : List (List ℕ)) → transcript (done ++ more) ≡ gained ++ printed more stage h
   pub bad : (e : Ending) (more : List (List ℕ)) → bad_from e (done ++ more) no_lines_yet 0 ≡ bad_from e more stage given
 
 pub nothing_read : (bytes : List ℕ) → HasRead bytes [] fresh bytes

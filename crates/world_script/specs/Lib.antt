@@ -4,5 +4,6 @@ pub mod Reading
 pub mod Commands
 pub mod CommandIs
 pub mod Forms
+pub mod MatchSeed
 pub mod Transcript
 pub mod Running

@@ -1,11 +1,12 @@
 -- How a run of a script ends, beside the script that was read and the bytes that the sink held before and holds after.
 use Rattle.std.specs.Prelude.{◌≡◌, ◌+◌, ℕ, Bool, false, IsSome, List, [], ◌++◌, take, Option, Some, None}
-use Rattle.game_trait.specs.Rules.{Rules}
+use Rattle.any_game.specs.AnyRules.{any_rules}
+use Rattle.any_game.specs.declared.any_g.AnyG.{AnyG}
+use Rattle.any_game.specs.GameKind.{GameKind}
 use Rattle.board_links.specs.Faults.{HasRisen}
 use Rattle.room_desk.specs.Entry.{Entry}
 use Rattle.match_master.specs.declared.call.RoomCall.{RoomCall}
 use Rattle.match_master.specs.Held.{Held, StandsFor}
-use Rattle.table_games.specs.declared.board.Board.{Board}
 use Rattle.world_script.specs.Forms.{step_of, stage_after}
 use Rattle.world_script.specs.declared.stage.Stage.{Stage}
 use Rattle.world_script.specs.declared.stage.Step.{Step}
@@ -13,79 +14,68 @@ use Rattle.world_script.specs.declared.next.Next.{Next}
 use Rattle.world_script.specs.declared.next.Next.TheVariants as next
 use Rattle.world_script.specs.declared.script.Ran.{Ran}
 use Rattle.world_script.specs.declared.script.Ran.TheVariants as ran
-use Rattle.table_games.specs.TicTacToe.{tic_tac_toe}
-use Rattle.table_games.specs.declared.tic_tac_toe.TicTacToe.{TicTacToe}
 use Rattle.world_script.specs.ScriptLines.{Script, script, script_lines, whole_lines}
 use Rattle.world_script.specs.Transcript.{transcript, bad_line, says, entry_of, history_with}
 use Rattle.world_script.specs.declared.exit.Exit.{Exit}
 use Rattle.world_script.specs.declared.exit.Exit.TheVariants.{Done, Usage, ReadFault, WriteFault, BadLine, NoMemory}
 
--- the rules of the room in which a script is played
-abbrev pub tic_tac_toe_rules : TicTacToe → Rules Board
-tic_tac_toe_rules game = tic_tac_toe
-
--- the transcript of lines in a room of tic-tac-toe
-abbrev pub played : TicTacToe → List (List ℕ) → List ℕ
-played game lines = transcript tic_tac_toe_rules game lines
-
 -- the script was read to its end, each of its lines is in form, and its transcript was added
-pub record RunsToEnd (game : TicTacToe) (bytes left before : List ℕ) (after : Option (List ℕ)) : Type 0 where
+pub record RunsToEnd (bytes left before : List ℕ) (after : Option (List ℕ)) : Type 0 where
   pub all_read : left ≡ []
   pub no_bad_line : bad_line (script bytes) ≡ None
-  pub added : after ≡ Some (before ++ played game (script_lines bytes))
+  pub added : after ≡ Some (before ++ transcript (script_lines bytes))
 
 -- the source gave these first bytes and no more; each of their whole lines is in form, and what these print was added
-pub record StopsAtFault (game : TicTacToe) (bytes left before : List ℕ) (after : Option (List ℕ)) : Type 0 where
+pub record StopsAtFault (bytes left before : List ℕ) (after : Option (List ℕ)) : Type 0 where
   pub read : List ℕ
   pub first_part : bytes ≡ read ++ left
   pub no_bad_line : bad_line (whole_lines read) ≡ None
-  pub added : after ≡ Some (before ++ played game (whole_lines read).lines)
+  pub added : after ≡ Some (before ++ transcript (whole_lines read).lines)
 
 -- some first lines of the script were run, and no further one, and what they print was added
-pub record StopsEarly (game : TicTacToe) (s : Script) (before : List ℕ) (after : Option (List ℕ)) : Type 0 where
+pub record StopsEarly (s : Script) (before : List ℕ) (after : Option (List ℕ)) : Type 0 where
   pub done : List (List ℕ)
   pub rest : List (List ℕ)
   pub lines : s.lines ≡ done ++ rest
-  pub added : after ≡ Some (before ++ played game done)
+  pub added : after ≡ Some (before ++ transcript done)
 
 -- a first part of the transcript was added
-pub record BreaksOff (game : TicTacToe) (s : Script) (before : List ℕ) (after : Option (List ℕ)) : Type 0 where
+pub record BreaksOff (s : Script) (before : List ℕ) (after : Option (List ℕ)) : Type 0 where
   pub printed_bytes : List ℕ
   pub missing : List ℕ
-  pub whole : printed_bytes ++ missing ≡ played game s.lines
+  pub whole : printed_bytes ++ missing ≡ transcript s.lines
   pub added : after ≡ Some (before ++ printed_bytes)
 
 -- how a run ends, by the bytes that the source had left before it and has left after it
-abbrev pub Ends : TicTacToe → List ℕ → List ℕ → List ℕ → Option (List ℕ) → Exit → Type 0
-Ends game bytes left before after Done = RunsToEnd game bytes left before after
-Ends game bytes left before after (BadLine line) = (bad_line (script bytes) ≡ Some line) × (after ≡ Some (before ++ played game (script_lines bytes)))
-Ends game bytes left before after WriteFault = BreaksOff game (script bytes) before after
-Ends game bytes left before after ReadFault = StopsAtFault game bytes left before after
-Ends game bytes left before after NoMemory = StopsEarly game (script bytes) before after
-Ends game bytes left before after Usage = ⊥
+abbrev pub Ends : List ℕ → List ℕ → List ℕ → Option (List ℕ) → Exit → Type 0
+Ends bytes left before after Done = RunsToEnd bytes left before after
+Ends bytes left before after (BadLine line) = (bad_line (script bytes) ≡ Some line) × (after ≡ Some (before ++ transcript (script_lines bytes)))
+Ends bytes left before after WriteFault = BreaksOff (script bytes) before after
+Ends bytes left before after ReadFault = StopsAtFault bytes left before after
+Ends bytes left before after NoMemory = StopsEarly (script bytes) before after
+Ends bytes left before after Usage = ⊥
 
--- a line in form made its entry and printed what that says; the game is still at hand where no match is open
-pub record RanOn (game : TicTacToe) (h : List (Entry (RoomCall TicTacToe))) (stage : Stage) (line : List ℕ) (book : Held TicTacToe Board) (left : Option TicTacToe) (next : Stage) (held : List ℕ) (after : Option (List ℕ)) : Type 0 where
+-- a line in form made its entry and printed what that says
+pub record RanOn (h : List (Entry (RoomCall GameKind))) (stage : Stage) (line : List ℕ) (book : Held GameKind AnyG) (next : Stage) (held : List ℕ) (after : Option (List ℕ)) : Type 0 where
   pub step : Step
   pub in_form : step_of stage line ≡ Some step
   pub moved_on : next ≡ stage_after stage step
-  pub stands : StandsFor tic_tac_toe_rules book (history_with tic_tac_toe_rules game (entry_of tic_tac_toe_rules game step) h)
-  pub at_hand : next.opened ≡ false → left ≡ Some game
-  pub added : after ≡ Some (held ++ says tic_tac_toe_rules game step h)
+  pub stands : StandsFor any_rules book (history_with (entry_of step) h)
+  pub added : after ≡ Some (held ++ says step h)
 
 -- a line in form printed a first part of what it says
-pub record StoppedIn (game : TicTacToe) (h : List (Entry (RoomCall TicTacToe))) (stage : Stage) (line : List ℕ) (held : List ℕ) (after : Option (List ℕ)) : Type 0 where
+pub record StoppedIn (h : List (Entry (RoomCall GameKind))) (stage : Stage) (line : List ℕ) (held : List ℕ) (after : Option (List ℕ)) : Type 0 where
   pub step : Step
   pub in_form : step_of stage line ≡ Some step
   pub printed_bytes : ℕ
-  pub added : after ≡ Some (held ++ take printed_bytes (says tic_tac_toe_rules game step h))
+  pub added : after ≡ Some (held ++ take printed_bytes (says step h))
 
 -- what one line came to, after a history and with these bytes held
-abbrev pub RanLine : TicTacToe → List (Entry (RoomCall TicTacToe)) → Stage → List ℕ → Held TicTacToe Board → Option TicTacToe → Stage → List ℕ → Option (List ℕ) → Ran → Type 0
-RanLine game h stage line book left next held after ran.Done = RanOn game h stage line book left next held after
-RanLine game h stage line book left next held after ran.BadLine = (step_of stage line ≡ None) × (after ≡ Some held)
-RanLine game h stage line book left next held after ran.WriteFault = StoppedIn game h stage line held after
-RanLine game h stage line book left next held after ran.NoMemory = after ≡ Some held
+abbrev pub RanLine : List (Entry (RoomCall GameKind)) → Stage → List ℕ → Held GameKind AnyG → Stage → List ℕ → Option (List ℕ) → Ran → Type 0
+RanLine h stage line book next held after ran.Done = RanOn h stage line book next held after
+RanLine h stage line book next held after ran.BadLine = (step_of stage line ≡ None) × (after ≡ Some held)
+RanLine h stage line book next held after ran.WriteFault = StoppedIn h stage line held after
+RanLine h stage line book next held after ran.NoMemory = after ≡ Some held
 
 -- a fault only where the count of faults rose
 abbrev pub RanRaises : Ran → ℕ → ℕ → Type 0
@@ -93,13 +83,6 @@ RanRaises ran.Done old new = Unit {0}
 RanRaises ran.BadLine old new = Unit {0}
 RanRaises ran.WriteFault old new = HasRisen old new
 RanRaises ran.NoMemory old new = Unit {0}
-
--- after a line the game is at hand where no match is open
-abbrev pub AtHand : Ran → Bool → Option TicTacToe → Type 0
-AtHand ran.Done opened game = opened ≡ false → IsSome game
-AtHand ran.BadLine opened game = Unit {0}
-AtHand ran.WriteFault opened game = Unit {0}
-AtHand ran.NoMemory opened game = Unit {0}
 
 -- a fault of the source or the sink only where its count of faults rose; a script that is run is no usage error
 abbrev pub ExitRaises : Exit → ℕ → ℕ → ℕ → ℕ → Type 0

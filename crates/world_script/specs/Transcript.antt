@@ -1,6 +1,7 @@
 -- The transcript of a script: what its lines print, one after another, by the history that they make of the room.
 use Rattle.std.specs.Prelude.{ℕ, ◌+◌, ◌==◌, Bool, true, false, replicate, decimal, List, [], ◌∷◌, ◌++◌, codes, Option, Some, None}
-use Rattle.game_trait.specs.Rules.{Rules}
+use Rattle.any_game.specs.AnyRules.{any_rules}
+use Rattle.any_game.specs.GameKind.{GameKind}
 use Rattle.room_desk.specs.Entry.{Entry}
 use Rattle.wire_json.specs.MatchText.{match_text}
 use Rattle.match_master.specs.declared.call.RoomCall.{RoomCall}
@@ -9,13 +10,14 @@ use Rattle.match_master.specs.declared.reply.RoomReply.{RoomReply}
 use Rattle.match_master.specs.declared.reply.RoomReply.TheVariants as answer
 use Rattle.match_master.specs.Reply.{reply}
 use Rattle.world_script.specs.Forms.{seat_key, step_of, stage_after}
+use Rattle.world_script.specs.MatchSeed.{match_seed}
 use Rattle.world_script.specs.ScriptLines.{Script, Ending, Ended, TooLong, TooMany}
 use Rattle.world_script.specs.declared.stage.Stage.{Stage}
 use Rattle.world_script.specs.declared.stage.Step.{Step}
 use Rattle.world_script.specs.declared.stage.Step.TheVariants.{Nothing, Opens, Syncs, Acts, Takes}
 
 abbrev pub no_lines_yet : Stage
-no_lines_yet = record { opened = false; first = false; second = false }
+no_lines_yet = record { seats = None; synced = replicate 8 false }
 
 -- the bytes with this before each line: `begins` says that a line begins
 abbrev pub behind : List ℕ → Bool → List ℕ → List ℕ
@@ -40,44 +42,43 @@ taken_text session other = []
 -- what a step prints, by the reply to its call
 abbrev pub text_of_step : Step → RoomReply → List ℕ
 text_of_step Nothing r = []
-text_of_step Opens r = opened_text r
+text_of_step (Opens game seats) r = opened_text r
 text_of_step (Syncs session) r = []
 text_of_step (Acts session s) r = []
 text_of_step (Takes session) r = taken_text session r
 
-module _ {X G : Type 0} (rules : X → Rules G) (game : X) where
-  -- the entry of the room's history that a step makes: an open has pass 32, a session its number
-  abbrev pub entry_of : Step → Option (Entry (RoomCall X))
-  entry_of Nothing = None
-  entry_of Opens = Some (record { pass = 32; call = call.Create game 2 (replicate 32 0); starved = false })
-  entry_of (Syncs session) = Some (record { pass = session; call = call.Attach 1 (Some (session, seat_key session)); starved = false })
-  entry_of (Acts session s) = Some (record { pass = session; call = call.Submit s.name s.key s.number s.ticket s.asked; starved = false })
-  entry_of (Takes session) = Some (record { pass = session; call = call.Take; starved = false })
+-- the entry of the room's history that a step makes: an open has pass 32, a session its number
+abbrev pub entry_of : Step → Option (Entry (RoomCall GameKind))
+entry_of Nothing = None
+entry_of (Opens game seats) = Some (record { pass = 32; call = call.Create game seats match_seed; starved = false })
+entry_of (Syncs session) = Some (record { pass = session; call = call.Attach 1 (Some (session, seat_key session)); starved = false })
+entry_of (Acts session s) = Some (record { pass = session; call = call.Submit s.name s.key s.number s.ticket s.asked; starved = false })
+entry_of (Takes session) = Some (record { pass = session; call = call.Take; starved = false })
 
-  abbrev pub history_with : Option (Entry (RoomCall X)) → List (Entry (RoomCall X)) → List (Entry (RoomCall X))
-  history_with None h = h
-  history_with (Some e) h = e ∷ h
+abbrev pub history_with : Option (Entry (RoomCall GameKind)) → List (Entry (RoomCall GameKind)) → List (Entry (RoomCall GameKind))
+history_with None h = h
+history_with (Some e) h = e ∷ h
 
-  abbrev pub said_with : Step → Option (Entry (RoomCall X)) → List (Entry (RoomCall X)) → List ℕ
-  said_with step None h = []
-  said_with step (Some e) h = text_of_step step (reply rules 0 h e)
+abbrev pub said_with : Step → Option (Entry (RoomCall GameKind)) → List (Entry (RoomCall GameKind)) → List ℕ
+said_with step None h = []
+said_with step (Some e) h = text_of_step step (reply any_rules 0 h e)
 
-  -- what a step prints after a history
-  abbrev pub says : Step → List (Entry (RoomCall X)) → List ℕ
-  says step h = said_with step (entry_of step) h
+-- what a step prints after a history
+abbrev pub says : Step → List (Entry (RoomCall GameKind)) → List ℕ
+says step h = said_with step (entry_of step) h
 
-  abbrev pub printed_by : Option Step → Stage → List (Entry (RoomCall X)) → (Stage → List (Entry (RoomCall X)) → List ℕ) → List ℕ
-  printed_by None stage h rest = []
-  printed_by (Some step) stage h rest = says step h ++ rest (stage_after stage step) (history_with (entry_of step) h)
+abbrev pub printed_by : Option Step → Stage → List (Entry (RoomCall GameKind)) → (Stage → List (Entry (RoomCall GameKind)) → List ℕ) → List ℕ
+printed_by None stage h rest = []
+printed_by (Some step) stage h rest = says step h ++ rest (stage_after stage step) (history_with (entry_of step) h)
 
-  -- what the lines print, up to the first that is in no form
-  abbrev pub printed : List (List ℕ) → Stage → List (Entry (RoomCall X)) → List ℕ
-  printed [] stage h = []
-  printed (line ∷ lines) stage h = printed_by (step_of stage line) stage h (printed lines)
+-- what the lines print, up to the first that is in no form
+abbrev pub printed : List (List ℕ) → Stage → List (Entry (RoomCall GameKind)) → List ℕ
+printed [] stage h = []
+printed (line ∷ lines) stage h = printed_by (step_of stage line) stage h (printed lines)
 
-  -- the transcript of a script's lines
-  unfoldable pub transcript : List (List ℕ) → List ℕ
-  transcript lines = printed lines no_lines_yet []
+-- the transcript of a script's lines
+unfoldable pub transcript : List (List ℕ) → List ℕ
+transcript lines = printed lines no_lines_yet []
 
 -- why a script's lines end: none where it is read to its end
 abbrev pub ends_badly : Ending → ℕ → Option ℕ

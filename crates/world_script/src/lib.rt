@@ -5,6 +5,7 @@ mod chunk;
 mod command;
 mod exit;
 mod lines;
+mod match_seed;
 mod next;
 mod room;
 mod script;

@@ -8,18 +8,18 @@ ghost use Rattle.match_master.specs.Reply.{reply};
 ghost use Rattle.wire_json.specs.MatchText.{match_text};
 ghost use Rattle.world_script.specs.Transcript.{behind, to_session, opened_text, taken_text};
 
+use crate::match_seed::match_seed;
 use crate::stage::{Step, key_of_seat};
+use any_game::AnyGame;
 use game_sheet::{Bytes, Key, NoMemory};
 use match_master::{Book, RoomCall, RoomReply, Submission};
 use std::alloc::Global;
-use table_games::TicTacToe;
 
-/// The room of a script: its book, and the game that its match will have.
+/// The room of a script.
 #[derive(Drop)]
 pub struct Room {
     alloc: Global,
-    pub(crate) book: Book<TicTacToe>,
-    pub(crate) game: Option<TicTacToe>,
+    pub(crate) book: Book<AnyGame>,
 }
 
 /// What a session takes, each line behind the session's number.
@@ -89,41 +89,33 @@ fn full(alloc: Global) -> Result<Vec<u8>, NoMemory>
 }
 
 impl Room {
-    ghost use Rattle.std.specs.Prelude.{◌≡◌, ◌≤◌, List, [], ℕ, IfOk, IsSome, Some, ◌≢◌};
+    ghost use Rattle.std.specs.Prelude.{◌≡◌, List, [], IfOk};
     ghost use Rattle.room_desk.specs.Entry.{Entry};
     ghost use Rattle.match_master.specs.declared.call.RoomCall.{RoomCall as Asks};
     ghost use Rattle.match_master.specs.Held.{StandsFor};
-    ghost use Rattle.table_games.specs.TicTacToe.{tic_tac_toe};
-    ghost use Rattle.table_games.specs.declared.tic_tac_toe.TicTacToe.{TicTacToe as Playing};
+    ghost use Rattle.any_game.specs.AnyRules.{any_rules};
+    ghost use Rattle.any_game.specs.GameKind.{GameKind as Kind};
     ghost use Rattle.world_script.specs.declared.stage.Step.TheVariants.{Opens, Syncs, Acts, Takes};
     ghost use Rattle.world_script.specs.Transcript.{says, history_with, entry_of};
 
     /// A room in which nothing has happened.
     pub fn new(alloc: Global) -> Result<Self, NoMemory>
         ensures room { IfOk result (λ r. r.book.room ≡ 0) }
-        ensures game { IfOk result (λ r. IsSome r.game) }
-        ensures stands { IfOk result (λ r. StandsFor (λ (x : Playing). tic_tac_toe) r.book []) }
+        ensures stands { IfOk result (λ r. StandsFor any_rules r.book []) }
     {
         let book = Book::new(alloc, 0)?;
-        let game = TicTacToe::new(alloc)?;
-        Ok(Room {
-            alloc,
-            book,
-            game: Some(game),
-        })
+        Ok(Room { alloc, book })
     }
 
     /// Makes the call of a step, and gives what it prints.
     pub fn run(&mut self, step: Step) -> Result<Vec<u8>, NoMemory>
-        requires { step ≡ Opens → IsSome self.old.game }
         ensures room { self.new.book.room ≡ self.old.book.room }
-        ensures game { step ≢ Opens → self.new.game ≡ self.old.game }
-        ensures ran { (game : Playing) (h : List (Entry (Asks Playing))) → StandsFor (λ (x : Playing). tic_tac_toe) self.old.book h → self.old.book.room ≡ 0 → (step ≡ Opens → self.old.game ≡ Some game)
-            → IfOk result (λ text. (text.items ≡ says (λ (x : Playing). tic_tac_toe) game step h) × StandsFor (λ (x : Playing). tic_tac_toe) self.new.book (history_with (λ (x : Playing). tic_tac_toe) game (entry_of (λ (x : Playing). tic_tac_toe) game step) h)) }
+        ensures ran { (h : List (Entry (Asks Kind))) → StandsFor any_rules self.old.book h → self.old.book.room ≡ 0
+            → IfOk result (λ text. (text.items ≡ says step h) × StandsFor any_rules self.new.book (history_with (entry_of step) h)) }
     {
         match step {
             Step::Nothing => Ok(Vec::new(self.alloc)),
-            Step::Opens => self.open(),
+            Step::Opens { game, seats } => self.open(game, seats),
             Step::Syncs { session } => self.sync(session),
             Step::Acts {
                 session,
@@ -133,20 +125,16 @@ impl Room {
         }
     }
 
-    /// Makes the match.
-    fn open(&mut self) -> Result<Vec<u8>, NoMemory>
-        requires { IsSome self.old.game }
+    /// Makes a match.
+    fn open(&mut self, game: AnyGame, seats: u8) -> Result<Vec<u8>, NoMemory>
         ensures room { self.new.book.room ≡ self.old.book.room }
-        ensures ran { (game : Playing) (h : List (Entry (Asks Playing))) → StandsFor (λ (x : Playing). tic_tac_toe) self.old.book h → self.old.book.room ≡ 0 → self.old.game ≡ Some game
-            → IfOk result (λ text. (text.items ≡ says (λ (x : Playing). tic_tac_toe) game Opens h) × StandsFor (λ (x : Playing). tic_tac_toe) self.new.book (history_with (λ (x : Playing). tic_tac_toe) game (entry_of (λ (x : Playing). tic_tac_toe) game Opens) h)) }
+        ensures ran { (h : List (Entry (Asks Kind))) → StandsFor any_rules self.old.book h → self.old.book.room ≡ 0
+            → IfOk result (λ text. (text.items ≡ says (Opens game seats) h) × StandsFor any_rules self.new.book (history_with (entry_of (Opens game seats)) h)) }
     {
-        let Some(game) = self.game.take() else {
-            unreachable!();
-        };
         let call = RoomCall::Create {
             game,
-            seats: 2,
-            seed: [0; 32],
+            seats,
+            seed: match_seed(),
         };
         let answer = self.book.apply(32, call);
         if is_starved(&answer) {
@@ -158,26 +146,25 @@ impl Room {
     /// Attaches a session to its seat.
     fn sync(&mut self, session: u8) -> Result<Vec<u8>, NoMemory>
         ensures room { self.new.book.room ≡ self.old.book.room }
-        ensures game { self.new.game ≡ self.old.game }
-        ensures ran { (game : Playing) (h : List (Entry (Asks Playing))) → StandsFor (λ (x : Playing). tic_tac_toe) self.old.book h → self.old.book.room ≡ 0
-            → IfOk result (λ text. (text.items ≡ says (λ (x : Playing). tic_tac_toe) game (Syncs session) h) × StandsFor (λ (x : Playing). tic_tac_toe) self.new.book (history_with (λ (x : Playing). tic_tac_toe) game (entry_of (λ (x : Playing). tic_tac_toe) game (Syncs session)) h)) }
+        ensures ran { (h : List (Entry (Asks Kind))) → StandsFor any_rules self.old.book h → self.old.book.room ≡ 0
+            → IfOk result (λ text. (text.items ≡ says (Syncs session) h) × StandsFor any_rules self.new.book (history_with (entry_of (Syncs session)) h)) }
     {
         let call = RoomCall::Attach {
             serial: 1,
             viewer: Some((session, Key::new(key_of_seat(session)))),
         };
-        match self.book.apply(session as u32, call) {
-            RoomReply::NoMemory => Err(NoMemory),
-            _ => Ok(Vec::new(self.alloc)),
+        let answer = self.book.apply(session as u32, call);
+        if is_starved(&answer) {
+            return Err(NoMemory);
         }
+        Ok(Vec::new(self.alloc))
     }
 
     /// Submits an action of a session.
     fn act(&mut self, session: u8, submission: Submission) -> Result<Vec<u8>, NoMemory>
         ensures room { self.new.book.room ≡ self.old.book.room }
-        ensures game { self.new.game ≡ self.old.game }
-        ensures ran { (game : Playing) (h : List (Entry (Asks Playing))) → StandsFor (λ (x : Playing). tic_tac_toe) self.old.book h → self.old.book.room ≡ 0
-            → IfOk result (λ text. (text.items ≡ says (λ (x : Playing). tic_tac_toe) game (Acts session submission) h) × StandsFor (λ (x : Playing). tic_tac_toe) self.new.book (history_with (λ (x : Playing). tic_tac_toe) game (entry_of (λ (x : Playing). tic_tac_toe) game (Acts session submission)) h)) }
+        ensures ran { (h : List (Entry (Asks Kind))) → StandsFor any_rules self.old.book h → self.old.book.room ≡ 0
+            → IfOk result (λ text. (text.items ≡ says (Acts session submission) h) × StandsFor any_rules self.new.book (history_with (entry_of (Acts session submission)) h)) }
     {
         let Submission {
             name,
@@ -202,9 +189,8 @@ impl Room {
     /// Takes what waits for a session.
     fn take(&mut self, session: u8) -> Result<Vec<u8>, NoMemory>
         ensures room { self.new.book.room ≡ self.old.book.room }
-        ensures game { self.new.game ≡ self.old.game }
-        ensures ran { (game : Playing) (h : List (Entry (Asks Playing))) → StandsFor (λ (x : Playing). tic_tac_toe) self.old.book h → self.old.book.room ≡ 0
-            → IfOk result (λ text. (text.items ≡ says (λ (x : Playing). tic_tac_toe) game (Takes session) h) × StandsFor (λ (x : Playing). tic_tac_toe) self.new.book (history_with (λ (x : Playing). tic_tac_toe) game (entry_of (λ (x : Playing). tic_tac_toe) game (Takes session)) h)) }
+        ensures ran { (h : List (Entry (Asks Kind))) → StandsFor any_rules self.old.book h → self.old.book.room ≡ 0
+            → IfOk result (λ text. (text.items ≡ says (Takes session) h) × StandsFor any_rules self.new.book (history_with (entry_of (Takes session)) h)) }
     {
         match self.book.apply(session as u32, RoomCall::Take) {
             RoomReply::NoMemory => Err(NoMemory),

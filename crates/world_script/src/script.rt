@@ -1,13 +1,14 @@
 //! Runs scripts.
 
-ghost use Rattle.std.specs.Prelude.{◌≡◌, ◌≤◌, ◌<◌, ℕ, List, [], ◌++◌, false, IsSome, Some, ◌+◌};
+ghost use Rattle.std.specs.Prelude.{◌≡◌, ◌≤◌, List, [], IsSome};
 ghost use Rattle.board_links.specs.Faults.{HasRisen};
 ghost use Rattle.board_links.specs.Pieces.{told_bytes, WriteRaises, Writes};
 ghost use Rattle.room_desk.specs.Entry.{Entry};
 ghost use Rattle.match_master.specs.declared.call.RoomCall.{RoomCall as Asks};
 ghost use Rattle.match_master.specs.Held.{StandsFor};
-ghost use Rattle.table_games.specs.declared.tic_tac_toe.TicTacToe.{TicTacToe as Playing};
-ghost use Rattle.world_script.specs.Running.{tic_tac_toe_rules, RanLine, RanRaises, AtHand, Ends, ExitRaises, stop_at, end_at};
+ghost use Rattle.any_game.specs.AnyRules.{any_rules};
+ghost use Rattle.any_game.specs.GameKind.{GameKind as Kind};
+ghost use Rattle.world_script.specs.Running.{RanLine, RanRaises, Ends, ExitRaises, stop_at, end_at};
 
 use crate::exit::Exit;
 use crate::lines::Lines;
@@ -27,7 +28,7 @@ pub fn run_script<S: Source, K: Sink>(alloc: Global, source: &mut S, sink: &mut 
     ensures sink_never_falls { K.faults sink.old ≤ K.faults sink.new }
     ensures raises { ExitRaises result (S.faults source.old) (S.faults source.new) (K.faults sink.old) (K.faults sink.new) }
     ensures ends { IsSome (S.left source.old) → IsSome (K.held sink.old)
-        → (game : Playing) × Ends game (told_bytes (S.left source.old)) (told_bytes (S.left source.new)) (told_bytes (K.held sink.old)) (K.held sink.new) result }
+        → Ends (told_bytes (S.left source.old)) (told_bytes (S.left source.new)) (told_bytes (K.held sink.old)) (K.held sink.new) result }
 {
     match Room::new(alloc) {
         Ok(room) => play(alloc, room, source, sink),
@@ -39,19 +40,17 @@ pub fn run_script<S: Source, K: Sink>(alloc: Global, source: &mut S, sink: &mut 
 #[tactic(none)]
 fn play<S: Source, K: Sink>(alloc: Global, mut room: Room, source: &mut S, sink: &mut K) -> Exit
     requires room { room.book.room ≡ 0 }
-    requires game { IsSome room.game }
-    requires stands { StandsFor tic_tac_toe_rules room.book [] }
+    requires stands { StandsFor any_rules room.book [] }
     ensures source_never_falls { S.faults source.old ≤ S.faults source.new }
     ensures sink_never_falls { K.faults sink.old ≤ K.faults sink.new }
     ensures raises { ExitRaises result (S.faults source.old) (S.faults source.new) (K.faults sink.old) (K.faults sink.new) }
     ensures ends { IsSome (S.left source.old) → IsSome (K.held sink.old)
-        → (game : Playing) × Ends game (told_bytes (S.left source.old)) (told_bytes (S.left source.new)) (told_bytes (K.held sink.old)) (K.held sink.new) result }
+        → Ends (told_bytes (S.left source.old)) (told_bytes (S.left source.new)) (told_bytes (K.held sink.old)) (K.held sink.new) result }
 {
     let mut lines = Lines::new(alloc);
     let mut stage = Stage {
-        opened: false,
-        first: false,
-        second: false,
+        seats: None,
+        synced: [false; 8],
     };
     'lines: loop {
         let next = lines.next_line(source);
@@ -113,14 +112,12 @@ fn run_line<K: Sink>(
     line: &[u8],
     sink: &mut K,
 ) -> Ran
-    requires { stage.old.opened ≡ false → IsSome room.old.game }
     ensures never_falls { K.faults sink.old ≤ K.faults sink.new }
     ensures raises { RanRaises result (K.faults sink.old) (K.faults sink.new) }
     ensures room { room.new.book.room ≡ room.old.book.room }
     ensures told { IsSome (K.held sink.old) → IsSome (K.held sink.new) }
-    ensures at_hand { AtHand result stage.new.opened room.new.game }
-    ensures ran { IsSome (K.held sink.old) → (game : Playing) (h : List (Entry (Asks Playing))) → StandsFor tic_tac_toe_rules room.old.book h → room.old.book.room ≡ 0 → (stage.old.opened ≡ false → room.old.game ≡ Some game)
-        → RanLine game h stage.old line.now room.new.book room.new.game stage.new (told_bytes (K.held sink.old)) (K.held sink.new) result }
+    ensures ran { IsSome (K.held sink.old) → (h : List (Entry (Asks Kind))) → StandsFor any_rules room.old.book h → room.old.book.room ≡ 0
+        → RanLine h stage.old line.now room.new.book stage.new (told_bytes (K.held sink.old)) (K.held sink.new) result }
 {
     let Ok(read) = read_step(alloc, *stage, line) else {
         return Ran::NoMemory;

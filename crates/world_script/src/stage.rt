@@ -1,26 +1,29 @@
 //! Which lines of a script are in form, and what they ask for.
 
-ghost use Rattle.std.specs.Prelude.{◌≡◌, IfOk, bytes_eq, Some, Ok};
+ghost use Rattle.std.specs.Prelude.{◌≡◌, IfOk, bytes_eq, slice_set, true, Some, Ok};
+ghost use Rattle.any_game.specs.AnyRules.{any_rules};
+ghost use Rattle.match_master.specs.Calls.{seats_fit};
 ghost use Rattle.wire_json.specs.ClientReading.{client_read};
 ghost use Rattle.wire_json.specs.declared.client.ClientMsg.TheVariants.{Sync, Act};
 ghost use Rattle.world_script.specs.Commands.{Open, Take};
-ghost use Rattle.world_script.specs.Forms.{seat_key, is_the_match, has_synced, is_own_seat, is_click, step_of_message, step_of_command, step_of, stage_after};
+ghost use Rattle.world_script.specs.Forms.{seat_key, is_the_match, has_synced, is_seat, is_own_seat, may_sync, is_move_or_end, step_of_message, step_of_command, step_of, stage_after};
 
 use crate::command::{Command, command_of};
-use game_sheet::{Key, MatchName, NoMemory, Seat};
+use any_game::{AnyGame, by_name};
+use game_sheet::{EventKind, Key, MatchName, NoMemory, Seat};
+use game_trait::Game;
 use match_master::Submission;
 use std::alloc::Global;
+use std::str;
 use wire_json::{Asked, ClientMsg, WireNo, read_client};
 
 /// What the lines so far have come to.
 #[derive(Clone, Copy)]
 pub struct Stage {
-    /// Whether the match is open.
-    pub opened: bool,
-    /// Whether session 0 has synced.
-    pub first: bool,
-    /// Whether session 1 has synced.
-    pub second: bool,
+    /// How many seats the match has, at most 8; none where no match is open.
+    pub seats: Option<u8>,
+    /// Which sessions have synced, each with the seat of its number.
+    pub synced: [bool; 8],
 }
 
 /// What a line in form asks for.
@@ -28,8 +31,13 @@ pub struct Stage {
 pub enum Step {
     /// Nothing.
     Nothing,
-    /// The match.
-    Opens,
+    /// A match.
+    Opens {
+        /// Its game.
+        game: AnyGame,
+        /// Its number of seats, which the game allows.
+        seats: u8,
+    },
     /// The stream of a session's seat.
     Syncs {
         /// The session, whose seat has its number.
@@ -57,7 +65,7 @@ pub fn read_step(alloc: Global, stage: Stage, line: &[u8]) -> Result<Option<Step
     match command_of(line) {
         None => Ok(None),
         Some(Command::Passed) => Ok(Some(Step::Nothing)),
-        Some(Command::Open { game, seats }) => Ok(opens(stage, game, seats)),
+        Some(Command::Open { game, seats }) => opens(alloc, stage, game, seats),
         Some(Command::Say { session, line }) => says(alloc, stage, session, line),
         Some(Command::Take { session }) => Ok(takes(stage, session)),
         Some(Command::Detach { .. }) => Ok(None),
@@ -65,14 +73,31 @@ pub fn read_step(alloc: Global, stage: Stage, line: &[u8]) -> Result<Option<Step
     }
 }
 
-fn opens(stage: Stage, game: &[u8], seats: u8) -> Option<Step>
-    ensures { result ≡ step_of_command stage (Some (Open game.now seats)) }
+fn opens(alloc: Global, stage: Stage, name: &[u8], seats: u8) -> Result<Option<Step>, NoMemory>
+    ensures { IfOk result (λ step. step ≡ step_of_command stage (Some (Open name.now seats))) }
 {
-    if !stage.opened && game == b"tic-tac-toe".as_slice() && seats == 2 {
-        Some(Step::Opens)
-    } else {
-        None
+    if stage.seats.is_some() {
+        return Ok(None);
     }
+    let Ok(name) = str::from_utf8(name) else {
+        return Ok(None);
+    };
+    let Some(game) = by_name(alloc, name)? else {
+        return Ok(None);
+    };
+    if allows(&game, seats) {
+        Ok(Some(Step::Opens { game, seats }))
+    } else {
+        Ok(None)
+    }
+}
+
+/// Whether a game is for this number of seats.
+fn allows(game: &AnyGame, seats: u8) -> bool
+    ensures { result ≡ seats_fit (any_rules game.now).sheet seats }
+{
+    let sheet = game.sheet();
+    sheet.min_seats <= seats && seats <= sheet.max_seats
 }
 
 fn takes(stage: Stage, session: u8) -> Option<Step>
@@ -125,12 +150,7 @@ fn step_for(stage: Stage, session: u8, message: ClientMsg) -> Option<Step>
 fn syncs(stage: Stage, session: u8, name: MatchName, viewer: Option<(Seat, Key)>) -> Option<Step>
     ensures { result ≡ step_of_message stage session (Ok (Sync name viewer)) }
 {
-    if stage.opened
-        && session <= 1
-        && !is_synced(stage, session)
-        && is_match(&name)
-        && is_own(session, &viewer)
-    {
+    if may_sync(stage, session) && is_match(&name) && is_own(session, &viewer) {
         Some(Step::Syncs { session })
     } else {
         None
@@ -143,7 +163,7 @@ fn acts(stage: Stage, session: u8, submission: Submission) -> Option<Step>
     if is_synced(stage, session)
         && is_match(&submission.name)
         && is_key(session, &submission.key)
-        && clicks(&submission.asked)
+        && moves_or_ends(&submission.asked)
     {
         Some(Step::Acts {
             session,
@@ -154,14 +174,30 @@ fn acts(stage: Stage, session: u8, submission: Submission) -> Option<Step>
     }
 }
 
+/// Whether a session's seat is one of the open match, and waits for its sync.
+fn may_sync(stage: Stage, session: u8) -> bool
+    ensures { result ≡ may_sync stage session }
+{
+    is_seat(stage.seats, session) && !is_synced(stage, session)
+}
+
+/// Whether a match of so many seats has a session's seat.
+fn is_seat(seats: Option<u8>, session: u8) -> bool
+    ensures { result ≡ is_seat seats session }
+{
+    match seats {
+        Some(seats) => session < seats,
+        None => false,
+    }
+}
+
 /// Whether a session has synced.
 fn is_synced(stage: Stage, session: u8) -> bool
     ensures { result ≡ has_synced stage session }
 {
-    match session {
-        0 => stage.first,
-        1 => stage.second,
-        _ => false,
+    match stage.synced.get(session as usize) {
+        Some(synced) => *synced,
+        None => false,
     }
 }
 
@@ -196,13 +232,13 @@ pub fn key_of_seat(seat: Seat) -> [u8; 16]
     [0, 0, 0, 0, 0, 0, 0, 0, 0, 0, 0, 0, 0, 0, 0, seat]
 }
 
-/// Whether an action is a click on a cell.
-fn clicks(asked: &Asked) -> bool
-    ensures { result ≡ is_click asked.now }
+/// Whether an action is a move or the end of a turn.
+fn moves_or_ends(asked: &Asked) -> bool
+    ensures { result ≡ is_move_or_end asked.now }
 {
     match asked {
-        Asked::Move { name, .. } => name.is("clickCell"),
-        Asked::Event { .. } => false,
+        Asked::Move { .. } => true,
+        Asked::Event { kind, .. } => matches!(kind, EventKind::EndTurn),
         Asked::Undo => false,
         Asked::Redo => false,
     }
@@ -213,25 +249,24 @@ pub fn move_on(stage: Stage, step: &Step) -> Stage
     ensures { result ≡ stage_after stage step.now }
 {
     match step {
-        Step::Opens => Stage {
-            opened: true,
+        Step::Opens { seats, .. } => Stage {
+            seats: Some(*seats),
             ..stage
         },
-        Step::Syncs { session } => {
-            if *session == 0 {
-                Stage {
-                    first: true,
-                    ..stage
-                }
-            } else {
-                Stage {
-                    second: true,
-                    ..stage
-                }
-            }
-        }
+        Step::Syncs { session } => with_synced(stage, *session),
         Step::Nothing => stage,
         Step::Acts { .. } => stage,
         Step::Takes { .. } => stage,
     }
+}
+
+/// The stage once a session has synced.
+fn with_synced(mut stage: Stage, session: u8) -> Stage
+    ensures { result ≡ record stage { synced = slice_set stage.synced session true } }
+{
+    let place = session as usize;
+    if place < stage.synced.len() {
+        stage.synced[place] = true;
+    }
+    stage
 }

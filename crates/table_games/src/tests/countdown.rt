@@ -1,146 +1,108 @@
 //! Countdown: takes and wild takes at their edges, ends, and the text of a heap.
 
-ghost use Rattle.std.specs.Prelude.{◌≡◌, ◌<◌, length};
+ghost use Rattle.std.specs.Prelude.{◌<◌};
 
 use super::{ending, is_written, one, opening, play};
 use crate::{Countdown, Heap};
 use dice_words::Tape;
-use game_sheet::{Args, EventQueue, Outcome};
-use game_trait::{Game, Halt};
+use game_sheet::{Args, EventQueue, Outcome, Seat};
+use game_trait::Halt;
 use std::alloc::Global;
 use std::test::Fail;
 
-/// A move that is given no word.
-fn take<X: Game>(game: &X, alloc: Global, g: &X::G, seat: u8, args: &Args) -> Result<X::G, Halt>
-    requires { 0 < length (X.rules game.now).sheet.moves }
-{
-    let mut tape = Tape::blank();
-    let mut events = EventQueue::new();
-    play(game, alloc, g, seat, 0, args, &mut tape, &mut events)
-}
-
-/// The other move, which draws from a tape.
-fn wild<X: Game>(
-    game: &X,
+/// What a move leaves of a heap; none where it isn't allowed.
+fn left_by(
     alloc: Global,
-    g: &X::G,
-    seat: u8,
+    left: u32,
+    seat: Seat,
+    place: u8,
     args: &Args,
     tape: &mut Tape,
-) -> Result<X::G, Halt>
-    requires { 1 < length (X.rules game.now).sheet.moves }
+) -> Result<Option<u32>, Fail>
+    requires { place < 2 }
 {
+    let game = Countdown::new(alloc)?;
+    let heap = Heap { left, last: None };
     let mut events = EventQueue::new();
-    play(game, alloc, g, seat, 1, args, tape, &mut events)
+    match play(&game, alloc, &heap, seat, place, args, tape, &mut events) {
+        Ok(heap) if heap.last == Some(seat) => Ok(Some(heap.left)),
+        Ok(_) => Ok(Some(left)),
+        Err(Halt::Invalid) => Ok(None),
+        Err(halt) => Err(Fail::from(halt)),
+    }
+}
+
+/// What a take leaves of a heap; none where it isn't allowed.
+fn take(alloc: Global, left: u32, seat: Seat, count: i32) -> Result<Option<u32>, Fail> {
+    left_by(alloc, left, seat, 0, &one(count), &mut Tape::blank())
+}
+
+/// What a wild take leaves of a heap; none where it isn't allowed.
+fn wild(alloc: Global, left: u32, seat: Seat, tape: &mut Tape) -> Result<Option<u32>, Fail> {
+    left_by(alloc, left, seat, 1, &Args::new(), tape)
 }
 
 fn zeros() -> Tape {
     Tape::live([0; 32], 0, 0)
 }
 
+/// Who won with a heap of so many, which this seat took from last.
+fn winner(alloc: Global, left: u32, last: Option<Seat>) -> Result<Option<Seat>, Fail> {
+    let game = Countdown::new(alloc)?;
+    match ending(&game, alloc, &Heap { left, last }) {
+        Some(Outcome::Winner(seat)) => Ok(Some(seat)),
+        _ => Ok(None),
+    }
+}
+
 #[test]
-fn a_take_of_one_to_three_lessens_the_heap(rt: HostRuntime) -> Result<(), Fail> {
+fn a_heap_is_written_with_its_last_taker(rt: HostRuntime) -> Result<(), Fail> {
     let alloc = rt.alloc();
     let game = Countdown::new(alloc)?;
-    let heap = opening(&game, alloc)?;
-    assert!(rt; is_written(&game, alloc, &heap, "{\"heap\":21,\"last\":null}")?);
-    let heap = take(&game, alloc, &heap, 0, &one(3))?;
-    assert!(rt; is_written(&game, alloc, &heap, "{\"heap\":18,\"last\":0}")?);
-    let heap = take(&game, alloc, &heap, 3, &one(1))?;
-    assert!(rt; is_written(&game, alloc, &heap, "{\"heap\":17,\"last\":3}")?);
+    let full = opening(&game, alloc)?;
+    assert!(rt; is_written(&game, alloc, &full, "{\"heap\":21,\"last\":null}")?);
+    let heap = Heap {
+        left: 18,
+        last: Some(3),
+    };
+    assert!(rt; is_written(&game, alloc, &heap, "{\"heap\":18,\"last\":3}")?);
     Ok(())
 }
 
 #[test]
-fn takes_out_of_form_are_invalid(rt: HostRuntime) -> Result<(), Fail> {
+fn a_take_is_one_to_three_of_what_is_left(rt: HostRuntime) -> Result<(), Fail> {
     let alloc = rt.alloc();
-    let game = Countdown::new(alloc)?;
-    let heap = Heap {
-        left: 2,
-        last: None,
-    };
+    assert!(rt; take(alloc, 21, 0, 3)? == Some(18));
+    assert!(rt; take(alloc, 2, 3, 1)? == Some(1));
+    assert!(rt; take(alloc, 2, 1, 2)? == Some(0));
     for count in [0, 3, 4, -1] {
-        let answer = take(&game, alloc, &heap, 0, &one(count));
-        assert!(rt; matches!(answer, Err(Halt::Invalid)));
+        assert!(rt; take(alloc, 2, 0, count)?.is_none());
     }
-    assert!(rt; matches!(take(&game, alloc, &heap, 4, &one(1)), Err(Halt::Invalid)));
-    assert!(rt;
-        matches!(
-            take(&game, alloc, &heap, 0, &Args::new()),
-            Err(Halt::Invalid)
-        )
-    );
-    let mut two = one(1);
-    two.push(1);
-    assert!(rt; matches!(take(&game, alloc, &heap, 0, &two), Err(Halt::Invalid)));
-    let heap = take(&game, alloc, &heap, 0, &one(2))?;
-    assert!(rt; heap.left == 0);
+    assert!(rt; take(alloc, 21, 0, 4)?.is_none());
+    assert!(rt; take(alloc, 21, 4, 1)?.is_none());
     Ok(())
 }
 
 #[test]
 fn a_wild_take_goes_by_the_die_and_the_heap(rt: HostRuntime) -> Result<(), Fail> {
     let alloc = rt.alloc();
-    let game = Countdown::new(alloc)?;
     let mut tape = zeros();
-    let mut heap = opening(&game, alloc)?;
-    for left in [18, 16, 13, 12] {
-        heap = wild(&game, alloc, &heap, 1, &Args::new(), &mut tape)?;
-        assert!(rt; heap.left == left && heap.last == Some(1));
+    for left in [18, 19, 18, 20] {
+        assert!(rt; wild(alloc, 21, 1, &mut tape)? == Some(left));
     }
-    for left in [2, 1] {
-        let heap = Heap {
-            left,
-            last: Some(1),
-        };
-        let heap = wild(&game, alloc, &heap, 0, &Args::new(), &mut zeros())?;
-        assert!(rt; heap.left == 0 && heap.last == Some(0));
-    }
-    Ok(())
-}
-
-#[test]
-fn a_wild_take_of_nothing_asks_for_no_word(rt: HostRuntime) -> Result<(), Fail> {
-    let alloc = rt.alloc();
-    let game = Countdown::new(alloc)?;
-    let mut tape = zeros();
-    let heap = Heap {
-        left: 0,
-        last: None,
-    };
-    let answer = wild(&game, alloc, &heap, 0, &Args::new(), &mut tape);
-    assert!(rt; matches!(answer, Err(Halt::Invalid)));
-    let heap = opening(&game, alloc)?;
-    let answer = wild(&game, alloc, &heap, 0, &one(1), &mut tape);
-    assert!(rt; matches!(answer, Err(Halt::Invalid)));
-    let answer = wild(&game, alloc, &heap, 4, &Args::new(), &mut tape);
-    assert!(rt; matches!(answer, Err(Halt::Invalid)));
-    assert!(rt; tape.used() == 0);
-    let answer = wild(&game, alloc, &heap, 0, &Args::new(), &mut Tape::blank());
-    assert!(rt; matches!(answer, Err(Halt::Spent)));
+    assert!(rt; wild(alloc, 2, 0, &mut zeros())? == Some(0));
+    assert!(rt; wild(alloc, 1, 0, &mut zeros())? == Some(0));
+    assert!(rt; wild(alloc, 0, 0, &mut tape)?.is_none());
+    assert!(rt; wild(alloc, 21, 4, &mut tape)?.is_none());
+    assert!(rt; tape.used() == 4);
     Ok(())
 }
 
 #[test]
 fn whoever_took_the_last_wins(rt: HostRuntime) -> Result<(), Fail> {
     let alloc = rt.alloc();
-    let game = Countdown::new(alloc)?;
-    let heap = Heap {
-        left: 1,
-        last: Some(0),
-    };
-    assert!(rt; ending(&game, alloc, &heap).is_none());
-    let heap = take(&game, alloc, &heap, 1, &one(1))?;
-    assert!(rt; matches!(ending(&game, alloc, &heap), Some(Outcome::Winner(1))));
-    let heap = Heap {
-        left: 0,
-        last: Some(7),
-    };
-    assert!(rt; matches!(ending(&game, alloc, &heap), Some(Outcome::Winner(7))));
-    let heap = Heap {
-        left: 0,
-        last: None,
-    };
-    assert!(rt; ending(&game, alloc, &heap).is_none());
+    assert!(rt; winner(alloc, 1, Some(0))?.is_none());
+    assert!(rt; winner(alloc, 0, Some(7))? == Some(7));
+    assert!(rt; winner(alloc, 0, None)?.is_none());
     Ok(())
 }

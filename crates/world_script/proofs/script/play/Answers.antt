@@ -1,7 +1,6 @@
 use Rattle.std.proofs.Common.{◌≡◌, ◌+◌, refl, sym, ap, ◌∙◌, subst, arith}
 use Rattle.board_links.specs.Pieces.{told_bytes}
 use Rattle.world_script.specs.Reading.{given_after}
-use Rattle.world_script.specs.Running.{AtHand}
 use Rattle.world_script.proofs.EndLaws.{line_is, done_is, stop_raises, end_raises, stop_ends, begins_with, line_ends, line_runs}
 use Rattle.world_script.proofs.script.play.Goals as goal
 
@@ -9,11 +8,10 @@ pub lines-init : goal.lines-init
 lines-init g c = record {
   source_low = omega arith;
   sink_low = omega arith;
-  at_hand = λ e. c.requires.game;
   room = c.requires.room;
   source_tells = λ p. p;
   sink_tells = λ p. p;
-  underway = λ p k. begins_with (told_bytes (g.S.Source.left c.args.source.now)) c.args.room.book c.args.room.game c.requires.game c.requires.stands (g.K.Sink.held c.args.sink.now) k
+  underway = λ p k. begins_with (told_bytes (g.S.Source.left c.args.source.now)) c.args.room.book c.requires.stands (g.K.Sink.held c.args.sink.now) k
       c.new-lines.result c.new-lines.ensures;
 }
 
@@ -32,11 +30,8 @@ returns-in-Some-clause-raises g c =
 
 pub returns-in-Some-clause-ends : goal.returns-in-Some-clause-ends
 returns-in-Some-clause-ends g c = λ p k.
-    stop_ends _ _ c.lines.room.book c.lines.room.game c.lines.stage c.lines.lines.given c.lines.lines _ _ (c.lines.invariant.underway p k) c.next_line-next.result c.next_line-next.new.self.line c.next_line-next.new.self _
+    stop_ends _ _ c.lines.room.book c.lines.stage c.lines.lines.given c.lines.lines _ _ (c.lines.invariant.underway p k) c.next_line-next.result c.next_line-next.new.self.line c.next_line-next.new.self _
     c.in-Some.exit c.given.result (c.next_line-next.ensures.moves (c.lines.invariant.source_tells p)) c.next_line-next.ensures.stands (c.given.ensures.value ∙ c.next_line-next.ensures.given) (sym c.stop_at.ensures ∙ c.in-Some.is)
-
-pub run_line-ran-requires : goal.run_line-ran-requires
-run_line-ran-requires g c = c.lines.invariant.at_hand
 
 pub returns-in-Some-end_at-clause-source_never_falls : goal.returns-in-Some-end_at-clause-source_never_falls
 returns-in-Some-end_at-clause-source_never_falls g c = omega (arith, c.lines.invariant.source_low, c.next_line-next.ensures.never_falls)
@@ -50,10 +45,10 @@ returns-in-Some-end_at-clause-raises g c =
 
 pub returns-in-Some-end_at-clause-ends : goal.returns-in-Some-end_at-clause-ends
 returns-in-Some-end_at-clause-ends g c = λ p k.
-    line_ends _ _ c.lines.room.book c.lines.room.game c.lines.stage c.lines.lines.given c.lines.lines _ _ (c.lines.invariant.underway p k) c.next_line-next.result c.given.result c.next_line-next.new.self.line c.next_line-next.new.self _
+    line_ends _ _ c.lines.room.book c.lines.stage c.lines.lines.given c.lines.lines _ _ (c.lines.invariant.underway p k) c.next_line-next.result c.given.result c.next_line-next.new.self.line c.next_line-next.new.self _
     (c.next_line-next.ensures.moves (c.lines.invariant.source_tells p)) (sym c.stop_at.ensures ∙ c.in_default.is)
-    c.line.result.now c.line.ensures c.run_line-ran.new.room.book c.run_line-ran.new.room.game c.run_line-ran.new.stage _ c.run_line-ran.result c.in-Some-end_at.exit c.given-in-lines.result
-    (λ game h s o. c.run_line-ran.ensures.ran (c.lines.invariant.sink_tells k) game h s c.lines.invariant.room o)
+    c.line.result.now c.line.ensures c.run_line-ran.new.room.book c.run_line-ran.new.stage _ c.run_line-ran.result c.in-Some-end_at.exit c.given-in-lines.result
+    (λ h s. c.run_line-ran.ensures.ran (c.lines.invariant.sink_tells k) h s c.lines.invariant.room)
     (c.given-in-lines.ensures.value ∙ c.next_line-next.ensures.given) (sym c.end_at.ensures ∙ c.in-Some-end_at.is)
 
 pub same-lines : goal.same-lines
@@ -69,14 +64,13 @@ pub lines-preserved : goal.lines-preserved
 lines-preserved g c = record {
   source_low = omega (arith, c.lines.invariant.source_low, c.next_line-next.ensures.never_falls);
   sink_low = omega (arith, c.lines.invariant.sink_low, c.run_line-ran.ensures.never_falls);
-  at_hand = subst (λ r. AtHand r c.run_line-ran.new.stage.opened c.run_line-ran.new.room.game) (done_is c.run_line-ran.result c.given-in-lines.result (sym c.end_at.ensures ∙ c.in_default-end_at.is)) c.run_line-ran.ensures.at_hand;
   room = c.run_line-ran.ensures.room ∙ c.lines.invariant.room;
   source_tells = λ p. c.next_line-next.ensures.tells (c.lines.invariant.source_tells p);
   sink_tells = λ k. c.run_line-ran.ensures.told (c.lines.invariant.sink_tells k);
   underway = λ p k.
-      line_runs _ _ c.lines.room.book c.lines.room.game c.lines.stage c.lines.lines.given c.lines.lines _ _ (c.lines.invariant.underway p k) c.next_line-next.result c.given.result c.next_line-next.new.self.line c.next_line-next.new.self _
+      line_runs _ _ c.lines.room.book c.lines.stage c.lines.lines.given c.lines.lines _ _ (c.lines.invariant.underway p k) c.next_line-next.result c.given.result c.next_line-next.new.self.line c.next_line-next.new.self _
       (c.next_line-next.ensures.moves (c.lines.invariant.source_tells p)) (sym c.stop_at.ensures ∙ c.in_default.is)
-      c.line.result.now c.line.ensures c.run_line-ran.new.room.book c.run_line-ran.new.room.game c.run_line-ran.new.stage _ c.run_line-ran.result c.given-in-lines.result c.next_line-next.new.self.given
-      (λ game h s o. c.run_line-ran.ensures.ran (c.lines.invariant.sink_tells k) game h s c.lines.invariant.room o)
+      c.line.result.now c.line.ensures c.run_line-ran.new.room.book c.run_line-ran.new.stage _ c.run_line-ran.result c.given-in-lines.result c.next_line-next.new.self.given
+      (λ h s. c.run_line-ran.ensures.ran (c.lines.invariant.sink_tells k) h s c.lines.invariant.room)
       c.next_line-next.ensures.given (sym c.end_at.ensures ∙ c.in_default-end_at.is);
 }

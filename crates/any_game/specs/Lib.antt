@@ -1,0 +1,6 @@
+pub mod AnyRules
+pub mod GameKind
+pub mod InSheet
+pub mod Kind
+pub mod Lifted
+pub mod Values

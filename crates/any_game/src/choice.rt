@@ -1,0 +1,245 @@
+//! A game picked by its name.
+
+ghost use Rattle.std.specs.Prelude.{◌≡◌, IfOk};
+ghost use Rattle.any_game.specs.AnyRules.{named};
+ghost use Rattle.any_game.specs.GameKind.{TicTacToe as IsTicTacToe, Countdown as IsCountdown};
+
+use crate::any_g::AnyG;
+use crate::lifted::Lifted;
+use dice_words::Tape;
+use game_sheet::{Args, Ctx, EventQueue, List, MoveId, NoMemory, Outcome, PhaseId, Seat, Sheet};
+use game_trait::{Game, Halt, HookHalt};
+use serde_json::Value;
+use std::alloc::Global;
+use std::marker::Model;
+use table_games::{Countdown, TicTacToe};
+
+/// One of the games. Contracts see which one it is.
+#[derive(Drop)]
+pub struct AnyGame {
+    game: Picked,
+}
+
+#[derive(Drop)]
+enum Picked {
+    TicTacToe(Lifted<TicTacToe>),
+    Countdown(Lifted<Countdown>),
+}
+
+impl Model for AnyGame {
+    ghost use Rattle.any_game.specs.GameKind.{GameKind};
+    ghost use Rattle.any_game.specs.Kind.{kind_of};
+
+    ghost Value = { GameKind };
+
+    ghost view = { λ any. kind_of any.game };
+}
+
+impl AnyGame {
+    /// Tic-tac-toe.
+    pub fn tic_tac_toe(alloc: Global) -> Result<Self, NoMemory>
+        ensures { IfOk result (λ game. game ≡ IsTicTacToe) }
+    {
+        let game = TicTacToe::new(alloc)?;
+        Ok(AnyGame {
+            game: Picked::TicTacToe(Lifted { game }),
+        })
+    }
+
+    /// Countdown.
+    pub fn countdown(alloc: Global) -> Result<Self, NoMemory>
+        ensures { IfOk result (λ game. game ≡ IsCountdown) }
+    {
+        let game = Countdown::new(alloc)?;
+        Ok(AnyGame {
+            game: Picked::Countdown(Lifted { game }),
+        })
+    }
+
+    /// The same game.
+    pub fn copy_game(&self, alloc: Global) -> Result<Self, NoMemory>
+        ensures { IfOk result (λ game. game ≡ self.now) }
+    {
+        match self.game {
+            Picked::TicTacToe(_) => AnyGame::tic_tac_toe(alloc),
+            Picked::Countdown(_) => AnyGame::countdown(alloc),
+        }
+    }
+}
+
+/// The game of this name; none where no game has it.
+pub fn by_name(alloc: Global, name: &str) -> Result<Option<AnyGame>, NoMemory>
+    ensures { IfOk result (λ game. game ≡ named name.now) }
+{
+    if name == "tic-tac-toe" {
+        Ok(Some(AnyGame::tic_tac_toe(alloc)?))
+    } else if name == "countdown" {
+        Ok(Some(AnyGame::countdown(alloc)?))
+    } else {
+        Ok(None)
+    }
+}
+
+impl Game for AnyGame {
+    ghost use Rattle.any_game.specs.AnyRules.{any_in_sheet, any_rules};
+
+    type G = AnyG;
+
+    ghost rules = { any_rules };
+
+    ghost in_sheet = { any_in_sheet };
+
+    fn sheet(&self) -> &Sheet {
+        match &self.game {
+            Picked::TicTacToe(game) => game.sheet(),
+            Picked::Countdown(game) => game.sheet(),
+        }
+    }
+
+    fn setup(&self, alloc: Global, seats: u8, tape: &mut Tape) -> Result<AnyG, HookHalt> {
+        match &self.game {
+            Picked::TicTacToe(game) => game.setup(alloc, seats, tape),
+            Picked::Countdown(game) => game.setup(alloc, seats, tape),
+        }
+    }
+
+    fn play(
+        &self,
+        alloc: Global,
+        g: &AnyG,
+        ctx: &Ctx,
+        seat: Seat,
+        id: MoveId,
+        args: &Args,
+        tape: &mut Tape,
+        events: &mut EventQueue,
+    ) -> Result<AnyG, Halt> {
+        match &self.game {
+            Picked::TicTacToe(game) => game.play(alloc, g, ctx, seat, id, args, tape, events),
+            Picked::Countdown(game) => game.play(alloc, g, ctx, seat, id, args, tape, events),
+        }
+    }
+
+    fn on_move(
+        &self,
+        alloc: Global,
+        g: &AnyG,
+        ctx: &Ctx,
+        seat: Seat,
+        tape: &mut Tape,
+        events: &mut EventQueue,
+    ) -> Result<Option<AnyG>, HookHalt> {
+        match &self.game {
+            Picked::TicTacToe(game) => game.on_move(alloc, g, ctx, seat, tape, events),
+            Picked::Countdown(game) => game.on_move(alloc, g, ctx, seat, tape, events),
+        }
+    }
+
+    fn turn_begin(
+        &self,
+        alloc: Global,
+        g: &AnyG,
+        ctx: &Ctx,
+        tape: &mut Tape,
+        events: &mut EventQueue,
+    ) -> Result<Option<AnyG>, HookHalt> {
+        match &self.game {
+            Picked::TicTacToe(game) => game.turn_begin(alloc, g, ctx, tape, events),
+            Picked::Countdown(game) => game.turn_begin(alloc, g, ctx, tape, events),
+        }
+    }
+
+    fn turn_end(
+        &self,
+        alloc: Global,
+        g: &AnyG,
+        ctx: &Ctx,
+        tape: &mut Tape,
+        events: &mut EventQueue,
+    ) -> Result<Option<AnyG>, HookHalt> {
+        match &self.game {
+            Picked::TicTacToe(game) => game.turn_end(alloc, g, ctx, tape, events),
+            Picked::Countdown(game) => game.turn_end(alloc, g, ctx, tape, events),
+        }
+    }
+
+    fn phase_begin(
+        &self,
+        alloc: Global,
+        g: &AnyG,
+        ctx: &Ctx,
+        phase: PhaseId,
+        tape: &mut Tape,
+        events: &mut EventQueue,
+    ) -> Result<Option<AnyG>, HookHalt> {
+        match &self.game {
+            Picked::TicTacToe(game) => game.phase_begin(alloc, g, ctx, phase, tape, events),
+            Picked::Countdown(game) => game.phase_begin(alloc, g, ctx, phase, tape, events),
+        }
+    }
+
+    fn phase_end(
+        &self,
+        alloc: Global,
+        g: &AnyG,
+        ctx: &Ctx,
+        phase: PhaseId,
+        tape: &mut Tape,
+        events: &mut EventQueue,
+    ) -> Result<Option<AnyG>, HookHalt> {
+        match &self.game {
+            Picked::TicTacToe(game) => game.phase_end(alloc, g, ctx, phase, tape, events),
+            Picked::Countdown(game) => game.phase_end(alloc, g, ctx, phase, tape, events),
+        }
+    }
+
+    fn game_end(
+        &self,
+        alloc: Global,
+        g: &AnyG,
+        ctx: &Ctx,
+        tape: &mut Tape,
+        events: &mut EventQueue,
+    ) -> Result<Option<AnyG>, HookHalt> {
+        match &self.game {
+            Picked::TicTacToe(game) => game.game_end(alloc, g, ctx, tape, events),
+            Picked::Countdown(game) => game.game_end(alloc, g, ctx, tape, events),
+        }
+    }
+
+    fn end_if(&self, g: &AnyG, ctx: &Ctx) -> Option<Outcome> {
+        match &self.game {
+            Picked::TicTacToe(game) => game.end_if(g, ctx),
+            Picked::Countdown(game) => game.end_if(g, ctx),
+        }
+    }
+
+    fn turn_end_if(&self, g: &AnyG, ctx: &Ctx) -> bool {
+        match &self.game {
+            Picked::TicTacToe(game) => game.turn_end_if(g, ctx),
+            Picked::Countdown(game) => game.turn_end_if(g, ctx),
+        }
+    }
+
+    fn phase_end_if(&self, g: &AnyG, ctx: &Ctx) -> bool {
+        match &self.game {
+            Picked::TicTacToe(game) => game.phase_end_if(g, ctx),
+            Picked::Countdown(game) => game.phase_end_if(g, ctx),
+        }
+    }
+
+    fn play_order(&self, alloc: Global, g: &AnyG, ctx: &Ctx) -> Result<List<Seat>, NoMemory> {
+        match &self.game {
+            Picked::TicTacToe(game) => game.play_order(alloc, g, ctx),
+            Picked::Countdown(game) => game.play_order(alloc, g, ctx),
+        }
+    }
+
+    fn to_value(&self, alloc: Global, g: &AnyG) -> Result<Value, NoMemory> {
+        g.to_value(alloc)
+    }
+
+    fn copy(&self, alloc: Global, g: &AnyG) -> Result<AnyG, NoMemory> {
+        Ok(g.copy())
+    }
+}

@@ -1,0 +1,11 @@
+//! All the games as one game, which is picked by its name.
+#![tactic(auto)]
+
+mod any_g;
+mod choice;
+mod lifted;
+#[cfg(test)]
+mod tests;
+
+pub use any_g::AnyG;
+pub use choice::{AnyGame, by_name};
