@@ -2,7 +2,7 @@
 
 ghost use Rattle.std.specs.Prelude.{◌<◌};
 
-use super::{ending, is_written, one, opening, play};
+use super::{ending, is_written, one, play};
 use crate::{Countdown, Heap};
 use dice_words::Tape;
 use game_sheet::{Args, EventQueue, Outcome, Seat};
@@ -55,54 +55,57 @@ fn winner(alloc: Global, left: u32, last: Option<Seat>) -> Result<Option<Seat>, 
     }
 }
 
+/// Whether a heap is written as this text.
+fn is_text_of(alloc: Global, left: u32, last: Option<Seat>, text: &str) -> Result<bool, Fail> {
+    let game = Countdown::new(alloc)?;
+    is_written(&game, alloc, &Heap { left, last }, text)
+}
+
 #[test]
 fn a_heap_is_written_with_its_last_taker(rt: HostRuntime) -> Result<(), Fail> {
-    let alloc = rt.alloc();
-    let game = Countdown::new(alloc)?;
-    let full = opening(&game, alloc)?;
-    assert!(rt; is_written(&game, alloc, &full, "{\"heap\":21,\"last\":null}")?);
-    let heap = Heap {
-        left: 18,
-        last: Some(3),
-    };
-    assert!(rt; is_written(&game, alloc, &heap, "{\"heap\":18,\"last\":3}")?);
+    assert!(rt; is_text_of(rt.alloc(), 21, None, "{\"heap\":21,\"last\":null}")?);
+    assert!(rt; is_text_of(rt.alloc(), 18, Some(3), "{\"heap\":18,\"last\":3}")?);
     Ok(())
 }
 
 #[test]
 fn a_take_is_one_to_three_of_what_is_left(rt: HostRuntime) -> Result<(), Fail> {
-    let alloc = rt.alloc();
-    assert!(rt; take(alloc, 21, 0, 3)? == Some(18));
-    assert!(rt; take(alloc, 2, 3, 1)? == Some(1));
-    assert!(rt; take(alloc, 2, 1, 2)? == Some(0));
-    for count in [0, 3, 4, -1] {
-        assert!(rt; take(alloc, 2, 0, count)?.is_none());
+    let rows = [
+        (21, 0, 3, Some(18)),
+        (2, 3, 1, Some(1)),
+        (2, 1, 2, Some(0)),
+        (2, 0, 3, None),
+        (21, 0, 0, None),
+        (21, 0, 4, None),
+        (21, 0, -1, None),
+        (21, 4, 1, None),
+    ];
+    for (left, seat, count, after) in rows {
+        assert!(rt; take(rt.alloc(), left, seat, count)? == after);
     }
-    assert!(rt; take(alloc, 21, 0, 4)?.is_none());
-    assert!(rt; take(alloc, 21, 4, 1)?.is_none());
     Ok(())
 }
 
 #[test]
 fn a_wild_take_goes_by_the_die_and_the_heap(rt: HostRuntime) -> Result<(), Fail> {
-    let alloc = rt.alloc();
-    let mut tape = zeros();
-    for left in [18, 19, 18, 20] {
-        assert!(rt; wild(alloc, 21, 1, &mut tape)? == Some(left));
+    let rows = [
+        (21, 1, Some(18)),
+        (2, 0, Some(0)),
+        (1, 3, Some(0)),
+        (0, 0, None),
+        (21, 4, None),
+    ];
+    for (left, seat, after) in rows {
+        assert!(rt; wild(rt.alloc(), left, seat, &mut zeros())? == after);
     }
-    assert!(rt; wild(alloc, 2, 0, &mut zeros())? == Some(0));
-    assert!(rt; wild(alloc, 1, 0, &mut zeros())? == Some(0));
-    assert!(rt; wild(alloc, 0, 0, &mut tape)?.is_none());
-    assert!(rt; wild(alloc, 21, 4, &mut tape)?.is_none());
-    assert!(rt; tape.used() == 4);
     Ok(())
 }
 
 #[test]
 fn whoever_took_the_last_wins(rt: HostRuntime) -> Result<(), Fail> {
-    let alloc = rt.alloc();
-    assert!(rt; winner(alloc, 1, Some(0))?.is_none());
-    assert!(rt; winner(alloc, 0, Some(7))? == Some(7));
-    assert!(rt; winner(alloc, 0, None)?.is_none());
+    let rows = [(1, Some(0), None), (0, Some(7), Some(7)), (0, None, None)];
+    for (left, last, won) in rows {
+        assert!(rt; winner(rt.alloc(), left, last)? == won);
+    }
     Ok(())
 }

