@@ -392,32 +392,37 @@ fn a_spec_with_a_follower(rt: HostRuntime) -> Result<(), Fail> {
     Ok(())
 }
 
-#[test]
-fn events_of_players(rt: HostRuntime) -> Result<(), Fail> {
-    let alloc = rt.alloc();
+/// Two seats whose turns have one or two moves, without a phase.
+fn make_plain(alloc: Global) -> Result<Toy, Fail> {
     let turn = turn_row(Order::Default, 1, Some(2), None);
     let rows = phases(alloc, None)?;
-    let game = make_toy(
-        make_sheet(alloc, 2, turn, rows, List::new(alloc))?,
-        false,
-        false,
-    )
-    .ok_or("sheet")?;
+    let sheet = make_sheet(alloc, 2, turn, rows, List::new(alloc))?;
+    let game = make_toy(sheet, false, false).ok_or("sheet")?;
+    Ok(game)
+}
+
+#[test]
+fn events_that_are_refused(rt: HostRuntime) -> Result<(), Fail> {
+    let alloc = rt.alloc();
+    let game = make_plain(alloc)?;
     let first = opened(alloc, &game, 2)?;
-    let early = acted(alloc, &game, &first, 0, Some(Event::EndTurn { to: None }));
-    assert!(rt; is_refused(&early, GameRule::TooEarly));
-    let nobody = acted(
-        alloc,
-        &game,
-        &first,
-        0,
-        Some(Event::EndTurn { to: Some(2) }),
-    );
-    assert!(rt; is_refused(&nobody, GameRule::InvalidMove));
-    let no_phase = acted(alloc, &game, &first, 0, Some(Event::EndPhase));
-    assert!(rt; is_refused(&no_phase, GameRule::InvalidMove));
-    let no_stage = acted(alloc, &game, &first, 0, Some(Event::EndStage));
-    assert!(rt; is_refused(&no_stage, GameRule::InvalidMove));
+    for (event, rule) in [
+        (Event::EndTurn { to: None }, GameRule::TooEarly),
+        (Event::EndTurn { to: Some(2) }, GameRule::InvalidMove),
+        (Event::EndPhase, GameRule::InvalidMove),
+        (Event::EndStage, GameRule::InvalidMove),
+    ] {
+        let refused = acted(alloc, &game, &first, 0, Some(event));
+        assert!(rt; is_refused(&refused, rule));
+    }
+    Ok(())
+}
+
+#[test]
+fn turns_that_a_player_ends(rt: HostRuntime) -> Result<(), Fail> {
+    let alloc = rt.alloc();
+    let game = make_plain(alloc)?;
+    let first = opened(alloc, &game, 2)?;
     let moved = acted(alloc, &game, &first, 0, None)?;
     let passed = acted(alloc, &game, &moved, 0, Some(Event::EndTurn { to: None }))?;
     let ctx = passed.ctx();
