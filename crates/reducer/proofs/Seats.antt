@@ -1,6 +1,6 @@
 -- A seat that may act is a seat of the match.
 use Rattle.std.proofs.Common.{◌≡◌, ◌<◌, ℕ, Bool, true, false, ◌==◌, nat_eq, List, [], ◌∷◌, map, Option, Some, None, is_some, option_map, if◌then◌else◌, arith, refl, sym, subst, ap, ◌∙◌}
-use Rattle.std.specs.List.{AllByRecursion as All}
+use Rattle.std.specs.List.{AllByRecursion}
 use Rattle.std.proofs.lemmas.Bool.Decides.{nat_tests}
 use Rattle.game_sheet.specs.SheetFits.{SheetFits}
 use Rattle.game_sheet.specs.declared.ctx.Ctx.{Ctx}
@@ -19,7 +19,7 @@ by_row : (seats seat : ℕ) (row : Row) (rest : Option (Option ℕ)) (b : Bool) 
 by_row seats seat row rest true e r later h = subst (λ n. n < seats) (same_seat row.seat seat e) r
 by_row seats seat row rest false e r later h = later h
 
-listed_seat : (stages seats most seat : ℕ) (listed : List Row) → All (RowFits stages seats most) listed → is_some (place_of (map shown_row listed) seat) ≡ true → seat < seats
+listed_seat : (stages seats most seat : ℕ) (listed : List Row) → AllByRecursion (RowFits stages seats most) listed → is_some (place_of (map shown_row listed) seat) ≡ true → seat < seats
 listed_seat stages seats most seat [] a h = cc
 listed_seat stages seats most seat (row ∷ listed) a h =
     by_row seats seat row (place_of (map shown_row listed) seat) (nat_eq row.seat seat) refl a.0.seat (λ g. listed_seat stages seats most seat listed a.1 g) h

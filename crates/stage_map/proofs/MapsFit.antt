@@ -1,7 +1,7 @@
 -- What maps take from a sheet that fits, in a match of so many seats.
 use Rattle.std.proofs.Common.{◌≡◌, ◌<◌, ◌≤◌, ℕ, Some, length, slice_get, arith}
 use Rattle.std.proofs.lemmas.List.Elements.{recursion_from_All}
-use Rattle.std.specs.List.{AllByRecursion as All}
+use Rattle.std.specs.List.{AllByRecursion}
 use Rattle.game_sheet.specs.SheetFits.{SheetFits, SpecFits as SpecIsSound, PlaceFits as PlaceIsSound}
 use Rattle.game_sheet.specs.declared.sheet.Place.{Place}
 use Rattle.game_sheet.specs.declared.sheet.Sheet.{Sheet}
@@ -17,8 +17,8 @@ pub record SpecFits (specs stages seats : ℕ) (row : SpecRow) : Type 0 where
   pub current : (place : Place) → row.current ≡ Some place → PlaceFits stages place
   pub others : (place : Place) → row.others ≡ Some place → PlaceFits stages place
   pub all : (place : Place) → row.all ≡ Some place → PlaceFits stages place
-  pub value_seats : All (λ (entry : ℕ × Place). entry.0 < seats) row.value
-  pub value_places : All (λ (entry : ℕ × Place). PlaceFits stages entry.1) row.value
+  pub value_seats : AllByRecursion (λ (entry : ℕ × Place). entry.0 < seats) row.value
+  pub value_places : AllByRecursion (λ (entry : ℕ × Place). PlaceFits stages entry.1) row.value
   pub next : (spec : ℕ) → row.next ≡ Some spec → spec < specs
 
 place_fits : (sheet : Sheet) (place : Place) → PlaceIsSound sheet place → PlaceFits (length sheet.stages) place

@@ -1,6 +1,6 @@
 -- Every operation on maps keeps a sound map sound.
 use Rattle.std.proofs.Common.{◌≡◌, ◌<◌, ◌≤◌, ◌+◌, ℕ, zero, suc, Bool, true, false, cond, nat_lt, not, ◌==◌, Option, None, Some, List, [], ◌∷◌, ◌++◌, length, map, slice_get, option_and_then, option_map, refl, subst, arith}
-use Rattle.std.specs.List.{AllByRecursion as All}
+use Rattle.std.specs.List.{AllByRecursion}
 use Rattle.game_sheet.specs.declared.sheet.Place.{Place}
 use Rattle.game_sheet.specs.declared.sheet.Sheet.{Sheet}
 use Rattle.game_sheet.specs.declared.sheet.SpecRow.{SpecRow}
@@ -16,17 +16,17 @@ use Rattle.stage_map.specs.Stages.{count_move, count_row, counted, end_row, end_
 use Rattle.stage_map.proofs.Rising.{all_append, all_filter, all_put, all_weaker, all_without, put_stands, rise_put, rise_without}
 
 abbrev pub InMatch : ℕ → List ℕ → Type 0
-InMatch seats order = All (λ seat. seat < seats) order
+InMatch seats order = AllByRecursion (λ seat. seat < seats) order
 
 module _ (specs stages seats most : ℕ) where
   abbrev pub Good : List Row → Type 0
-  Good listed = Rise listed × All (RowFits stages seats most) listed
+  Good listed = Rise listed × AllByRecursion (RowFits stages seats most) listed
 
   abbrev pub Follows : Option ℕ → Type 0
   Follows next = (spec : ℕ) → next ≡ Some spec → spec < specs
 
   abbrev pub Kepts : List Kept → Type 0
-  Kepts stack = All (λ (kept : Kept). Stands specs stages seats most kept.rows kept.next) stack
+  Kepts stack = AllByRecursion (λ (kept : Kept). Stands specs stages seats most kept.rows kept.next) stack
 
   good_put : (row : Row) (listed : List Row) → RowFits stages seats most row → Good listed → Good (put row listed)
   good_put row listed p g = (rise_put row listed g.0, all_put (RowFits stages seats most) row listed p g.1)
@@ -40,24 +40,24 @@ module _ (specs stages seats most : ℕ) where
   placed_fits : (spec : SpecRow) (place : Place) (seat : ℕ) → seat < seats → PlaceFits stages place → RowFits stages seats most (placed spec place seat)
   placed_fits spec place seat h p = record { seat = h; stage = p.stage; count = omega arith }
 
-  good_put_all : (spec : SpecRow) (entries : List (ℕ × Place)) (listed : List Row) → All EntryFits entries → Good listed → Good (put_all spec entries listed)
+  good_put_all : (spec : SpecRow) (entries : List (ℕ × Place)) (listed : List Row) → AllByRecursion EntryFits entries → Good listed → Good (put_all spec entries listed)
   good_put_all spec [] listed a g = g
   good_put_all spec (entry ∷ entries) listed a g =
       good_put_all spec entries (put (placed spec entry.1 entry.0) listed) a.1 (good_put (placed spec entry.1 entry.0) listed (placed_fits spec entry.1 entry.0 a.0.0 a.0.1) g)
 
-  at_fit : (place : Place) (given : List ℕ) → PlaceFits stages place → InMatch seats given → All EntryFits (map (λ seat. (seat, place)) given)
+  at_fit : (place : Place) (given : List ℕ) → PlaceFits stages place → InMatch seats given → AllByRecursion EntryFits (map (λ seat. (seat, place)) given)
   at_fit place [] p a = tt
   at_fit place (seat ∷ given) p a = ((a.0, p), at_fit place given p a.1)
 
-  each_fit : (place : Option Place) (given : List ℕ) → ((p : Place) → place ≡ Some p → PlaceFits stages p) → InMatch seats given → All EntryFits (each_at place given)
+  each_fit : (place : Option Place) (given : List ℕ) → ((p : Place) → place ≡ Some p → PlaceFits stages p) → InMatch seats given → AllByRecursion EntryFits (each_at place given)
   each_fit None given f a = tt
   each_fit (Some place) given f a = at_fit place given (f place refl) a
 
-  value_fit : (value : List (ℕ × Place)) → All (λ (entry : ℕ × Place). entry.0 < seats) value → All (λ (entry : ℕ × Place). PlaceFits stages entry.1) value → All EntryFits value
+  value_fit : (value : List (ℕ × Place)) → AllByRecursion (λ (entry : ℕ × Place). entry.0 < seats) value → AllByRecursion (λ (entry : ℕ × Place). PlaceFits stages entry.1) value → AllByRecursion EntryFits value
   value_fit [] a b = tt
   value_fit (entry ∷ value) a b = ((a.0, b.0), value_fit value a.1 b.1)
 
-  entries_fit : (spec : SpecRow) (current : ℕ) (order : List ℕ) → SpecFits specs stages seats spec → current < seats → InMatch seats order → All EntryFits (entries_of spec current order)
+  entries_fit : (spec : SpecRow) (current : ℕ) (order : List ℕ) → SpecFits specs stages seats spec → current < seats → InMatch seats order → AllByRecursion EntryFits (entries_of spec current order)
   entries_fit spec current order f h o =
       let first = each_at spec.current (current ∷ []) in
       let second = each_at spec.others (others current order) in
@@ -164,7 +164,7 @@ module _ (specs stages seats most : ℕ) where
   found_at true other rest row e p f = let same : other ≡ row = cc in subst (RowFits stages seats most) same p
   found_at false other rest row e p f = f e
 
-  found_fits : (seat : ℕ) (listed : List Row) (row : Row) → row_of seat listed ≡ Some row → All (RowFits stages seats most) listed → RowFits stages seats most row
+  found_fits : (seat : ℕ) (listed : List Row) (row : Row) → row_of seat listed ≡ Some row → AllByRecursion (RowFits stages seats most) listed → RowFits stages seats most row
   found_fits seat [] row e a = cc
   found_fits seat (other ∷ listed) row e a = found_at (other.seat == seat) other (row_of seat listed) row e a.0 (λ d. found_fits seat listed row d a.1)
 

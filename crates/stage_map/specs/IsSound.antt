@@ -1,7 +1,7 @@
 -- What holds of every map in a match. It and each map on its stack has rows, in rising order of seats; its seats, stages and
 -- followers are there, and its counts have a bound. A null map has no follower and an empty stack.
 use Rattle.std.specs.Prelude.{◌≡◌, ◌<◌, ◌≤◌, ℕ, Option, None, Some, List, [], ◌∷◌, length}
-use Rattle.std.specs.List.{AllByRecursion as All}
+use Rattle.std.specs.List.{AllByRecursion}
 use Rattle.stage_map.specs.declared.rows.Row.{Row}
 use Rattle.stage_map.specs.declared.active.Kept.{Kept}
 use Rattle.stage_map.specs.Active.{Map}
@@ -15,13 +15,13 @@ pub record RowFits (stages seats most : ℕ) (row : Row) : Type 0 where
 -- each row is of a greater seat than those before it
 abbrev pub Rise : List Row → Type 0
 Rise [] = Unit {0}
-Rise (row ∷ listed) = All (λ (later : Row). row.seat < later.seat) listed × Rise listed
+Rise (row ∷ listed) = AllByRecursion (λ (later : Row). row.seat < later.seat) listed × Rise listed
 
 -- the rows and the follower of a map that isn't null
 pub record Stands (specs stages seats most : ℕ) (listed : List Row) (next : Option ℕ) : Type 0 where
   pub not_empty : 0 < length listed
   pub rise : Rise listed
-  pub fit : All (RowFits stages seats most) listed
+  pub fit : AllByRecursion (RowFits stages seats most) listed
   pub follower : (spec : ℕ) → next ≡ Some spec → spec < specs
 
 abbrev pub StandsOrNull : ℕ → ℕ → ℕ → ℕ → Option (List Row) → Map → Type 0
@@ -30,4 +30,4 @@ StandsOrNull specs stages seats most (Some listed) m = Stands specs stages seats
 
 pub record IsSound (specs stages seats most : ℕ) (m : Map) : Type 0 where
   pub present : StandsOrNull specs stages seats most m.rows m
-  pub earlier : All (λ (kept : Kept). Stands specs stages seats most kept.rows kept.next) m.stack
+  pub earlier : AllByRecursion (λ (kept : Kept). Stands specs stages seats most kept.rows kept.next) m.stack
