@@ -6,4 +6,3 @@ pub mod Sound
 pub mod Standing
 pub mod Starts
 pub mod Steps
-pub mod Toy

@@ -4,8 +4,6 @@
 mod act;
 mod fold;
 mod state;
-#[cfg(test)]
-mod tests;
 
 pub use fold::{StartNo, start, step};
 pub use state::State;
