@@ -1,6 +1,7 @@
 //! Runs in memory.
 
 mod countdown;
+mod events;
 mod win;
 
 use crate::run::{run, status};
@@ -87,6 +88,32 @@ fn wild_takes_are_rolled_by_the_seed_of_the_match(rt: HostRuntime) -> Result<(),
     let (exit, printed) = played(rt.alloc(), countdown::WILD, &[], &[])?;
     assert_eq!(rt; exit, Exit::Done);
     assert_eq!(rt; printed.as_slice(), countdown::WILD_TRANSCRIPT);
+    Ok(())
+}
+
+#[test]
+fn events_that_the_sheet_does_not_give_players_are_unknown(rt: HostRuntime) -> Result<(), Fail> {
+    let (exit, printed) = played(rt.alloc(), events::FIXED_TURNS, &[], &[])?;
+    assert_eq!(rt; exit, Exit::Done);
+    assert_eq!(rt; printed.as_slice(), events::FIXED_TURNS_TRANSCRIPT);
+    Ok(())
+}
+
+#[test]
+fn a_player_ends_a_turn_once_it_has_its_moves(rt: HostRuntime) -> Result<(), Fail> {
+    let (exit, printed) = played(rt.alloc(), events::OPEN_TURNS, &[], &[])?;
+    assert_eq!(rt; exit, Exit::Done);
+    assert_eq!(rt; printed.as_slice(), events::OPEN_TURNS_TRANSCRIPT);
+    Ok(())
+}
+
+#[test]
+fn an_undo_and_an_event_in_another_form_are_bad_lines(rt: HostRuntime) -> Result<(), Fail> {
+    for script in events::BAD_LINES {
+        let (exit, printed) = played(rt.alloc(), script, &[], &[])?;
+        assert_eq!(rt; exit, Exit::BadLine { line: 3 });
+        assert_eq!(rt; printed.as_slice(), b"open 0-1\n".as_slice());
+    }
     Ok(())
 }
 

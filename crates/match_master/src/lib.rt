@@ -6,6 +6,7 @@ mod call;
 mod judge;
 mod kept;
 mod line;
+mod object;
 mod reply;
 mod rule;
 mod session;

@@ -1,5 +1,5 @@
 -- How the answers to a line and to its reading end a run, or let it go on.
-use Rattle.std.proofs.Common.{◌≡◌, ◌≤◌, ◌+◌, ℕ, false, List, [], ◌++◌, Option, Some, None, IsSome, refl, sym, ap, ◌∙◌, subst, append-nil, arith}
+use Rattle.std.proofs.Common.{◌≡◌, ◌≤◌, ◌+◌, ℕ, List, [], ◌++◌, Option, Some, None, IsSome, refl, sym, ap, ◌∙◌, subst, append-nil, arith}
 use Rattle.board_links.specs.Faults.{HasRisen}
 use Rattle.board_links.specs.Pieces.{told_bytes}
 use Rattle.match_master.specs.Held.{Held, StandsFor}

@@ -1,5 +1,5 @@
 -- Only a text names a game.
-use Rattle.std.proofs.Common.{◌≡◌, ℕ, true, false, Bool, List, Option, Some, None, codes, bytes_eq, IsUtf8, nat_lt, refl, sym, ap, ◌∙◌, subst}
+use Rattle.std.proofs.Common.{◌≡◌, ℕ, true, false, Bool, List, Option, Some, None, codes, bytes_eq, IsUtf8, nat_lt, refl, sym, ap, subst}
 use Rattle.std.specs.List.{list_all}
 use Rattle.std.specs.Prelude.{is_some, is_none, option_and_then, if◌then◌else◌}
 use Rattle.std.proofs.lemmas.Bool.{ltb-true}
@@ -9,7 +9,6 @@ use Rattle.std.proofs.lemmas.Str.{IsUtf8-from_ascii}
 use Rattle.std.proofs.lemmas.Str.Ascii.{IsAscii-from_all}
 use Rattle.any_game.specs.AnyRules.{named}
 use Rattle.world_script.specs.Forms.{opening_of}
-use Rattle.world_script.specs.declared.stage.Step.{Step}
 
 abbrev AllAscii : List ℕ → Type 0
 AllAscii bytes = list_all (λ b. nat_lt b 128) bytes ≡ true

@@ -1,5 +1,5 @@
 -- What a run of a script has come to, before its next line.
-use Rattle.std.proofs.Common.{◌≡◌, ℕ, ◌+◌, true, false, List, [], ◌∷◌, ◌++◌, Option, Some, refl, sym, ap, ◌∙◌, append_assoc, append-nil}
+use Rattle.std.proofs.Common.{◌≡◌, ℕ, true, false, List, [], ◌∷◌, ◌++◌, Option, Some, refl, sym, ap, ◌∙◌, append_assoc, append-nil}
 use Rattle.std.proofs.lemmas.Bool.{true≢false}
 use Rattle.match_master.specs.declared.call.RoomCall.{RoomCall}
 use Rattle.match_master.specs.Held.{Held, StandsFor}
@@ -9,7 +9,7 @@ use Rattle.any_game.specs.declared.any_g.AnyG.{AnyG}
 use Rattle.any_game.specs.GameKind.{GameKind}
 use Rattle.world_script.specs.Reader.{Reader, fresh, whole_to_come}
 use Rattle.world_script.specs.Reading.{Moves}
-use Rattle.world_script.specs.ScriptLines.{Script, Ending, Ended, no_lines, first_line, no_whole_line, script, whole_lines, lines_from}
+use Rattle.world_script.specs.ScriptLines.{Script, Ending, Ended, no_lines, no_whole_line, script, whole_lines, lines_from}
 use Rattle.world_script.specs.Transcript.{transcript, printed, bad_from, no_lines_yet}
 use Rattle.world_script.specs.declared.next.Next.TheVariants.{Line, ReadFault}
 use Rattle.world_script.specs.declared.stage.Stage.{Stage}

@@ -1,9 +1,8 @@
 -- Which lines are in form, by what the lines before them have come to. A script opens one match of a known game, for a number of seats
--- that the game allows. The session of each seat's number syncs once, with the seat's key; from then on it moves in that match, ends
--- turns, and takes what waits for it.
+-- that the game allows. The session of each seat's number syncs once, with the seat's key; from then on it moves in that match, asks
+-- for events, and takes what waits for it.
 use Rattle.std.specs.Prelude.{ℕ, ◌==◌, Bool, true, false, not, ◌&&◌, if◌then◌else◌, nat_lt, is_none, bytes_eq, replicate, slice_get, slice_set, List, [], ◌∷◌, ◌++◌, Option, Some, None, option_and_then, unwrap_or, Result, Ok, Err}
 use Rattle.game_sheet.specs.MatchName.{Name}
-use Rattle.game_sheet.specs.declared.act.EventKind.TheVariants as event
 use Rattle.any_game.specs.AnyRules.{any_rules, named}
 use Rattle.any_game.specs.GameKind.{GameKind}
 use Rattle.match_master.specs.Calls.{seats_fit}
@@ -40,20 +39,19 @@ is_own_seat session (Some viewer) = (viewer.0 == session) && bytes_eq viewer.1 (
 abbrev pub may_sync : Stage → ℕ → Bool
 may_sync stage session = is_seat stage.seats session && not (has_synced stage session)
 
--- a move of any name, and the end of a turn
-abbrev pub is_move_or_end : Asked → Bool
-is_move_or_end (asked.Move name args) = true
-is_move_or_end (asked.Event event.EndTurn to) = true
-is_move_or_end (asked.Event other to) = false
-is_move_or_end asked.Undo = false
-is_move_or_end asked.Redo = false
+-- a move of any name, and every event; an undo and a redo are in no form
+abbrev pub is_move_or_event : Asked → Bool
+is_move_or_event (asked.Move name args) = true
+is_move_or_event (asked.Event kind to) = true
+is_move_or_event asked.Undo = false
+is_move_or_event asked.Redo = false
 
 abbrev pub step_of_message : Stage → ℕ → Result ClientMsg Refusal → Option Step
 step_of_message stage session (Err refusal) = None
 step_of_message stage session (Ok (message.Sync name viewer)) =
     if may_sync stage session && is_the_match name && is_own_seat session viewer then Some (Syncs session) else None
 step_of_message stage session (Ok (message.Act act key name number ticket)) =
-    if has_synced stage session && is_the_match name && bytes_eq key (seat_key session) && is_move_or_end act
+    if has_synced stage session && is_the_match name && bytes_eq key (seat_key session) && is_move_or_event act
     then Some (Acts session (record { name = name; key = key; number = number; ticket = ticket; asked = act })) else None
 
 -- a match of a game, for a number of seats that the game allows

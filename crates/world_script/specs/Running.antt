@@ -1,5 +1,5 @@
 -- How a run of a script ends, beside the script that was read and the bytes that the sink held before and holds after.
-use Rattle.std.specs.Prelude.{◌≡◌, ◌+◌, ℕ, Bool, false, IsSome, List, [], ◌++◌, take, Option, Some, None}
+use Rattle.std.specs.Prelude.{◌≡◌, ◌+◌, ℕ, List, [], ◌++◌, take, Option, Some, None}
 use Rattle.any_game.specs.AnyRules.{any_rules}
 use Rattle.any_game.specs.declared.any_g.AnyG.{AnyG}
 use Rattle.any_game.specs.GameKind.{GameKind}

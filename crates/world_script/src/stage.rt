@@ -6,11 +6,11 @@ ghost use Rattle.match_master.specs.Calls.{seats_fit};
 ghost use Rattle.wire_json.specs.ClientReading.{client_read};
 ghost use Rattle.wire_json.specs.declared.client.ClientMsg.TheVariants.{Sync, Act};
 ghost use Rattle.world_script.specs.Commands.{Open, Take};
-ghost use Rattle.world_script.specs.Forms.{seat_key, is_the_match, has_synced, is_seat, is_own_seat, may_sync, is_move_or_end, step_of_message, step_of_command, step_of, stage_after};
+ghost use Rattle.world_script.specs.Forms.{seat_key, is_the_match, has_synced, is_seat, is_own_seat, may_sync, is_move_or_event, step_of_message, step_of_command, step_of, stage_after};
 
 use crate::command::{Command, command_of};
 use any_game::{AnyGame, by_name};
-use game_sheet::{EventKind, Key, MatchName, NoMemory, Seat};
+use game_sheet::{Key, MatchName, NoMemory, Seat};
 use game_trait::Game;
 use match_master::Submission;
 use std::alloc::Global;
@@ -163,7 +163,7 @@ fn acts(stage: Stage, session: u8, submission: Submission) -> Option<Step>
     if is_synced(stage, session)
         && is_match(&submission.name)
         && is_key(session, &submission.key)
-        && moves_or_ends(&submission.asked)
+        && is_move_or_event(&submission.asked)
     {
         Some(Step::Acts {
             session,
@@ -232,13 +232,13 @@ pub fn key_of_seat(seat: Seat) -> [u8; 16]
     [0, 0, 0, 0, 0, 0, 0, 0, 0, 0, 0, 0, 0, 0, 0, seat]
 }
 
-/// Whether an action is a move or the end of a turn.
-fn moves_or_ends(asked: &Asked) -> bool
-    ensures { result ≡ is_move_or_end asked.now }
+/// Whether an action is a move or an event.
+fn is_move_or_event(asked: &Asked) -> bool
+    ensures { result ≡ is_move_or_event asked.now }
 {
     match asked {
         Asked::Move { .. } => true,
-        Asked::Event { kind, .. } => matches!(kind, EventKind::EndTurn),
+        Asked::Event { .. } => true,
         Asked::Undo => false,
         Asked::Redo => false,
     }

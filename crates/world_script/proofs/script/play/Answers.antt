@@ -1,7 +1,7 @@
-use Rattle.std.proofs.Common.{◌≡◌, ◌+◌, refl, sym, ap, ◌∙◌, subst, arith}
+use Rattle.std.proofs.Common.{◌≡◌, ◌+◌, refl, sym, ap, ◌∙◌, arith}
 use Rattle.board_links.specs.Pieces.{told_bytes}
 use Rattle.world_script.specs.Reading.{given_after}
-use Rattle.world_script.proofs.EndLaws.{line_is, done_is, stop_raises, end_raises, stop_ends, begins_with, line_ends, line_runs}
+use Rattle.world_script.proofs.EndLaws.{line_is, stop_raises, end_raises, stop_ends, begins_with, line_ends, line_runs}
 use Rattle.world_script.proofs.script.play.Goals as goal
 
 pub lines-init : goal.lines-init

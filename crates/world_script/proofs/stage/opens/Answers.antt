@@ -1,4 +1,4 @@
-use Rattle.std.proofs.Common.{sym, ◌∙◌}
+use Rattle.std.proofs.Common.{sym}
 use Rattle.world_script.proofs.FormLaws.{opens_none}
 use Rattle.world_script.proofs.stage.opens.Goals as goal
 
