@@ -7,5 +7,8 @@ pub mod ClientLaws
 pub mod ClientWriting
 pub mod Arguments
 pub mod Trees
+pub mod Tables
+pub mod AnswerLaws
 pub mod ServerLaws
+pub mod Answerable
 pub mod ServerWriting

@@ -1,8 +1,6 @@
 -- A line to a client reads as the message that it is a form of, and as no other.
 use Rattle.std.proofs.Common.{◌≡◌, ℕ, List, [], ◌∷◌, Bool, true, false, cond, ◌⊎◌, inl, inr, Option, Some, None, Ok, Err, bytes_eq, codes, refl, ap, ◌∙◌, subst}
 use Rattle.std.proofs.lemmas.Slice.Eq.{bytes_eq-Decides}
-use Rattle.std.specs.List.{AllByRecursion}
-use Rattle.std.specs.Map.{lookup}
 use Rattle.std.specs.Prelude.{Result}
 use Rattle.serde_json.specs.Data.{Data, string, object, Members}
 use Rattle.serde_json.specs.Find.{get_member}
@@ -16,15 +14,16 @@ use Rattle.json_tree.specs.declared.lines.LineFault.{LineFault}
 use Rattle.json_tree.proofs.LineLaws.{line_is, line_again, canonical_line}
 use Rattle.json_tree.proofs.Rows.{row_is}
 use Rattle.wire_json.specs.ReasonText.{reason_text}
-use Rattle.wire_json.specs.ServerText.{seat_or_null, server_members}
-use Rattle.wire_json.specs.ClientReading.{or_null}
-use Rattle.wire_json.specs.ServerReading.{SeatFits, ServerFits, IsServerForm, no_bound, reason_table, reason_from, reason_in, tree_in, synced_in, update_in, ok_in, no_in, server_as, server_in, server_read}
+use Rattle.wire_json.specs.ServerText.{server_members}
+use Rattle.wire_json.specs.ServerReading.{ServerFits, IsServerForm, no_bound, reason_table, reason_from, reason_in, tree_in, synced_in, update_in, ok_in, no_in, again_in, refused_in, bye_in, server_as, server_in, server_read}
 use Rattle.wire_json.specs.Refusals.{Refusal, ExtraField, UnknownMessage, of_line}
 use Rattle.wire_json.specs.declared.reason.Reason.{Reason}
 use Rattle.wire_json.specs.declared.reason.Reason.TheVariants.{NoMatch, Unauthorized, GameOver, MatchFull, CannotUndoNow, NotActive, UnknownMove, WrongNumber, NothingToUndo, NothingToRedo, NotYours, NotUndoable, InvalidMove, TooEarly, TooManyWords, TooManyEvents}
 use Rattle.wire_json.specs.declared.server.ServerMsg.{ServerMsg}
 use Rattle.wire_json.specs.declared.server.ServerMsg.TheVariants as to_client
-use Rattle.wire_json.proofs.FieldLaws.{bound, step, past, formed, text_is, natural_is, natural_again, match_member_is, match_member_again, Holds, or_null_is}
+use Rattle.wire_json.proofs.AnswerLaws.{within_is, within_again, again_is, refused_is, bye_is, refused_again, bye_again}
+use Rattle.wire_json.proofs.Tables.{table_is}
+use Rattle.wire_json.proofs.FieldLaws.{bound, step, past, formed, text_is, natural_is, natural_again, match_member_is, match_member_again, or_null_is}
 
 abbrev good : ServerMsg → Result ServerMsg Refusal
 good x = Ok x
@@ -34,19 +33,8 @@ last x y e = cc
 
 -- ---- forms
 
-looked_up : (b : Bool) (x y : Reason) (rest : Option Reason) → cond b (Some x) rest ≡ Some y → ((b ≡ true) × (x ≡ y)) ⊎ (rest ≡ Some y)
-looked_up true x y rest e = inl (refl, cc)
-looked_up false x y rest e = inr e
-
-table_is : (s : List ℕ) (table : List (List ℕ × Reason)) (r : Reason) → AllByRecursion (λ row. row.0 ≡ reason_text row.1) table → lookup (bytes_eq s) table ≡ Some r → s ≡ reason_text r
-table_is s [] r h e = absurd (cc)
-table_is s (row ∷ table) r h e = elim (looked_up (bytes_eq s row.0) row.1 r (lookup (bytes_eq s) table) e) [
-  | inl p ↦ (bytes_eq-Decides s row.0).0 p.0 ∙ h.0 ∙ ap reason_text p.1
-  | inr p ↦ table_is s table r h.1 p
-]
-
 reason_is : (s : List ℕ) (r : Reason) → reason_from s ≡ Some r → s ≡ reason_text r
-reason_is s r e = table_is s reason_table r (refl, (refl, (refl, (refl, (refl, (refl, (refl, (refl, (refl, (refl, (refl, (refl, (refl, (refl, (refl, (refl, tt)))))))))))))))) e
+reason_is s r e = table_is reason_text s reason_table r (refl, (refl, (refl, (refl, (refl, (refl, (refl, (refl, (refl, (refl, (refl, (refl, (refl, (refl, (refl, (refl, tt)))))))))))))))) e
 
 reason_again : (r : Reason) → reason_from (reason_text r) ≡ Some r
 reason_again NoMatch = refl
@@ -72,14 +60,6 @@ reason_member_is o r e = let t = bound (text_in o) _ r e in text_is o t.0 t.1 �
 tree_is : (o : Option Data) (d : Data) → tree_in o ≡ Ok d → o ≡ Some d
 tree_is None d e = absurd (cc)
 tree_is (Some f) d e = let same : f ≡ d = cc in ap Some same
-
-seat_is : (o : Option Data) (seat : Option ℕ) → Holds (natural_in 255) o seat → (o ≡ Some (seat_or_null seat)) × SeatFits seat
-seat_is o None h = (h, tt)
-seat_is o (Some seat) h = natural_is 255 o seat h
-
-seat_again : (seat : Option ℕ) → SeatFits seat → or_null (natural_in 255) (Some (seat_or_null seat)) ≡ Ok seat
-seat_again None h = refl
-seat_again (Some seat) h = rw (natural_again 255 seat h) refl
 
 -- ---- rows
 
@@ -125,7 +105,7 @@ synced_is ms m c kind e =
     let seat = step _ _ _ m name.2 in
     let snapshot = step _ _ _ m seat.2 in
     let match = match_member_is _ name.0 name.1 in
-    let place = seat_is _ seat.0 (or_null_is (natural_in 255) _ seat.0 seat.1) in
+    let place = within_is 255 _ seat.0 (or_null_is (natural_in 255) _ seat.0 seat.1) in
     let row = row_is sync_names ms (server_members (to_client.Sync name.0 seat.0 snapshot.0)) c ((refl, (refl, (refl, tt))), ((refl, (refl, tt)), ((refl, tt), (tt, tt)))) known.0 refl
     (match.0, (place.0, (tree_is _ snapshot.0 snapshot.1, (text_is _ _ kind, tt)))) in
     subst (λ x. (ms ≡ server_members x) × ServerFits x) (last (to_client.Sync name.0 seat.0 snapshot.0) m snapshot.2) (row, (match.1, place.1))
@@ -157,15 +137,27 @@ onlyif : (b : Bool) (x : Result ServerMsg Refusal) (refusal : Refusal) (m : Serv
 onlyif true x refusal m e = (refl, e)
 onlyif false x refusal m e = absurd (cc)
 
+kind_is : (kind name : List ℕ) (ms : Members) → text_in (get_member (codes "type") ms) ≡ Ok kind → bytes_eq kind name ≡ true → text_in (get_member (codes "type") ms) ≡ Ok name
+kind_is kind name ms is e = is ∙ ap (λ x. Ok x) ((bytes_eq-Decides kind name).0 e)
+
 server_by : (r : Result (List ℕ) FieldFault) (ms : Members) (m : ServerMsg) → MembersAreCanonical ms → text_in (get_member (codes "type") ms) ≡ r → server_as r (object ms) ≡ Ok m → (ms ≡ server_members m) × ServerFits m
 server_by (Err fault) ms m c is e = absurd (cc)
-server_by (Ok kind) ms m c is e = elim (either (bytes_eq kind (codes "no")) _ _ m e) [
-  | inl p ↦ no_is ms m c (is ∙ ap (λ x. Ok x) ((bytes_eq-Decides kind _).0 p.0)) p.1
-  | inr e1 ↦ elim (either (bytes_eq kind (codes "ok")) _ _ m e1) [
-    | inl p ↦ ok_is ms m c (is ∙ ap (λ x. Ok x) ((bytes_eq-Decides kind _).0 p.0)) p.1
-    | inr e2 ↦ elim (either (bytes_eq kind (codes "sync")) _ _ m e2) [
-      | inl p ↦ synced_is ms m c (is ∙ ap (λ x. Ok x) ((bytes_eq-Decides kind _).0 p.0)) p.1
-      | inr e3 ↦ let update = onlyif (bytes_eq kind (codes "update")) _ UnknownMessage m e3 in update_is ms m c (is ∙ ap (λ x. Ok x) ((bytes_eq-Decides kind _).0 update.0)) update.1
+server_by (Ok kind) ms m c is e = elim (either (bytes_eq kind (codes "again")) _ _ m e) [
+  | inl p ↦ again_is ms m c (kind_is kind _ ms is p.0) p.1
+  | inr e1 ↦ elim (either (bytes_eq kind (codes "bye")) _ _ m e1) [
+    | inl p ↦ bye_is ms m c (kind_is kind _ ms is p.0) p.1
+    | inr e2 ↦ elim (either (bytes_eq kind (codes "no")) _ _ m e2) [
+      | inl p ↦ no_is ms m c (kind_is kind _ ms is p.0) p.1
+      | inr e3 ↦ elim (either (bytes_eq kind (codes "ok")) _ _ m e3) [
+        | inl p ↦ ok_is ms m c (kind_is kind _ ms is p.0) p.1
+        | inr e4 ↦ elim (either (bytes_eq kind (codes "refused")) _ _ m e4) [
+          | inl p ↦ refused_is ms m c (kind_is kind _ ms is p.0) p.1
+          | inr e5 ↦ elim (either (bytes_eq kind (codes "sync")) _ _ m e5) [
+            | inl p ↦ synced_is ms m c (kind_is kind _ ms is p.0) p.1
+            | inr e6 ↦ let update = onlyif (bytes_eq kind (codes "update")) _ UnknownMessage m e6 in update_is ms m c (kind_is kind _ ms is update.0) update.1
+          ]
+        ]
+      ]
     ]
   ]
 ]
@@ -175,10 +167,13 @@ unfolding server_in
 server_is ms m c e = server_by (text_in (get_member (codes "type") ms)) ms m c refl e
 
 server_again : (m : ServerMsg) → ServerFits m → server_in (object (server_members m)) ≡ Ok m
-unfolding server_in synced_in update_in ok_in no_in
-server_again (to_client.Sync name seat snapshot) h = rw (match_member_again name h.0, seat_again seat h.1) refl
+unfolding server_in synced_in update_in ok_in no_in again_in refused_in bye_in
+server_again (to_client.Sync name seat snapshot) h = rw (match_member_again name h.0, within_again 255 seat h.1) refl
 server_again (to_client.Update ctx entry g at) h = rw (natural_again 4294967295 at h) refl
 server_again (to_client.Ok at ticket) h = rw (natural_again 4294967295 at h.0, natural_again 4294967295 ticket h.1) refl
+server_again (to_client.Again ticket) h = rw (within_again 4294967295 ticket h) refl
+server_again (to_client.Refused refusal) h = refused_again refusal
+server_again (to_client.Bye why) h = bye_again why
 server_again (to_client.No at reason ticket) h = rw (natural_again 4294967295 at h.0, reason_again reason, natural_again 4294967295 ticket h.1) refl
 
 -- ---- the line

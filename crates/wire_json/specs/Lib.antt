@@ -1,6 +1,8 @@
 pub mod MatchText
 pub mod KeyText
 pub mod ReasonText
+pub mod RefusalText
+pub mod ByeText
 pub mod ServerText
 pub mod Asking
 pub mod ClientText

@@ -10,26 +10,35 @@ use Rattle.json_tree.specs.Names.{extra_in}
 use Rattle.json_tree.specs.Steps.{◌>>=◌}
 use Rattle.json_tree.specs.declared.fields.FieldFault.{FieldFault}
 use Rattle.json_tree.specs.declared.fields.FieldFault.TheVariants.{Missing}
+use Rattle.game_sheet.specs.declared.act.Bye.{Bye}
 use Rattle.wire_json.specs.Acts.{in_form}
+use Rattle.wire_json.specs.ByeText.{bye_from}
 use Rattle.wire_json.specs.ClientReading.{match_in, or_null}
 use Rattle.wire_json.specs.MatchText.{IsName}
 use Rattle.wire_json.specs.Refusals.{Refusal, UnknownMessage, ExtraField, at_field, of_line}
+use Rattle.wire_json.specs.RefusalText.{member_from, refusal_from, with_field}
 use Rattle.wire_json.specs.ServerText.{server_members}
 use Rattle.wire_json.specs.declared.reason.Reason.{Reason}
 use Rattle.wire_json.specs.declared.reason.Reason.TheVariants.{NoMatch, Unauthorized, GameOver, MatchFull, CannotUndoNow, NotActive, UnknownMove, WrongNumber, NothingToUndo, NothingToRedo, NotYours, NotUndoable, InvalidMove, TooEarly, TooManyWords, TooManyEvents}
+use Rattle.wire_json.specs.declared.refusal.Member.{Member}
+use Rattle.wire_json.specs.declared.refusal.Refusal as refused
 use Rattle.wire_json.specs.declared.server.ServerMsg.{ServerMsg}
 use Rattle.wire_json.specs.declared.server.ServerMsg.TheVariants as to_client
 
-abbrev pub SeatFits : Option ℕ → Type 0
-SeatFits None = Unit {0}
-SeatFits (Some seat) = seat ≤ 255
+-- the number, where there is one, is within the bound
+abbrev pub IsWithin : ℕ → Option ℕ → Type 0
+IsWithin most None = Unit {0}
+IsWithin most (Some n) = n ≤ most
 
 -- the members are in their forms; those that are values of others may be any
 abbrev pub ServerFits : ServerMsg → Type 0
-ServerFits (to_client.Sync name seat snapshot) = IsName name × SeatFits seat
+ServerFits (to_client.Sync name seat snapshot) = IsName name × IsWithin 255 seat
 ServerFits (to_client.Update ctx entry g at) = at ≤ 4294967295
 ServerFits (to_client.Ok at ticket) = (at ≤ 4294967295) × (ticket ≤ 4294967295)
 ServerFits (to_client.No at reason ticket) = (at ≤ 4294967295) × (ticket ≤ 4294967295)
+ServerFits (to_client.Again ticket) = IsWithin 4294967295 ticket
+ServerFits (to_client.Refused refusal) = Unit {0}
+ServerFits (to_client.Bye why) = Unit {0}
 
 -- no line passes 2^64 - 1 bytes, so a client's reader has no bound of its own
 abbrev pub no_bound : ℕ
@@ -51,6 +60,15 @@ reason_from s = lookup (bytes_eq s) reason_table
 
 abbrev pub reason_in : Option Data → Result Reason FieldFault
 reason_in found = text_in found >>= λ s. in_form (reason_from s)
+
+abbrev pub member_in : Option Data → Result Member FieldFault
+member_in found = text_in found >>= λ s. in_form (member_from s)
+
+abbrev pub refusal_in : Option Data → Result refused.Refusal FieldFault
+refusal_in found = text_in found >>= λ s. in_form (refusal_from s)
+
+abbrev pub why_in : Option Data → Result Bye FieldFault
+why_in found = text_in found >>= λ s. in_form (bye_from s)
 
 abbrev pub tree_in : Option Data → Result Data FieldFault
 tree_in None = Err Missing
@@ -92,11 +110,38 @@ no_in d =
     at_field (codes "ticket") (natural_in 4294967295 (get (codes "ticket") d)) >>= λ ticket.
     Ok (to_client.No at reason ticket))
 
+unfoldable pub again_in : Data → Result ServerMsg Refusal
+again_in d =
+    if extra_in (codes "ticket" ∷ codes "type" ∷ []) d then Err ExtraField
+    else
+    (at_field (codes "ticket") (or_null (natural_in 4294967295) (get (codes "ticket") d)) >>= λ ticket.
+    Ok (to_client.Again ticket))
+
+-- a field beside a reason that can't point at one is a fault of the field
+unfoldable pub refused_in : Data → Result ServerMsg Refusal
+refused_in d =
+    if extra_in (codes "field" ∷ codes "reason" ∷ codes "type" ∷ []) d then Err ExtraField
+    else
+    (at_field (codes "field") (or_null member_in (get (codes "field") d)) >>= λ field.
+    at_field (codes "reason") (refusal_in (get (codes "reason") d)) >>= λ reason.
+    at_field (codes "field") (in_form (with_field reason field)) >>= λ refusal.
+    Ok (to_client.Refused refusal))
+
+unfoldable pub bye_in : Data → Result ServerMsg Refusal
+bye_in d =
+    if extra_in (codes "type" ∷ codes "why" ∷ []) d then Err ExtraField
+    else
+    (at_field (codes "why") (why_in (get (codes "why") d)) >>= λ why.
+    Ok (to_client.Bye why))
+
 abbrev pub server_as : Result (List ℕ) FieldFault → Data → Result ServerMsg Refusal
 server_as (Err fault) d = Err UnknownMessage
 server_as (Ok kind) d =
-    if bytes_eq kind (codes "no") then no_in d
+    if bytes_eq kind (codes "again") then again_in d
+    else if bytes_eq kind (codes "bye") then bye_in d
+    else if bytes_eq kind (codes "no") then no_in d
     else if bytes_eq kind (codes "ok") then ok_in d
+    else if bytes_eq kind (codes "refused") then refused_in d
     else if bytes_eq kind (codes "sync") then synced_in d
     else if bytes_eq kind (codes "update") then update_in d
     else Err UnknownMessage

@@ -1,10 +1,11 @@
 //! Reads the messages from clients, one function for each row.
 
-ghost use Rattle.std.specs.Prelude.{◌≡◌, codes, IfOk, Ok};
+ghost use Rattle.std.specs.Prelude.{◌≡◌, codes, IfOk, IfErr, Ok};
 ghost use Rattle.serde_json.specs.Find.{get};
 ghost use Rattle.serde_json.specs.View.{view};
 ghost use Rattle.wire_json.specs.ClientReading.{key_of_seat_in, sync_in, client_act_in, client_in, client_read, viewer_of as viewer_from};
 ghost use Rattle.wire_json.specs.ClientText.{IsForm};
+ghost use Rattle.wire_json.specs.RefusalText.{IsAnswerable};
 ghost use Rattle.wire_json.specs.Refusals.{Gives};
 ghost use Rattle.wire_json.specs.declared.client.ClientMsg.{ClientMsg as Message};
 
@@ -24,12 +25,14 @@ pub const CLIENT_LINE: u64 = 65_536;
 
 /// The message that a client's line is, or its first fault.
 ///
-/// The line comes without its newline; one at its end counts among the bytes, and is a blank.
-#[tactic(auto, using(crate::proofs::ClientLaws::read_is, crate::proofs::ClientLaws::read_again))]
+/// The line comes without its newline; one at its end counts among the bytes, and is a blank. Each fault but want of
+/// memory is one that `Refusal::of_fault` gives a refusal for.
+#[tactic(auto, using(crate::proofs::ClientLaws::read_is, crate::proofs::ClientLaws::read_again, crate::proofs::Answerable::is_answerable))]
 pub fn read_client(alloc: Global, line: &[u8]) -> Result<ClientMsg, WireNo>
     ensures found { IfOk result (λ m. IsForm line.now m) }
     ensures only { (m : Message) → IsForm line.now m → Gives result (Ok m) }
     ensures exact { Gives result (client_read line.now) }
+    ensures answerable { IfErr result IsAnswerable }
 {
     read_any(alloc, line)
 }

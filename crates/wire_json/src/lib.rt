@@ -2,7 +2,10 @@
 #![tactic(auto)]
 
 mod acts;
+#[cfg(test)]
+mod answer_tests;
 mod asked;
+mod bye;
 mod client;
 mod client_read;
 mod client_write;
@@ -12,6 +15,7 @@ mod match_text;
 mod members;
 mod names;
 mod reason;
+mod refusal;
 mod server;
 mod server_read;
 mod server_write;
@@ -21,6 +25,7 @@ mod verdict;
 mod wire_no;
 
 pub use asked::{Asked, AskedTo};
+pub use bye::{bye_of, text_of_bye};
 pub use client::ClientMsg;
 pub use client_read::{CLIENT_LINE, read_client};
 pub use client_write::write_client;
@@ -29,6 +34,7 @@ pub use match_row::MatchRow;
 pub use match_text::{match_of, text_of_match};
 pub use names::resolve;
 pub use reason::Reason;
+pub use refusal::{Member, Refusal};
 pub use server::ServerMsg;
 pub use server_read::read_server;
 pub use server_write::write_server;

@@ -92,3 +92,14 @@ pub fn number_member_of(value: &Value, name: &str) -> Result<u32, FieldFault>
     let number = natural_of(value, name, 4294967295)?;
     Ok(number as u32)
 }
+
+/// The number of 32 bits that the member holds, or none where it is null.
+pub fn number_or_null_of(value: &Value, name: &str) -> Result<Option<u32>, FieldFault>
+    ensures { result ≡ or_null (natural_in 4294967295) (get name.now (view value.now)) }
+{
+    if is_null(value, name) {
+        return Ok(None);
+    }
+    let number = number_member_of(value, name)?;
+    Ok(Some(number))
+}

@@ -1,7 +1,8 @@
 //! The messages to clients.
 
 use crate::reason::Reason;
-use game_sheet::{MatchName, Number, Seat};
+use crate::refusal::Refusal;
+use game_sheet::{Bye, MatchName, Number, Seat};
 use json_tree::Tree;
 
 /// A message to a client. The parts that a game or a sheet gives form to are JSON values.
@@ -43,4 +44,13 @@ pub enum ServerMsg {
         /// The action's ticket.
         ticket: u32,
     },
+    /// There was no memory for the request; it may be made again.
+    Again {
+        /// The action's ticket; none for a request that is no action.
+        ticket: Option<u32>,
+    },
+    /// The request is refused.
+    Refused(Refusal),
+    /// The stream ends.
+    Bye(Bye),
 }

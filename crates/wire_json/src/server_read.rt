@@ -4,15 +4,20 @@ ghost use Rattle.std.specs.Prelude.{◌≡◌, IfOk, Ok, false};
 ghost use Rattle.serde_json.specs.Find.{get};
 ghost use Rattle.serde_json.specs.View.{view};
 ghost use Rattle.serde_json.specs.Written.{has_float};
+ghost use Rattle.wire_json.specs.ClientReading.{or_null};
 ghost use Rattle.wire_json.specs.Refusals.{Gives, at_field};
-ghost use Rattle.wire_json.specs.ServerReading.{IsServerForm, tree_in, reason_in, synced_in, update_in, ok_in, no_in, server_in, server_read};
+ghost use Rattle.wire_json.specs.ServerReading.{IsServerForm, tree_in, reason_in, member_in, refusal_in, why_in, synced_in, update_in, ok_in, no_in, again_in, refused_in, bye_in, server_in, server_read};
 ghost use Rattle.wire_json.specs.declared.server.ServerMsg.{ServerMsg as Message};
 
-use crate::members::{match_name_of, number_member_of, seat_or_null_of};
+use crate::bye::bye_of;
+use crate::members::{
+    is_null, match_name_of, number_member_of, number_or_null_of, seat_or_null_of,
+};
 use crate::reason::Reason;
+use crate::refusal::{Member, Refusal};
 use crate::server::ServerMsg;
 use crate::wire_no::WireNo;
-use game_sheet::NoMemory;
+use game_sheet::{Bye, NoMemory};
 use json_tree::{FieldFault, LineFault, Tree, extra_field, read_line, text_of};
 use serde_json::Value;
 use std::alloc::Global;
@@ -49,8 +54,11 @@ fn message_of(value: &Value) -> Result<ServerMsg, WireNo>
         return Err(WireNo::UnknownMessage);
     };
     match kind {
+        "again" => again(value),
+        "bye" => bye(value),
         "no" => no(value),
         "ok" => ok(value),
+        "refused" => refused(value),
         "sync" => sync(value),
         "update" => update(value),
         _ => Err(WireNo::UnknownMessage),
@@ -216,5 +224,98 @@ fn tree_of(value: &Value, name: &str) -> Result<Option<Tree>, NoMemory>
             Ok(Some(Tree::new(copy)))
         }
         None => Ok(None),
+    }
+}
+
+#[tactic(auto, unfolding(crate::specs::ServerReading::again_in))]
+fn again(value: &Value) -> Result<ServerMsg, WireNo>
+    ensures { Gives result (again_in (view value.now)) }
+{
+    if extra_field(value, &["ticket", "type"]) {
+        return Err(WireNo::ExtraField);
+    }
+    match number_or_null_of(value, "ticket") {
+        Ok(ticket) => Ok(ServerMsg::Again { ticket }),
+        Err(fault) => Err(WireNo::Field {
+            name: "ticket",
+            fault,
+        }),
+    }
+}
+
+#[tactic(auto, unfolding(crate::specs::ServerReading::refused_in))]
+fn refused(value: &Value) -> Result<ServerMsg, WireNo>
+    ensures { Gives result (refused_in (view value.now)) }
+{
+    if extra_field(value, &["field", "reason", "type"]) {
+        return Err(WireNo::ExtraField);
+    }
+    let field = match field_of(value, "field") {
+        Ok(field) => field,
+        Err(fault) => return Err(WireNo::Field {
+            name: "field",
+            fault,
+        }),
+    };
+    let reason = match refusal_of(value, "reason") {
+        Ok(reason) => reason,
+        Err(fault) => return Err(WireNo::Field {
+            name: "reason",
+            fault,
+        }),
+    };
+    match reason.with_field(field) {
+        Some(refusal) => Ok(ServerMsg::Refused(refusal)),
+        None => Err(WireNo::Field {
+            name: "field",
+            fault: FieldFault::OutOfRange,
+        }),
+    }
+}
+
+// The member that the text names, or none where the member is null.
+fn field_of(value: &Value, name: &str) -> Result<Option<Member>, FieldFault>
+    ensures { result ≡ or_null member_in (get name.now (view value.now)) }
+{
+    if is_null(value, name) {
+        return Ok(None);
+    }
+    let text = text_of(value, name)?;
+    match Member::named(text) {
+        Some(member) => Ok(Some(member)),
+        None => Err(FieldFault::OutOfRange),
+    }
+}
+
+fn refusal_of(value: &Value, name: &str) -> Result<Refusal, FieldFault>
+    ensures { result ≡ refusal_in (get name.now (view value.now)) }
+{
+    let text = text_of(value, name)?;
+    match Refusal::named(text) {
+        Some(refusal) => Ok(refusal),
+        None => Err(FieldFault::OutOfRange),
+    }
+}
+
+#[tactic(auto, unfolding(crate::specs::ServerReading::bye_in))]
+fn bye(value: &Value) -> Result<ServerMsg, WireNo>
+    ensures { Gives result (bye_in (view value.now)) }
+{
+    if extra_field(value, &["type", "why"]) {
+        return Err(WireNo::ExtraField);
+    }
+    match why_of(value, "why") {
+        Ok(why) => Ok(ServerMsg::Bye(why)),
+        Err(fault) => Err(WireNo::Field { name: "why", fault }),
+    }
+}
+
+fn why_of(value: &Value, name: &str) -> Result<Bye, FieldFault>
+    ensures { result ≡ why_in (get name.now (view value.now)) }
+{
+    let text = text_of(value, name)?;
+    match bye_of(text) {
+        Some(why) => Ok(why),
+        None => Err(FieldFault::OutOfRange),
     }
 }

@@ -5,13 +5,15 @@ ghost use Rattle.serde_json.specs.Data.{object, depth};
 ghost use Rattle.serde_json.specs.Read.{max_depth};
 ghost use Rattle.serde_json.specs.View.{view};
 ghost use Rattle.serde_json.specs.Written.{has_float, compact_text};
-ghost use Rattle.wire_json.specs.ServerReading.{no_bound, IsServerForm, SeatFits, ServerFits};
-ghost use Rattle.wire_json.specs.ServerText.{text as server_text, server_members, seat_or_null};
+ghost use Rattle.wire_json.specs.ServerReading.{no_bound, IsServerForm, IsWithin, ServerFits};
+ghost use Rattle.wire_json.specs.ServerText.{text as server_text, server_members, natural_or_null, field_or_null};
 
+use crate::bye::text_of_bye;
 use crate::match_text::text_of_match;
 use crate::reason::Reason;
+use crate::refusal::{Member, Refusal};
 use crate::server::ServerMsg;
-use game_sheet::{MatchName, NoMemory, Number, Seat};
+use game_sheet::{Bye, MatchName, NoMemory, Number, Seat};
 use json_tree::{Tree, line_of};
 use serde_json::{Value, json};
 use std::alloc::Global;
@@ -56,6 +58,9 @@ fn value_of(alloc: Global, message: &ServerMsg) -> Result<Value, NoMemory>
             reason,
             ticket,
         } => no(alloc, *number, *reason, *ticket),
+        ServerMsg::Again { ticket } => again(alloc, *ticket),
+        ServerMsg::Refused(refusal) => refused(alloc, *refusal),
+        ServerMsg::Bye(why) => bye(alloc, *why),
     }
 }
 
@@ -77,9 +82,9 @@ fn sync(
 }
 
 fn seat_value(seat: Option<Seat>) -> Value
-    ensures value { view result ≡ seat_or_null seat }
-    ensures no_float { has_float (seat_or_null seat) ≡ false }
-    ensures fits { SeatFits seat }
+    ensures value { view result ≡ natural_or_null seat }
+    ensures no_float { has_float (natural_or_null seat) ≡ false }
+    ensures fits { IsWithin 255 seat }
 {
     match seat {
         None => Value::Null,
@@ -119,5 +124,55 @@ fn no(alloc: Global, number: Number, reason: Reason, ticket: u32) -> Result<Valu
 {
     let value =
         json!(in alloc; {"number": number, "reason": reason.name(), "ticket": ticket, "type": "no"})?;
+    Ok(value)
+}
+
+fn again(alloc: Global, ticket: Option<u32>) -> Result<Value, NoMemory>
+    ensures value { IfOk result (λ v. view v ≡ object (server_members (ServerMsg.Again ticket))) }
+    ensures no_float { IfOk result (λ v. has_float (view v) ≡ false) }
+    ensures fits { OnOk result (ServerFits (ServerMsg.Again ticket)) }
+{
+    let ticket = ticket_value(ticket);
+    let value = json!(in alloc; {"ticket": ticket, "type": "again"})?;
+    Ok(value)
+}
+
+fn ticket_value(ticket: Option<u32>) -> Value
+    ensures value { view result ≡ natural_or_null ticket }
+    ensures no_float { has_float (natural_or_null ticket) ≡ false }
+    ensures fits { IsWithin 4294967295 ticket }
+{
+    match ticket {
+        None => Value::Null,
+        Some(ticket) => Value::from(ticket),
+    }
+}
+
+fn refused(alloc: Global, refusal: Refusal) -> Result<Value, NoMemory>
+    ensures value { IfOk result (λ v. view v ≡ object (server_members (ServerMsg.Refused refusal))) }
+    ensures no_float { IfOk result (λ v. has_float (view v) ≡ false) }
+    ensures fits { OnOk result (ServerFits (ServerMsg.Refused refusal)) }
+{
+    let field = field_value(alloc, refusal.field())?;
+    let value = json!(in alloc; {"field": field, "reason": refusal.name(), "type": "refused"})?;
+    Ok(value)
+}
+
+fn field_value(alloc: Global, field: Option<Member>) -> Result<Value, NoMemory>
+    ensures value { IfOk result (λ v. view v ≡ field_or_null field) }
+    ensures no_float { has_float (field_or_null field) ≡ false }
+{
+    match field {
+        None => Ok(Value::Null),
+        Some(member) => Ok(Value::try_from_str(alloc, member.name())?),
+    }
+}
+
+fn bye(alloc: Global, why: Bye) -> Result<Value, NoMemory>
+    ensures value { IfOk result (λ v. view v ≡ object (server_members (ServerMsg.Bye why))) }
+    ensures no_float { IfOk result (λ v. has_float (view v) ≡ false) }
+    ensures fits { OnOk result (ServerFits (ServerMsg.Bye why)) }
+{
+    let value = json!(in alloc; {"type": "bye", "why": text_of_bye(why)})?;
     Ok(value)
 }

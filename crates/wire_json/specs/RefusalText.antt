@@ -1,0 +1,106 @@
+-- A refused request on the wire: the word of its reason, and the member of the line that it points at. Only the refusal of a line
+-- that is no message points at one, by its name, by `type`, or by `*` for a member that the message doesn't have.
+use Rattle.std.specs.Prelude.{ℕ, List, [], ◌∷◌, codes, Option, Some, None, option_map, IsSome}
+use Rattle.std.specs.Map.{lookup}
+use Rattle.std.specs.Str.{bytes_eq}
+use Rattle.wire_json.specs.declared.refusal.Member.{Member}
+use Rattle.wire_json.specs.declared.refusal.Member.TheVariants.{Extra, Kind, Act, Game, Key, Match, Name, Number, Seat, Seats, Ticket}
+use Rattle.wire_json.specs.declared.refusal.Refusal.{Refusal}
+use Rattle.wire_json.specs.declared.refusal.Refusal.TheVariants.{BadMessage, NoGame, Full, BadSeats, NoStart, NoMatch, SeatTaken, NoSeat, BadName, Unauthorized, AlreadyAttached, NotAttached}
+use Rattle.wire_json.specs.declared.wire_no.WireNo.{WireNo}
+use Rattle.wire_json.specs.declared.wire_no.WireNo.TheVariants as no
+
+abbrev pub member_text : Member → List ℕ
+member_text Extra = codes "*"
+member_text Kind = codes "type"
+member_text Act = codes "act"
+member_text Game = codes "game"
+member_text Key = codes "key"
+member_text Match = codes "match"
+member_text Name = codes "name"
+member_text Number = codes "number"
+member_text Seat = codes "seat"
+member_text Seats = codes "seats"
+member_text Ticket = codes "ticket"
+
+abbrev pub member_table : List (List ℕ × Member)
+member_table =
+    (codes "*", Extra) ∷ (codes "type", Kind) ∷ (codes "act", Act) ∷ (codes "game", Game) ∷ (codes "key", Key) ∷ (codes "match", Match)
+    ∷ (codes "name", Name) ∷ (codes "number", Number) ∷ (codes "seat", Seat) ∷ (codes "seats", Seats) ∷ (codes "ticket", Ticket) ∷ []
+
+abbrev pub member_from : List ℕ → Option Member
+member_from s = lookup (bytes_eq s) member_table
+
+abbrev pub refusal_text : Refusal → List ℕ
+refusal_text (BadMessage field) = codes "bad-message"
+refusal_text NoGame = codes "no-game"
+refusal_text Full = codes "full"
+refusal_text BadSeats = codes "bad-seats"
+refusal_text NoStart = codes "no-start"
+refusal_text NoMatch = codes "no-match"
+refusal_text SeatTaken = codes "seat-taken"
+refusal_text NoSeat = codes "no-seat"
+refusal_text BadName = codes "bad-name"
+refusal_text Unauthorized = codes "unauthorized"
+refusal_text AlreadyAttached = codes "already-attached"
+refusal_text NotAttached = codes "not-attached"
+
+abbrev pub refusal_field : Refusal → Option Member
+refusal_field (BadMessage field) = field
+refusal_field NoGame = None
+refusal_field Full = None
+refusal_field BadSeats = None
+refusal_field NoStart = None
+refusal_field NoMatch = None
+refusal_field SeatTaken = None
+refusal_field NoSeat = None
+refusal_field BadName = None
+refusal_field Unauthorized = None
+refusal_field AlreadyAttached = None
+refusal_field NotAttached = None
+
+abbrev pub refusal_table : List (List ℕ × Refusal)
+refusal_table =
+    (codes "bad-message", BadMessage None) ∷ (codes "no-game", NoGame) ∷ (codes "full", Full) ∷ (codes "bad-seats", BadSeats)
+    ∷ (codes "no-start", NoStart) ∷ (codes "no-match", NoMatch) ∷ (codes "seat-taken", SeatTaken) ∷ (codes "no-seat", NoSeat)
+    ∷ (codes "bad-name", BadName) ∷ (codes "unauthorized", Unauthorized) ∷ (codes "already-attached", AlreadyAttached)
+    ∷ (codes "not-attached", NotAttached) ∷ []
+
+-- the refusal of a word, pointing at nothing
+abbrev pub refusal_from : List ℕ → Option Refusal
+refusal_from s = lookup (bytes_eq s) refusal_table
+
+abbrev pub unpointed : Refusal → Option Member → Option Refusal
+unpointed refusal None = Some refusal
+unpointed refusal (Some field) = None
+
+-- the refusal pointing at this, where it can
+abbrev pub with_field : Refusal → Option Member → Option Refusal
+with_field (BadMessage old) field = Some (BadMessage field)
+with_field NoGame field = unpointed NoGame field
+with_field Full field = unpointed Full field
+with_field BadSeats field = unpointed BadSeats field
+with_field NoStart field = unpointed NoStart field
+with_field NoMatch field = unpointed NoMatch field
+with_field SeatTaken field = unpointed SeatTaken field
+with_field NoSeat field = unpointed NoSeat field
+with_field BadName field = unpointed BadName field
+with_field Unauthorized field = unpointed Unauthorized field
+with_field AlreadyAttached field = unpointed AlreadyAttached field
+with_field NotAttached field = unpointed NotAttached field
+
+-- the refusal of a line for its first fault
+abbrev pub refusal_of : WireNo → Option Refusal
+refusal_of (no.Line fault) = Some (BadMessage None)
+refusal_of no.UnknownMessage = Some (BadMessage (Some Kind))
+refusal_of no.ExtraField = Some (BadMessage (Some Extra))
+refusal_of (no.Field name fault) = option_map (λ member. BadMessage (Some member)) (member_from name.now)
+refusal_of no.NoMemory = None
+
+-- each fault but want of memory is a refusal
+abbrev pub IsAnswerable : WireNo → Type 0
+IsAnswerable (no.Line fault) = Unit {0}
+IsAnswerable no.UnknownMessage = Unit {0}
+IsAnswerable no.ExtraField = Unit {0}
+IsAnswerable (no.Field name fault) = IsSome (member_from name.now)
+IsAnswerable no.NoMemory = Unit {0}
