@@ -1,0 +1,3 @@
+pub mod InSheet
+pub mod Moment
+pub mod Toy
