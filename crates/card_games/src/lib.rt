@@ -9,9 +9,11 @@ mod greatest;
 mod high_hand;
 mod json;
 mod lists;
+#[cfg(test)]
+mod tests;
 
 pub use bids::{Bidding, NoSecret, Sealed};
-pub use blind_bid::BlindBid;
+pub use blind_bid::{Bids, BlindBid};
 pub use cards::{CardTable, Deck, Hand};
 pub use dealt::Dealt;
-pub use high_hand::HighHand;
+pub use high_hand::{Cards, HighHand};
