@@ -1,6 +1,9 @@
 pub mod Deed
 pub mod Gives
 pub mod InSheet
+pub mod Lawful
+pub mod Offers
 pub mod Pot
+pub mod PotLaws
 pub mod Queues
 pub mod Rules

@@ -1,13 +1,17 @@
 -- A small game, by which the trait is tried: a pot that rolls fill or empty. One move rolls, one queues as many events as it is told, and each turn begins with a roll.
-use Rattle.std.specs.Prelude.{ℕ, zero, suc, ℤ, pos, negsuc, ◌+◌, ◌%◌, if◌then◌else◌, nat_eq, nat_lt, List, [], ◌∷◌, replicate, Option, Some, None, true, false, Bool}
-use Rattle.game_sheet.specs.declared.act.Event.{Event}
+-- A spectator sees an empty pot, a roll may not be undone, and who may act is offered a roll.
+use Rattle.std.specs.Prelude.{ℕ, zero, suc, ℤ, pos, negsuc, ◌+◌, ◌%◌, if◌then◌else◌, nat_eq, nat_le, nat_lt, List, [], ◌∷◌, replicate, codes, Option, Some, None, true, false, Bool}
+use Rattle.std.specs.Result.{result_ok}
 use Rattle.game_sheet.specs.declared.act.Event.TheVariants.{EndTurn, EndPhase}
-use Rattle.game_sheet.specs.declared.ctx.Ctx.{Ctx}
 use Rattle.game_sheet.specs.declared.sheet.Sheet.{Sheet}
 use Rattle.game_trait.specs.Deed.{Barred, Crowded, Deed, Done, GaveUp, Invalid, Lack, Lacks, Spent, drawing}
+use Rattle.game_trait.specs.Offers.{offered}
 use Rattle.game_trait.specs.Queues.{AllInSheet, KeepsToSheet, QueuesInSheet}
 use Rattle.game_trait.specs.Rules.{Rules, plain}
-use Rattle.serde_json.specs.Data.{number, unsigned}
+use Rattle.json_tree.specs.Fields.{natural_in}
+use Rattle.json_tree.specs.Names.{extra_in}
+use Rattle.serde_json.specs.Data.{Data, object, member, no_members, number, unsigned}
+use Rattle.serde_json.specs.Find.{get}
 
 -- a one empties the pot and ends the turn
 abbrev pub rolled : ℕ → ℕ → List ℕ → Deed ℕ Barred
@@ -29,8 +33,27 @@ played id args pot words = if nat_eq id 0 then roll pot words else queue_told ar
 abbrev pub begun : ℕ → List ℕ → Deed ℕ Lack
 begun pot words = drawing Spent words (λ word left. Done (word % 1000) left [])
 
+-- a roll adds at most 6 to what is left of a pot by a thousand
+abbrev pub is_pot : ℕ → Bool
+is_pot pot = nat_le pot 1006
+
+abbrev pub pot_view : ℕ → Option ℕ → ℕ
+pot_view pot None = 0
+pot_view pot (Some seat) = pot
+
+abbrev pub pot_value : ℕ → Data
+pot_value pot = object (member (codes "pot") (number (unsigned pot)) no_members)
+
+abbrev pub pot_read : Data → Option ℕ
+pot_read v = if extra_in (codes "pot" ∷ []) v then None else result_ok (natural_in 1006 (get (codes "pot") v))
+
 abbrev pub pot_rules : Sheet → Rules ℕ
-pot_rules sheet = record (plain sheet (λ seats words. Done 0 words []) (λ g ctx seat id args words. played id args g words) (λ g. number (unsigned g))) { turn_begin = λ g ctx words. begun g words }
+pot_rules sheet = record (plain sheet (λ seats words. Done 0 words []) (λ g ctx seat id args words. played id args g words) is_pot pot_value pot_read) {
+  turn_begin = λ g ctx words. begun g words;
+  view = λ g ctx viewer. pot_view g viewer;
+  undoable = λ g ctx id. nat_eq id 1;
+  options = λ g ctx seat. offered ctx seat ((0, []) ∷ []);
+}
 
 queues_phases : (sheet : Sheet) (count : ℕ) → AllInSheet sheet (replicate count EndPhase)
 queues_phases sheet zero = tt

@@ -1,6 +1,6 @@
 -- What a game means: its sheet, and each of its functions over states of the type G, the context and the words that the action has left.
 -- Seats, places in the sheet's tables and arguments are plain numbers here. A hook that leaves the state gives the same state.
-use Rattle.std.specs.Prelude.{ℕ, ℤ, Bool, false, List, [], Option, None}
+use Rattle.std.specs.Prelude.{ℕ, ℤ, Bool, true, false, List, [], Option, None}
 use Rattle.game_sheet.specs.declared.act.Outcome.{Outcome}
 use Rattle.game_sheet.specs.declared.ctx.Ctx.{Ctx}
 use Rattle.game_sheet.specs.declared.sheet.Sheet.{Sheet}
@@ -31,8 +31,18 @@ pub record Rules (G : Type 0) : Type 0 where
   pub phase_end_if : G → Ctx → Bool
   -- the play order of a phase or match whose order is the game's own
   pub play_order : G → Ctx → List ℕ
+  -- what a viewer may see of a state: the player of a seat, or a spectator where there is no seat
+  pub view : G → Ctx → Option ℕ → G
+  -- whether a move, by its place, may be undone once it is made on a state
+  pub undoable : G → Ctx → ℕ → Bool
+  -- the moves that a seat is offered, each by its place with its arguments
+  pub options : G → Ctx → ℕ → List (ℕ × List ℤ)
+  -- which states are the game's own
+  pub own : G → Bool
   -- what of a state is written down
   pub value : G → Data
+  -- the own state that is written so, if there is one
+  pub read : Data → Option G
 
 -- a hook that does nothing
 abbrev pub idle : {G : Type 0} → G → Ctx → List ℕ → Deed G Lack
@@ -42,9 +52,10 @@ idle g ctx words = Done g words []
 abbrev pub idle_at : {G : Type 0} → G → Ctx → ℕ → List ℕ → Deed G Lack
 idle_at g ctx at words = Done g words []
 
--- a game whose hooks do nothing, in which nothing ends by itself; another game is this one with some of its parts in their place
-abbrev pub plain : {G : Type 0} → Sheet → (ℕ → List ℕ → Deed G Lack) → (G → Ctx → ℕ → ℕ → List ℤ → List ℕ → Deed G Barred) → (G → Data) → Rules G
-plain sheet setup play value = record {
+-- a game whose hooks do nothing, in which nothing ends by itself, nothing is hidden or offered and each move may be undone;
+-- another game is this one with some of its parts in their place
+abbrev pub plain : {G : Type 0} → Sheet → (ℕ → List ℕ → Deed G Lack) → (G → Ctx → ℕ → ℕ → List ℤ → List ℕ → Deed G Barred) → (G → Bool) → (G → Data) → (Data → Option G) → Rules G
+plain sheet setup play own value read = record {
   sheet = sheet;
   setup = setup;
   play = play;
@@ -58,5 +69,10 @@ plain sheet setup play value = record {
   turn_end_if = λ g ctx. false;
   phase_end_if = λ g ctx. false;
   play_order = λ g ctx. [];
+  view = λ g ctx viewer. g;
+  undoable = λ g ctx id. true;
+  options = λ g ctx seat. [];
+  own = own;
   value = value;
+  read = read;
 }

@@ -1,11 +1,12 @@
 //! The trait that each game implements.
 
-ghost use Rattle.std.specs.Prelude.{◌≡◌, ◌<◌, ◌≤◌, [], length, false, IfOk};
+ghost use Rattle.std.specs.Prelude.{◌≡◌, ◌<◌, ◌≤◌, ◌↔◌, [], length, false, IfOk, IsTrue};
 ghost use Rattle.dice_words.specs.Strip.{Follows};
 ghost use Rattle.serde_json.specs.View.{view};
 ghost use Rattle.serde_json.specs.Written.{has_float};
 ghost use Rattle.game_sheet.specs.SheetFits.{SheetFits};
 ghost use Rattle.game_trait.specs.Gives.{Gives, Hooks, Opens};
+ghost use Rattle.game_trait.specs.Lawful.{Lawful};
 ghost use Rattle.game_trait.specs.Queues.{KeepsToSheet};
 ghost use Rattle.game_trait.specs.Rules.{Rules};
 
@@ -154,10 +155,43 @@ pub trait Game {
     fn play_order(&self, alloc: Global, g: &Self::G, ctx: &Ctx) -> Result<List<Seat>, NoMemory>
         ensures { IfOk result (λ order. order ≡ (rules self.now).play_order g.now ctx.now) };
 
+    /// What a viewer may see of the state: the player of a seat, or a spectator where there is no seat.
+    fn view(
+        &self,
+        alloc: Global,
+        g: &Self::G,
+        ctx: &Ctx,
+        viewer: Option<Seat>,
+    ) -> Result<Self::G, NoMemory>
+        ensures { IfOk result (λ seen. seen ≡ (rules self.now).view g.now ctx.now viewer) };
+
+    /// Whether a move, which the sheet names by its place, may be undone once it is made on this state.
+    fn undoable(&self, g: &Self::G, ctx: &Ctx, id: MoveId) -> bool
+        requires { id < length (rules self.now).sheet.moves }
+        ensures { result ≡ (rules self.now).undoable g.now ctx.now id };
+
+    /// The moves that a seat is offered, with their arguments. Others may be allowed too.
+    fn options(
+        &self,
+        alloc: Global,
+        g: &Self::G,
+        ctx: &Ctx,
+        seat: Seat,
+    ) -> Result<List<(MoveId, Args)>, NoMemory>
+        ensures { IfOk result (λ offers. offers ≡ (rules self.now).options g.now ctx.now seat) };
+
     /// The state as JSON, without a float.
     fn to_value(&self, alloc: Global, g: &Self::G) -> Result<Value, NoMemory>
         ensures value { IfOk result (λ v. view v ≡ (rules self.now).value g.now) }
         ensures float_free { IfOk result (λ v. has_float (view v) ≡ false) };
+
+    /// The own state that is written so; none where no own state is.
+    fn from_value(&self, alloc: Global, v: &Value) -> Result<Option<Self::G>, NoMemory>
+        ensures { IfOk result (λ read. read ≡ (rules self.now).read (view v.now)) };
+
+    /// Whether two states are equal.
+    fn same(&self, a: &Self::G, b: &Self::G) -> bool
+        ensures { IsTrue result ↔ (a.now ≡ b.now) };
 
     /// An equal state.
     fn copy(&self, alloc: Global, g: &Self::G) -> Result<Self::G, NoMemory>
@@ -165,4 +199,7 @@ pub trait Game {
 
     /// The events that game code queues name rows of the sheet alone.
     ghost in_sheet: { (game : Self) → KeepsToSheet (rules game) };
+
+    /// What holds of every game's own states, views and offers.
+    ghost lawful: { (game : Self) → Lawful (rules game) };
 }

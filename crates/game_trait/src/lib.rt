@@ -3,8 +3,10 @@
 
 mod game;
 mod halt;
+mod offers;
 #[cfg(test)]
 mod tests;
 
 pub use game::Game;
 pub use halt::{Halt, HookHalt};
+pub use offers::may_be_offered;

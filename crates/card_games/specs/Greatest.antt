@@ -1,0 +1,24 @@
+-- Who has the greatest number: of cards on a table, of scores, or of bids.
+use Rattle.std.specs.Prelude.{ℕ, ◌==◌, max, if◌then◌else◌, List, count_by, fold, position, Option, Some, None}
+use Rattle.game_sheet.specs.declared.act.Outcome.{Outcome}
+use Rattle.game_sheet.specs.declared.act.Outcome.TheVariants.{Winner, Draw}
+
+-- the greatest of the numbers that a list's items are worth, or 0 of an empty list
+abbrev pub greatest : {A : Type 0} → (A → ℕ) → List A → ℕ
+greatest worth items = fold (λ most item. max most (worth item)) 0 items
+
+-- the least place of an item that is worth the most
+abbrev pub first_greatest : {A : Type 0} → (A → ℕ) → List A → Option ℕ
+first_greatest worth items = position (λ item. worth item == greatest worth items) items
+
+-- how many items are worth the most
+abbrev pub count_greatest : {A : Type 0} → (A → ℕ) → List A → ℕ
+count_greatest worth items = count_by (λ item. worth item == greatest worth items) items
+
+abbrev pub won_by : Option ℕ → Outcome
+won_by None = Draw
+won_by (Some seat) = Winner seat
+
+-- the one seat whose item is worth the most wins; where several are, nobody does
+abbrev pub one_greatest : {A : Type 0} → (A → ℕ) → List A → Outcome
+one_greatest worth items = if count_greatest worth items == 1 then won_by (first_greatest worth items) else Draw

@@ -1,0 +1,184 @@
+-- High Hand: two to four seats draw two cards each and lay them one by one; the highest card on a full table scores a point, and the greatest score wins.
+use Rattle.std.specs.Prelude.{ℕ, ◌+◌, ◌-◌, ◌^◌, ◌==◌, ◌&&◌, min, nat_eq, nat_le, nat_lt, true, false, Bool, if◌then◌else◌, ℤ, pos, List, [], ◌∷◌, ◌++◌, length, replicate, remove, slice_get, slice_index, slice_set, codes, is_some, is_none, unwrap_or, Option, Some, None}
+use Rattle.std.specs.List.{list_all}
+use Rattle.card_games.specs.Greatest.{first_greatest, one_greatest}
+use Rattle.card_games.specs.Json.{list_value, number_value, option_value, split_value}
+use Rattle.card_games.specs.Pack.{are_few, pack}
+use Rattle.card_games.specs.declared.cards.CardTable.{CardTable}
+use Rattle.card_games.specs.declared.cards.Deck.{Deck}
+use Rattle.card_games.specs.declared.cards.Hand.{Hand}
+use Rattle.card_games.specs.declared.dealt.Dealt.{Dealt}
+use Rattle.dice_words.specs.Dice.{shuffled}
+use Rattle.game_sheet.specs.declared.act.EventKind.TheVariants.{EndTurn}
+use Rattle.game_sheet.specs.declared.act.Outcome.{Outcome}
+use Rattle.game_sheet.specs.declared.sheet.Order.TheVariants.{Default, Once, Reset}
+use Rattle.game_sheet.specs.declared.sheet.Sheet.{Sheet}
+use Rattle.game_trait.specs.Deed.{Barred, Deed, Done, GaveUp, Invalid, Lack, Spent}
+use Rattle.game_trait.specs.Rules.{Rules, plain}
+use Rattle.secret_strip.specs.declared.split.Split.{Split}
+use Rattle.serde_json.specs.Data.{Data, object, member, no_members}
+
+-- everybody sees the table, each seat its own hand, and nobody the deck
+abbrev pub Cards : Type 0
+Cards = Split CardTable Deck Hand
+
+-- in the first phase each seat draws twice, once round; in the second they lay
+abbrev pub high_hand_sheet : Sheet
+high_hand_sheet = record {
+  name = codes "high-hand";
+  min_seats = 2;
+  max_seats = 4;
+  moves =
+      record { name = codes "draw"; redact = false; client = false; no_limit = false; ignore_stale = false }
+      ∷ record { name = codes "lay"; redact = false; client = true; no_limit = false; ignore_stale = false }
+      ∷ [];
+  base = [];
+  turn = record { order = Default; min_moves = 0; max_moves = None; active = None };
+  phases =
+      record { name = codes "draw"; start = true; next = Some 1; moves = Some (0 ∷ []); turn = Some (record { order = Once; min_moves = 2; max_moves = Some 2; active = None }) }
+      ∷ record { name = codes "play"; start = false; next = None; moves = Some (1 ∷ []); turn = Some (record { order = Reset; min_moves = 1; max_moves = None; active = None }) }
+      ∷ [];
+  stages = [];
+  specs = [];
+  events = EndTurn ∷ [];
+}
+
+-- the state before the first draw from a deck
+abbrev pub before_draws : ℕ → List ℕ → Cards
+before_draws seats deck = record {
+  common = record { hands = replicate seats 0; left = 52; scores = replicate seats 0; places = replicate seats None };
+  secret = Some (record { cards = deck });
+  players = replicate seats (Some (record { cards = [] }));
+}
+
+-- a match begins with a shuffled pack, or with a deck in the order in which it was dealt
+abbrev pub opened : ℕ → Option (List ℕ × List ℕ) → Deed Cards Lack
+opened seats None = GaveUp Spent
+opened seats (Some (deck, words)) = Done (before_draws seats deck) words []
+
+abbrev pub set_up : Option Dealt → ℕ → List ℕ → Deed Cards Lack
+set_up None seats words = opened seats (shuffled pack words)
+set_up (Some deck) seats words = Done (before_draws seats deck.cards) words []
+
+-- the hand of a seat, where it is there
+abbrev pub hand_in : Option (Option Hand) → Option (List ℕ)
+hand_in (Some (Some hand)) = Some hand.cards
+hand_in _ = None
+
+abbrev pub hand_of : Cards → ℕ → Option (List ℕ)
+hand_of g seat = hand_in (slice_get g.players seat)
+
+abbrev pub deck_in : Option Deck → List ℕ
+deck_in None = []
+deck_in (Some deck) = deck.cards
+
+-- the state in which a seat has this hand, of which everybody sees the count
+abbrev pub with_hand : Cards → ℕ → List ℕ → Cards
+with_hand g seat hand = record g {
+  common = record g.common { hands = slice_set g.common.hands seat (length hand) };
+  players = slice_set g.players seat (Some (record { cards = hand }));
+}
+
+-- the state with this deck, of which everybody sees the count
+abbrev pub with_deck : Cards → List ℕ → Cards
+with_deck g deck = record g {
+  common = record g.common { left = length deck };
+  secret = Some (record { cards = deck });
+}
+
+-- the first card of the deck goes to the end of the mover's hand
+abbrev pub draw_to : Cards → ℕ → Option (List ℕ) → List ℕ → List ℕ → Deed Cards Barred
+draw_to g seat None deck words = GaveUp Invalid
+draw_to g seat (Some hand) [] words = GaveUp Invalid
+draw_to g seat (Some hand) (card ∷ deck) words = if nat_lt (length hand) 52 && are_few deck then Done (with_deck (with_hand g seat (hand ++ card ∷ [])) deck) words [] else GaveUp Invalid
+
+abbrev pub draw : Cards → ℕ → List ℤ → List ℕ → Deed Cards Barred
+draw g seat [] words = draw_to g seat (hand_of g seat) (deck_in g.secret) words
+draw g seat (_ ∷ _) words = GaveUp Invalid
+
+-- a seat's place on the table is free
+abbrev pub is_free : Option (Option ℕ) → Bool
+is_free (Some None) = true
+is_free _ = false
+
+-- the state in which this card of a seat lies on the table, and this hand is left to it
+abbrev pub laid : Cards → ℕ → ℕ → List ℕ → Cards
+laid g seat card hand = let after : Cards = with_hand g seat hand in record after { common = record after.common { places = slice_set g.common.places seat (Some card) } }
+
+-- a card of the mover's hand goes to its free place on the table
+abbrev pub lay_card : Cards → ℕ → ℕ → List ℕ → Option ℕ → List ℕ → Deed Cards Barred
+lay_card g seat place hand None words = GaveUp Invalid
+lay_card g seat place hand (Some card) words = if are_few hand && is_free (slice_get g.common.places seat) then Done (laid g seat card (remove hand place)) words [] else GaveUp Invalid
+
+abbrev pub lay_from : Cards → ℕ → ℕ → Option (List ℕ) → List ℕ → Deed Cards Barred
+lay_from g seat place None words = GaveUp Invalid
+lay_from g seat place (Some hand) words = lay_card g seat place hand (slice_get hand place) words
+
+-- the one argument is the card's place in the hand
+abbrev pub lay : Cards → ℕ → List ℤ → List ℕ → Deed Cards Barred
+lay g seat (pos place ∷ []) words = lay_from g seat place (hand_of g seat) words
+lay g seat _ words = GaveUp Invalid
+
+abbrev pub card_move : Cards → ℕ → ℕ → List ℤ → List ℕ → Deed Cards Barred
+card_move g seat id args words = if nat_lt seat 4 then (if nat_eq id 0 then draw g seat args words else lay g seat args words) else GaveUp Invalid
+
+-- a point more, unless that is past what 32 bits hold
+abbrev pub one_more : ℕ → ℕ
+one_more score = min (score + 1) (2 ^ 32 - 1)
+
+abbrev pub point_at : Option ℕ → List ℕ → List ℕ
+point_at None scores = scores
+point_at (Some place) scores = slice_set scores place (one_more (slice_index scores place))
+
+-- what a place of the table counts for, or 0
+abbrev pub height : Option ℕ → ℕ
+height place = unwrap_or place 0
+
+-- a full table is cleared, and the least seat with the highest card has a point more
+abbrev pub scored : Cards → Cards
+scored g = record g {
+  common = record g.common {
+    scores = point_at (first_greatest height g.common.places) g.common.scores;
+    places = replicate (length g.common.places) None;
+  };
+}
+
+abbrev pub is_full : List (Option ℕ) → Bool
+is_full places = list_all (λ place. is_some place) places
+
+abbrev pub after_turn : Cards → Cards
+after_turn g = if is_full g.common.places then scored g else g
+
+abbrev pub are_empty : List ℕ → Bool
+are_empty hands = list_all (λ count. count == 0) hands
+
+abbrev pub is_clear : List (Option ℕ) → Bool
+is_clear places = list_all (λ place. is_none place) places
+
+-- in the second phase every hand is empty and so is the table
+abbrev pub is_played : Cards → Option ℕ → Bool
+is_played g None = false
+is_played g (Some phase) = nat_eq phase 1 && are_empty g.common.hands && is_clear g.common.places && nat_le (length g.common.scores) 8
+
+-- then the one seat with the greatest score wins; two such scores are a draw
+abbrev pub card_end : Cards → Option ℕ → Option Outcome
+card_end g phase = if is_played g phase then Some (one_greatest (λ score. score) g.common.scores) else None
+
+abbrev pub table_value : CardTable → Data
+table_value t = object (member (codes "hands") (list_value number_value t.hands) (member (codes "left") (number_value t.left) (member (codes "scores") (list_value number_value t.scores) (member (codes "table") (list_value (option_value number_value) t.places) no_members))))
+
+abbrev pub hand_value : Hand → Data
+hand_value h = object (member (codes "hand") (list_value number_value h.cards) no_members)
+
+abbrev pub deck_value : Deck → Data
+deck_value d = object (member (codes "deck") (list_value number_value d.cards) no_members)
+
+abbrev pub cards_value : Cards → Data
+cards_value g = split_value table_value deck_value hand_value g
+
+-- the game of a deck in a fixed order, or of shuffled packs
+abbrev pub high_hand : Option Dealt → Rules Cards
+high_hand deck = record (plain high_hand_sheet (set_up deck) (λ g ctx seat id args words. card_move g seat id args words) cards_value) {
+  turn_end = λ g ctx words. Done (after_turn g) words [];
+  end_if = λ g ctx. card_end g ctx.phase;
+}

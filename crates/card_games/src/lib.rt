@@ -1,0 +1,19 @@
+//! Games with secrets: their sheets, states and moves.
+#![tactic(auto)]
+
+mod bids;
+mod blind_bid;
+mod cards;
+mod dealt;
+mod greatest;
+mod high_hand;
+mod json;
+mod lists;
+#[cfg(test)]
+mod tests;
+
+pub use bids::{Bidding, NoSecret, Sealed};
+pub use blind_bid::{Bids, BlindBid};
+pub use cards::{CardTable, Deck, Hand};
+pub use dealt::Dealt;
+pub use high_hand::{Cards, HighHand};
