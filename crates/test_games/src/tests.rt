@@ -30,6 +30,17 @@ const GO: Action = Action::Move(0);
 /// The end of a turn, after which the order says who is next.
 const END_TURN: Action = Action::Event(Event::EndTurn { to: None });
 
+/// The end of the phase.
+const END_PHASE: Action = Action::Event(Event::EndPhase);
+
+/// The end of the match, as players ask for it.
+const END_GAME: Action = Action::Event(Event::EndGame {
+    outcome: Outcome::Ended,
+});
+
+/// The end of the player's stage.
+const END_STAGE: Action = Action::Event(Event::EndStage);
+
 /// An action of a seat, and what comes of it.
 type Row = (Seat, Action, Result<View, Fault>);
 
@@ -49,6 +60,45 @@ fn plays(
     Ok(match_)
 }
 
+/// The view at the beginning of a turn of the seat at a place of the play order, without a phase or a map.
+fn at(turn: u32, current: Seat, pos: u8) -> View {
+    View {
+        turn,
+        current,
+        pos,
+        ..START
+    }
+}
+
+/// The same view in a phase.
+fn in_phase(place: u8, view: View) -> View {
+    View {
+        phase: Some(place),
+        ..view
+    }
+}
+
+/// The same view with so many moves made in the turn.
+fn after(moves: u32, view: View) -> View {
+    View { moves, ..view }
+}
+
+/// The same view with one seat on the map.
+fn with_only(seat: Seat, stage: Option<u8>, view: View) -> View {
+    View {
+        map: Map::Only(seat, stage),
+        ..view
+    }
+}
+
+/// The same view once the match has ended.
+fn over(outcome: Outcome, view: View) -> View {
+    View {
+        over: Some(outcome),
+        ..view
+    }
+}
+
 /// An event that is queued as the move is made.
 fn on_move(event: Event) -> Cue {
     Cue {
@@ -65,9 +115,22 @@ fn after_move(event: Event) -> Cue {
     }
 }
 
+/// An event that is queued as the phase at this place begins.
+fn on_phase_begin(place: u8, event: Event) -> Cue {
+    Cue {
+        moment: Moment::PhaseBegin(PhaseId::at(place)),
+        event,
+    }
+}
+
 /// A refusal by a rule.
 fn refused(rule: GameRule) -> Result<View, Fault> {
     Err(Fault::Refused(rule))
+}
+
+/// The end of a turn, after which a named seat is next.
+fn end_turn_to(seat: Seat) -> Action {
+    Action::Event(Event::EndTurn { to: Some(seat) })
 }
 
 /// Another phase is to begin.

@@ -120,6 +120,11 @@ impl Match {
         }
     }
 
+    /// Whether this is the play order.
+    pub(crate) fn has_order(&self, order: &[Seat]) -> bool {
+        self.state.ctx().order.as_slice() == order
+    }
+
     /// The state.
     pub(crate) fn state(&self) -> &State<u32> {
         &self.state

@@ -1,8 +1,8 @@
 //! Who comes next.
 
 use super::games::{NEVER, long_turns, plain, turns};
-use super::matches::{Action, Fault, View};
-use super::{END_TURN, GO, START, on_move, plays, refused};
+use super::matches::Fault;
+use super::{END_TURN, GO, START, after, at, end_turn_to, on_move, plays, refused};
 use crate::Toy;
 use game_sheet::{Event, GameRule, List, Order, Seat};
 use reducer::{StartNo, start};
@@ -18,52 +18,32 @@ fn listed(alloc: Global, seats: u8, order: &[Seat]) -> Result<Toy, Fault> {
 #[test]
 fn a_listed_order_may_leave_out_a_seat(rt: HostRuntime) -> Result<(), Fail> {
     let alloc = rt.alloc();
-    let first = View {
-        current: 2,
-        ..START
-    };
-    let second = View {
-        turn: 2,
-        pos: 1,
-        ..START
-    };
-    let third = View { turn: 3, ..first };
-    let to_left_out = Action::Event(Event::EndTurn { to: Some(1) });
     let rows = [
-        (2, END_TURN, Ok(second)),
-        (0, END_TURN, Ok(third)),
-        (2, to_left_out, refused(GameRule::InvalidMove)),
+        (2, END_TURN, Ok(at(2, 0, 1))),
+        (0, END_TURN, Ok(at(3, 2, 0))),
+        (2, end_turn_to(1), refused(GameRule::InvalidMove)),
     ];
-    let last = plays(&rt, alloc, listed(alloc, 3, &[2, 0])?, first, &rows)?;
-    assert_eq!(rt; last.state().ctx().order.as_slice(), [2, 0].as_slice());
+    let last = plays(&rt, alloc, listed(alloc, 3, &[2, 0])?, at(1, 2, 0), &rows)?;
+    assert!(rt; last.has_order(&[2, 0]));
     Ok(())
 }
 
 #[test]
 fn a_listed_order_may_name_a_seat_twice(rt: HostRuntime) -> Result<(), Fail> {
     let alloc = rt.alloc();
-    let first = View {
-        current: 1,
-        ..START
-    };
-    let second = View {
-        turn: 2,
-        pos: 1,
-        ..START
-    };
-    let third = View {
-        turn: 3,
-        pos: 2,
-        ..first
-    };
-    let fourth = View { turn: 4, ..first };
     let rows = [
-        (1, END_TURN, Ok(second)),
-        (0, END_TURN, Ok(third)),
-        (1, END_TURN, Ok(fourth)),
+        (1, END_TURN, Ok(at(2, 0, 1))),
+        (0, END_TURN, Ok(at(3, 1, 2))),
+        (1, END_TURN, Ok(at(4, 1, 0))),
     ];
-    let last = plays(&rt, alloc, listed(alloc, 2, &[1, 0, 1])?, first, &rows)?;
-    assert_eq!(rt; last.state().ctx().order.as_slice(), [1, 0, 1].as_slice());
+    let last = plays(
+        &rt,
+        alloc,
+        listed(alloc, 2, &[1, 0, 1])?,
+        at(1, 1, 0),
+        &rows,
+    )?;
+    assert!(rt; last.has_order(&[1, 0, 1]));
     Ok(())
 }
 
@@ -75,14 +55,8 @@ fn a_turn_may_pass_to_a_named_seat(rt: HostRuntime) -> Result<(), Fail> {
         on_move(Event::EndTurn { to: Some(2) }),
     ];
     let game = plain(alloc, 3, turns(Order::Default), &cues, NEVER)?;
-    let second = View {
-        turn: 2,
-        current: 2,
-        pos: 2,
-        ..START
-    };
-    let third = View { turn: 3, ..second };
-    let _last = plays(&rt, alloc, game, START, &[(0, GO, Ok(second)), (2, GO, Ok(third))])?;
+    let rows = [(0, GO, Ok(at(2, 2, 2))), (2, GO, Ok(at(3, 2, 2)))];
+    let _last = plays(&rt, alloc, game, START, &rows)?;
     Ok(())
 }
 
@@ -91,14 +65,8 @@ fn a_turn_does_not_end_below_its_least_count(rt: HostRuntime) -> Result<(), Fail
     let alloc = rt.alloc();
     let cues = [on_move(Event::EndTurn { to: None })];
     let game = plain(alloc, 2, long_turns(2), &cues, NEVER)?;
-    let moved = View { moves: 1, ..START };
-    let second = View {
-        turn: 2,
-        current: 1,
-        pos: 1,
-        ..START
-    };
-    let _last = plays(&rt, alloc, game, START, &[(0, GO, Ok(moved)), (0, GO, Ok(second))])?;
+    let rows = [(0, GO, Ok(after(1, START))), (0, GO, Ok(at(2, 1, 1)))];
+    let _last = plays(&rt, alloc, game, START, &rows)?;
     Ok(())
 }
 

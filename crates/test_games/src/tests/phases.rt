@@ -1,8 +1,11 @@
 //! Phases, and what follows from their hooks.
 
 use super::games::{NEVER, game, idle, one_round, phase, plain, sheet, turns};
-use super::matches::{Fault, Map, View};
-use super::{GO, START, after_move, on_move, plays, refused, set_phase, set_stage};
+use super::matches::Fault;
+use super::{
+    GO, START, after, after_move, at, in_phase, on_move, on_phase_begin, over, plays, refused,
+    set_phase, set_stage, with_only,
+};
 use crate::{Cue, Ends, Moment, Toy};
 use game_sheet::{Event, GameRule, List, Order, Outcome, PhaseId};
 use std::alloc::Global;
@@ -12,21 +15,13 @@ use std::test::Fail;
 fn chained(alloc: Global) -> Result<Toy, Fault> {
     let first = phase(alloc, "a", true, None, Some(one_round()))?;
     let sheet = sheet(alloc, 3, turns(Order::Default), first, List::new(alloc))?;
-    let end = Moment::PhaseEnd(PhaseId::at(0));
-    let begin = Moment::PhaseBegin(PhaseId::at(1));
     let cues = [
         Cue {
-            moment: end,
+            moment: Moment::PhaseEnd(PhaseId::at(0)),
             event: set_phase(1),
         },
-        Cue {
-            moment: begin,
-            event: Event::EndTurn { to: None },
-        },
-        Cue {
-            moment: begin,
-            event: set_stage(),
-        },
+        on_phase_begin(1, Event::EndTurn { to: None }),
+        on_phase_begin(1, set_stage()),
     ];
     game(alloc, sheet, &cues, NEVER)
 }
@@ -34,45 +29,12 @@ fn chained(alloc: Global) -> Result<Toy, Fault> {
 #[test]
 fn chained_phases(rt: HostRuntime) -> Result<(), Fail> {
     let alloc = rt.alloc();
-    let in_first = View {
-        phase: Some(0),
-        ..START
-    };
     let rows = [
-        (
-            0,
-            GO,
-            Ok(View {
-                turn: 2,
-                current: 1,
-                pos: 1,
-                ..in_first
-            }),
-        ),
-        (
-            1,
-            GO,
-            Ok(View {
-                turn: 3,
-                current: 2,
-                pos: 2,
-                ..in_first
-            }),
-        ),
-        (
-            2,
-            GO,
-            Ok(View {
-                turn: 6,
-                current: 2,
-                pos: 2,
-                phase: Some(1),
-                map: Map::Only(2, Some(0)),
-                ..START
-            }),
-        ),
+        (0, GO, Ok(in_phase(0, at(2, 1, 1)))),
+        (1, GO, Ok(in_phase(0, at(3, 2, 2)))),
+        (2, GO, Ok(with_only(2, Some(0), in_phase(1, at(6, 2, 2))))),
     ];
-    let last = plays(&rt, alloc, chained(alloc)?, in_first, &rows)?;
+    let last = plays(&rt, alloc, chained(alloc)?, in_phase(0, START), &rows)?;
     assert_eq!(rt; last.state().number(), 3);
     Ok(())
 }
@@ -81,14 +43,8 @@ fn chained_phases(rt: HostRuntime) -> Result<(), Fail> {
 fn endless(alloc: Global) -> Result<Toy, Fault> {
     let cues = [
         on_move(set_phase(1)),
-        Cue {
-            moment: Moment::PhaseBegin(PhaseId::at(1)),
-            event: set_phase(2),
-        },
-        Cue {
-            moment: Moment::PhaseBegin(PhaseId::at(2)),
-            event: set_phase(1),
-        },
+        on_phase_begin(1, set_phase(2)),
+        on_phase_begin(2, set_phase(1)),
     ];
     plain(alloc, 2, turns(Order::Default), &cues, NEVER)
 }
@@ -108,12 +64,8 @@ fn a_moves_events_come_before_its_hooks(rt: HostRuntime) -> Result<(), Fail> {
     let alloc = rt.alloc();
     let cues = [after_move(set_phase(2)), on_move(set_phase(1))];
     let game = plain(alloc, 2, turns(Order::Default), &cues, NEVER)?;
-    let third = View {
-        turn: 3,
-        phase: Some(2),
-        ..START
-    };
-    let _last = plays(&rt, alloc, game, START, &[(0, GO, Ok(third))])?;
+    let rows = [(0, GO, Ok(in_phase(2, at(3, 0, 0))))];
+    let _last = plays(&rt, alloc, game, START, &rows)?;
     Ok(())
 }
 
@@ -130,12 +82,8 @@ fn the_end_of_the_match_drops_the_rest(rt: HostRuntime) -> Result<(), Fail> {
         },
     ];
     let game = plain(alloc, 2, turns(Order::Default), &cues, NEVER)?;
-    let over = View {
-        moves: 1,
-        over: Some(outcome),
-        ..START
-    };
-    let _last = plays(&rt, alloc, game, START, &[(0, GO, Ok(over))])?;
+    let rows = [(0, GO, Ok(over(outcome, after(1, START))))];
+    let _last = plays(&rt, alloc, game, START, &rows)?;
     Ok(())
 }
 
@@ -153,19 +101,11 @@ fn short_phase(alloc: Global) -> Result<Toy, Fault> {
 #[test]
 fn a_phase_ends_where_the_game_says_so(rt: HostRuntime) -> Result<(), Fail> {
     let alloc = rt.alloc();
-    let first = View {
-        phase: Some(0),
-        ..START
-    };
-    let moved = View { moves: 1, ..first };
-    let next = View {
-        turn: 2,
-        current: 1,
-        pos: 1,
-        phase: Some(1),
-        ..START
-    };
-    let rows = [(0, GO, Ok(moved)), (0, GO, Ok(next))];
+    let first = in_phase(0, START);
+    let rows = [
+        (0, GO, Ok(after(1, first))),
+        (0, GO, Ok(in_phase(1, at(2, 1, 1)))),
+    ];
     let _last = plays(&rt, alloc, short_phase(alloc)?, first, &rows)?;
     Ok(())
 }
@@ -179,17 +119,11 @@ fn the_match_ends_before_the_turn(rt: HostRuntime) -> Result<(), Fail> {
         ..NEVER
     };
     let game = plain(alloc, 2, turns(Order::Default), &[], ends)?;
-    let second = View {
-        turn: 2,
-        current: 1,
-        pos: 1,
-        ..START
-    };
-    let over = View {
-        moves: 1,
-        over: Some(Outcome::Draw),
-        ..second
-    };
-    let _last = plays(&rt, alloc, game, START, &[(0, GO, Ok(second)), (1, GO, Ok(over))])?;
+    let second = at(2, 1, 1);
+    let rows = [
+        (0, GO, Ok(second)),
+        (1, GO, Ok(over(Outcome::Draw, after(1, second)))),
+    ];
+    let _last = plays(&rt, alloc, game, START, &rows)?;
     Ok(())
 }

@@ -3,8 +3,8 @@
 use super::games::{
     NEVER, active_turns, current_spec, following_spec, game, idle, leading_spec, sheet, staged,
 };
-use super::matches::{Action, Fault, Map, View};
-use super::{END_TURN, GO, START, on_move, plays, refused};
+use super::matches::Fault;
+use super::{END_STAGE, END_TURN, GO, START, after, at, on_move, plays, refused, with_only};
 use crate::Toy;
 use game_sheet::{Event, GameRule, List, StageId};
 use std::alloc::Global;
@@ -22,17 +22,11 @@ fn followed(alloc: Global) -> Result<Toy, Fault> {
 #[test]
 fn a_spec_with_a_follower(rt: HostRuntime) -> Result<(), Fail> {
     let alloc = rt.alloc();
-    let first = View {
-        map: Map::Only(0, None),
-        ..START
-    };
-    let second = View {
-        moves: 1,
-        map: Map::Only(1, Some(0)),
-        ..START
-    };
-    let last = View { moves: 1, ..START };
-    let rows = [(0, GO, Ok(second)), (1, GO, Ok(last))];
+    let first = with_only(0, None, START);
+    let rows = [
+        (0, GO, Ok(with_only(1, Some(0), after(1, START)))),
+        (1, GO, Ok(after(1, START))),
+    ];
     let _last = plays(&rt, alloc, followed(alloc)?, first, &rows)?;
     Ok(())
 }
@@ -41,19 +35,11 @@ fn a_spec_with_a_follower(rt: HostRuntime) -> Result<(), Fail> {
 fn a_spec_is_set_anew_at_each_turn(rt: HostRuntime) -> Result<(), Fail> {
     let alloc = rt.alloc();
     let game = staged(alloc, current_spec(alloc, Some(StageId::at(0)), 0), &[])?;
-    let first = View {
-        map: Map::Only(0, Some(0)),
-        ..START
-    };
-    let second = View {
-        turn: 2,
-        current: 1,
-        pos: 1,
-        map: Map::Only(1, Some(0)),
-        ..START
-    };
-    let third = View { turn: 3, ..first };
-    let rows = [(0, END_TURN, Ok(second)), (1, END_TURN, Ok(third))];
+    let first = with_only(0, Some(0), START);
+    let rows = [
+        (0, END_TURN, Ok(with_only(1, Some(0), at(2, 1, 1)))),
+        (1, END_TURN, Ok(with_only(0, Some(0), at(3, 0, 0)))),
+    ];
     let _last = plays(&rt, alloc, game, first, &rows)?;
     Ok(())
 }
@@ -63,13 +49,9 @@ fn a_queued_end_of_a_stage_waits_for_its_least_count(rt: HostRuntime) -> Result<
     let alloc = rt.alloc();
     let cues = [on_move(Event::EndStage)];
     let game = staged(alloc, current_spec(alloc, None, 2), &cues)?;
-    let first = View {
-        map: Map::Only(0, None),
-        ..START
-    };
-    let listed = View { moves: 1, ..first };
-    let left = View { moves: 2, ..START };
-    let _last = plays(&rt, alloc, game, first, &[(0, GO, Ok(listed)), (0, GO, Ok(left))])?;
+    let first = with_only(0, None, START);
+    let rows = [(0, GO, Ok(after(1, first))), (0, GO, Ok(after(2, START)))];
+    let _last = plays(&rt, alloc, game, first, &rows)?;
     Ok(())
 }
 
@@ -77,15 +59,11 @@ fn a_queued_end_of_a_stage_waits_for_its_least_count(rt: HostRuntime) -> Result<
 fn a_player_may_not_end_a_stage_below_its_least_count(rt: HostRuntime) -> Result<(), Fail> {
     let alloc = rt.alloc();
     let game = staged(alloc, current_spec(alloc, None, 1), &[])?;
-    let first = View {
-        map: Map::Only(0, None),
-        ..START
-    };
-    let end = Action::Event(Event::EndStage);
+    let first = with_only(0, None, START);
     let rows = [
-        (0, end, refused(GameRule::TooEarly)),
-        (0, GO, Ok(View { moves: 1, ..first })),
-        (0, end, Ok(View { moves: 1, ..START })),
+        (0, END_STAGE, refused(GameRule::TooEarly)),
+        (0, GO, Ok(after(1, first))),
+        (0, END_STAGE, Ok(after(1, START))),
     ];
     let _last = plays(&rt, alloc, game, first, &rows)?;
     Ok(())
