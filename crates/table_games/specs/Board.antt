@@ -1,10 +1,15 @@
 -- The board of tic-tac-toe: nine cells, which two seats take, and lines of three that win.
-use Rattle.std.specs.Prelude.{ℕ, Bool, false, if◌then◌else◌, nat_eq, nat_lt, ℤ, pos, negsuc, List, [], ◌∷◌, map, replicate, slice_get, slice_set, codes, is_some, Option, Some, None}
+use Rattle.std.specs.Prelude.{ℕ, ◌+◌, Bool, false, ◌&&◌, if◌then◌else◌, nat_eq, nat_lt, ℤ, pos, negsuc, List, [], ◌∷◌, length, map, replicate, slice_get, slice_set, codes, is_some, option_and_then, Option, Some, None}
 use Rattle.std.specs.List.{find, list_all, list_any}
+use Rattle.std.specs.Result.{result_ok}
 use Rattle.game_sheet.specs.declared.act.Outcome.{Outcome}
 use Rattle.game_sheet.specs.declared.act.Outcome.TheVariants.{Winner, Draw}
+use Rattle.json_tree.specs.Fields.{list_in}
+use Rattle.json_tree.specs.Names.{extra_in}
 use Rattle.serde_json.specs.Data.{Data, array, object, member, no_members}
+use Rattle.serde_json.specs.Find.{get}
 use Rattle.serde_json.specs.View.{items_of}
+use Rattle.table_games.specs.Reading.{is_seat, read_each, seat_read}
 use Rattle.table_games.specs.Rows.{seat_value}
 use Rattle.table_games.specs.declared.board.Board.{Board}
 
@@ -62,3 +67,20 @@ cells_value cells = array (items_of (map seat_value cells))
 
 abbrev pub board_value : Board → Data
 board_value b = object (member (codes "cells") (cells_value b.cells) no_members)
+
+-- nine cells, each free or of one of the two seats
+abbrev pub board_own : Board → Bool
+board_own b = nat_eq (length b.cells) 9 && list_all (is_seat 1) b.cells
+
+abbrev pub board_of : List (Option ℕ) → Option Board
+board_of cells = if nat_eq (length cells) 9 then Some (record { cells = cells }) else None
+
+-- an object with a board's cells and no other member
+abbrev pub board_read : Data → Option Board
+board_read v = if extra_in (codes "cells" ∷ []) v then None else option_and_then board_of (option_and_then (read_each (seat_read 1)) (result_ok (list_in (get (codes "cells") v))))
+
+-- a click on each free cell of these, which begin at a place
+abbrev pub free_clicks : ℕ → List (Option ℕ) → List (ℕ × List ℤ)
+free_clicks place [] = []
+free_clicks place (None ∷ cells) = (0, pos place ∷ []) ∷ free_clicks (place + 1) cells
+free_clicks place (Some seat ∷ cells) = free_clicks (place + 1) cells

@@ -1,32 +1,16 @@
 -- What the games queue names rows of their sheets: the proofs that each of them keeps this law of games, which no other definition cites.
-use Rattle.std.specs.Prelude.{ℕ, ℤ, zero, suc, pos, negsuc, ◌<◌, ◌-◌, ◌+◌, ◌^◌, ◌&&◌, Bool, true, false, if◌then◌else◌, List, [], ◌∷◌, length, min, slice_set, Option, Some, None, nat_eq, nat_le, nat_lt}
+use Rattle.std.specs.Prelude.{ℕ, ℤ, pos, negsuc, ◌+◌, ◌^◌, ◌&&◌, Bool, true, false, if◌then◌else◌, List, [], ◌∷◌, min, slice_set, Option, Some, None, nat_eq, nat_le, nat_lt}
 use Rattle.dice_words.specs.Dice.{die}
 use Rattle.game_sheet.specs.declared.act.Event.TheVariants.{EndTurn}
-use Rattle.game_sheet.specs.declared.ctx.Ctx.{Ctx}
-use Rattle.game_sheet.specs.declared.act.Outcome.{Outcome}
 use Rattle.game_sheet.specs.declared.sheet.Sheet.{Sheet}
-use Rattle.game_trait.specs.Deed.{Barred, Deed, Done, GaveUp, Invalid, Lack, Lacks, Spent, drawing}
-use Rattle.game_trait.specs.Queues.{AllInSheet, KeepsToSheet, QueuesInSheet}
-use Rattle.game_trait.specs.Rules.{Rules, plain}
-use Rattle.serde_json.specs.Data.{Data}
+use Rattle.game_trait.specs.Deed.{Barred, Deed, Done, GaveUp, Invalid, Lacks, Spent, drawing}
+use Rattle.game_trait.specs.Queues.{KeepsToSheet, QueuesInSheet}
 use Rattle.table_games.specs.Board.{clicks}
 use Rattle.table_games.specs.Countdown.{countdown, countdown_move, countdown_sheet, less, take, wild}
-use Rattle.table_games.specs.Pig.{Points, hold, move_with, pig, pig_move, pig_sheet, roll, rolled, total_of, within_range}
+use Rattle.table_games.specs.Pig.{Points, hold, move_with, pig, pig_sheet, roll, rolled, total_of, within_range}
 use Rattle.table_games.specs.TicTacToe.{clicked, fixed_sheet, tic_tac_toe}
 use Rattle.table_games.specs.declared.board.Board.{Board}
 use Rattle.table_games.specs.declared.heap.Heap.{Heap}
-
--- a game without hooks keeps to its sheet where its moves do
-pub plain_keeps : {G : Type 0} (sheet : Sheet) (setup : ℕ → List ℕ → Deed G Lack) (play : G → Ctx → ℕ → ℕ → List ℤ → List ℕ → Deed G Barred) (value : G → Data) (end_if : G → Ctx → Option Outcome) → ((g : G) (ctx : Ctx) (seat id : ℕ) (args : List ℤ) (words : List ℕ) → QueuesInSheet sheet (play g ctx seat id args words)) → KeepsToSheet (record (plain sheet setup play value) { end_if = end_if })
-plain_keeps sheet setup play value end_if keeps = record {
-  play = λ g ctx seat id args words known. keeps g ctx seat id args words;
-  on_move = λ g ctx seat words. tt;
-  turn_begin = λ g ctx words. tt;
-  turn_end = λ g ctx words. tt;
-  phase_begin = λ g ctx phase words. tt;
-  phase_end = λ g ctx phase words. tt;
-  game_end = λ g ctx words. tt;
-}
 
 -- one of two moves
 either_keeps : {A E : Type 0} (sheet : Sheet) (test : Bool) (one other : Deed A E) → QueuesInSheet sheet one → QueuesInSheet sheet other → QueuesInSheet sheet (if test then one else other)
@@ -42,7 +26,15 @@ clicked_keeps None words = tt
 clicked_keeps (Some board) words = tt
 
 pub tic_tac_toe_in_sheet : KeepsToSheet tic_tac_toe
-tic_tac_toe_in_sheet = plain_keeps _ _ _ _ _ (λ b ctx seat id args words. clicked_keeps (clicks b seat args) words)
+tic_tac_toe_in_sheet = record {
+  play = λ b ctx seat id args words known. clicked_keeps (clicks b seat args) words;
+  on_move = λ g ctx seat words. tt;
+  turn_begin = λ g ctx words. tt;
+  turn_end = λ g ctx words. tt;
+  phase_begin = λ g ctx phase words. tt;
+  phase_end = λ g ctx phase words. tt;
+  game_end = λ g ctx words. tt;
+}
 
 take_keeps : (h : Heap) (seat : ℕ) (args : List ℤ) (words : List ℕ) → QueuesInSheet countdown_sheet (take h seat args words)
 take_keeps h seat [] words = tt
@@ -58,7 +50,15 @@ countdown_keeps : (h : Heap) (seat id : ℕ) (args : List ℤ) (words : List ℕ
 countdown_keeps h seat id args words = either_keeps countdown_sheet (nat_lt seat 4) (if nat_eq id 0 then take h seat args words else wild h seat args words) (GaveUp Invalid) (either_keeps countdown_sheet (nat_eq id 0) (take h seat args words) (wild h seat args words) (take_keeps h seat args words) (wild_keeps h seat args words)) tt
 
 pub countdown_in_sheet : KeepsToSheet countdown
-countdown_in_sheet = plain_keeps _ _ _ _ _ (λ h ctx seat id args words. countdown_keeps h seat id args words)
+countdown_in_sheet = record {
+  play = λ h ctx seat id args words known. countdown_keeps h seat id args words;
+  on_move = λ g ctx seat words. tt;
+  turn_begin = λ g ctx words. tt;
+  turn_end = λ g ctx words. tt;
+  phase_begin = λ g ctx phase words. tt;
+  phase_end = λ g ctx phase words. tt;
+  game_end = λ g ctx words. tt;
+}
 
 ranged_keeps : (sheet : Sheet) (sum : ℕ) (deed : Deed Points Barred) → QueuesInSheet sheet deed → QueuesInSheet sheet (within_range sum deed)
 ranged_keeps sheet sum deed keeps = either_keeps sheet (nat_lt sum (2 ^ 32)) deed (GaveUp Invalid) keeps tt
@@ -79,4 +79,12 @@ move_keeps p seat id args words None = tt
 move_keeps p seat id args words (Some total) = either_keeps pig_sheet (nat_eq id 0) (roll p args words) (hold p seat total args words) (roll_keeps p args words) (hold_keeps p seat total args words)
 
 pub pig_in_sheet : KeepsToSheet pig
-pig_in_sheet = plain_keeps _ _ _ _ _ (λ p ctx seat id args words. move_keeps p seat id args words (total_of p seat))
+pig_in_sheet = record {
+  play = λ p ctx seat id args words known. move_keeps p seat id args words (total_of p seat);
+  on_move = λ g ctx seat words. tt;
+  turn_begin = λ g ctx words. tt;
+  turn_end = λ g ctx words. tt;
+  phase_begin = λ g ctx phase words. tt;
+  phase_end = λ g ctx phase words. tt;
+  game_end = λ g ctx words. tt;
+}

@@ -1,6 +1,11 @@
 pub mod Board
 pub mod Countdown
+pub mod CountdownLaws
 pub mod InSheet
 pub mod Pig
+pub mod PigLaws
+pub mod ReadLaws
+pub mod Reading
 pub mod Rows
 pub mod TicTacToe
+pub mod TicTacToeLaws

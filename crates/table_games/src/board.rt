@@ -1,13 +1,15 @@
 //! The board of tic-tac-toe.
 
-ghost use Rattle.std.specs.Prelude.{◌≡◌, false, IfOk, slice_get};
+ghost use Rattle.std.specs.Prelude.{◌≡◌, ◌≤◌, ◌↔◌, false, IfOk, IsTrue, length, slice_get};
 ghost use Rattle.std.specs.List.{list_any};
-ghost use Rattle.serde_json.specs.View.{view};
+ghost use Rattle.serde_json.specs.View.{items_view, view};
 ghost use Rattle.serde_json.specs.Written.{has_float};
-ghost use Rattle.table_games.specs.Board.{board_value, cells_value, click, empty, has_line, holds, is_full, is_of, outcome, winner};
+ghost use Rattle.table_games.specs.Board.{board_of, board_read, board_value, cells_value, click, empty, free_clicks, has_line, holds, is_full, is_of, outcome, winner};
+ghost use Rattle.table_games.specs.Reading.{read_each, seat_read};
 
-use crate::rows::seat_value;
-use game_sheet::{NoMemory, Outcome, Seat};
+use crate::rows::{read_seat, seat_value};
+use game_sheet::{Args, List, MoveId, NoMemory, Outcome, Seat};
+use json_tree::{extra_field, list_of};
 use serde_json::{Value, json};
 use std::alloc::{AllocError, Global};
 
@@ -120,6 +122,36 @@ impl Board {
         self.cells.iter().all(|cell| cell.is_some())
     }
 
+    /// Whether two boards are equal.
+    pub fn same(&self, other: &Board) -> bool
+        ensures { IsTrue result ↔ (self.now ≡ other.now) }
+    {
+        self.cells == other.cells
+    }
+
+    /// A click on each free cell.
+    pub(crate) fn offers(&self, alloc: Global) -> Result<List<(MoveId, Args)>, NoMemory>
+        ensures { IfOk result (λ offers. offers ≡ free_clicks 0 self.now.cells) }
+    {
+        free_clicks(alloc, &self.cells)
+    }
+
+    /// The board that is written so; none where no own board is.
+    pub fn from_value(alloc: Global, value: &Value) -> Result<Option<Board>, NoMemory>
+        ensures { IfOk result (λ read. read ≡ board_read (view value.now)) }
+    {
+        if extra_field(value, &["cells"]) {
+            return Ok(None);
+        }
+        let Ok(items) = list_of(value, "cells") else {
+            return Ok(None);
+        };
+        match read_cells(alloc, items)? {
+            Some(cells) => Ok(board_of(cells.as_slice())),
+            None => Ok(None),
+        }
+    }
+
     /// The board as JSON.
     pub fn to_value(&self, alloc: Global) -> Result<Value, NoMemory>
         ensures value { IfOk result (λ v. view v ≡ board_value self.now) }
@@ -147,4 +179,46 @@ fn cells_value(alloc: Global, cells: &[Option<Seat>]) -> Result<Value, AllocErro
         values.push(seat_value(*cell))?;
     }
     Ok(Value::Array(values))
+}
+
+/// A click on each free cell of these.
+fn free_clicks(alloc: Global, cells: &[Option<Seat>]) -> Result<List<(MoveId, Args)>, NoMemory>
+    requires { length cells.now ≤ 9 }
+    ensures { IfOk result (λ offers. offers ≡ free_clicks 0 cells.now) }
+{
+    let mut offers = List::new(alloc);
+    for (place, cell) in cells.iter().enumerate() {
+        if cell.is_none() {
+            let mut args = Args::new();
+            args.push(place as i32);
+            offers.push((MoveId::at(0), args))?;
+        }
+    }
+    Ok(offers)
+}
+
+/// The cells that an array lists: each null, or one of the two seats.
+fn read_cells(alloc: Global, items: &[Value]) -> Result<Option<List<Option<Seat>>>, NoMemory>
+    ensures { IfOk result (λ cells. cells ≡ read_each (seat_read 1) (items_view items.now)) }
+{
+    let mut cells = List::new(alloc);
+    for item in items {
+        let Some(cell) = read_seat(item, 1) else {
+            return Ok(None);
+        };
+        cells.push(cell)?;
+    }
+    Ok(Some(cells))
+}
+
+/// The board of these cells, where they are nine.
+fn board_of(cells: &[Option<Seat>]) -> Option<Board>
+    ensures { result ≡ board_of cells.now }
+{
+    if cells.len() != 9 {
+        return None;
+    }
+    let mut copied = [None; 9];
+    copied.copy_from_slice(cells);
+    Some(Board { cells: copied })
 }

@@ -10,7 +10,7 @@ use game_sheet::{
     Args, Ctx, EventKind, EventQueue, List, MoveId, NoMemory, Order, Outcome, PhaseId, Seat, Sheet,
     Text, TurnRow, unbroken,
 };
-use game_trait::{Game, Halt, HookHalt};
+use game_trait::{Game, Halt, HookHalt, may_be_offered};
 use serde_json::Value;
 use std::alloc::Global;
 use std::marker::Model;
@@ -40,6 +40,7 @@ impl Countdown {
 
 impl Game for Countdown {
     ghost use Rattle.table_games.specs.InSheet.{countdown_in_sheet};
+    ghost use Rattle.table_games.specs.CountdownLaws.{countdown_lawful};
     ghost use Rattle.table_games.specs.Countdown.{countdown};
 
     type G = Heap;
@@ -47,6 +48,8 @@ impl Game for Countdown {
     ghost rules = { λ _. countdown };
 
     ghost in_sheet = { λ _. countdown_in_sheet };
+
+    ghost lawful = { λ _. countdown_lawful };
 
     #[tactic(auto, unfolding(game_sheet::specs::SheetRules::broken))]
     fn sheet(&self) -> &Sheet {
@@ -162,8 +165,44 @@ impl Game for Countdown {
         Ok(List::new(alloc))
     }
 
+    fn view(
+        &self,
+        alloc: Global,
+        g: &Heap,
+        ctx: &Ctx,
+        viewer: Option<Seat>,
+    ) -> Result<Heap, NoMemory> {
+        Ok(g.copy())
+    }
+
+    fn undoable(&self, g: &Heap, ctx: &Ctx, id: MoveId) -> bool {
+        true
+    }
+
+    fn options(
+        &self,
+        alloc: Global,
+        g: &Heap,
+        ctx: &Ctx,
+        seat: Seat,
+    ) -> Result<List<(MoveId, Args)>, NoMemory> {
+        if may_be_offered(ctx, seat) {
+            g.offers(alloc)
+        } else {
+            Ok(List::new(alloc))
+        }
+    }
+
     fn to_value(&self, alloc: Global, g: &Heap) -> Result<Value, NoMemory> {
         g.to_value(alloc)
+    }
+
+    fn from_value(&self, alloc: Global, v: &Value) -> Result<Option<Heap>, NoMemory> {
+        Ok(Heap::from_value(v))
+    }
+
+    fn same(&self, a: &Heap, b: &Heap) -> bool {
+        a.same(b)
     }
 
     fn copy(&self, alloc: Global, g: &Heap) -> Result<Heap, NoMemory> {

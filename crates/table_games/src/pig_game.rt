@@ -10,7 +10,7 @@ use game_sheet::{
     Args, Ctx, EventQueue, List, MoveId, NoMemory, Order, Outcome, PhaseId, Seat, Sheet, Text,
     TurnRow, unbroken,
 };
-use game_trait::{Game, Halt, HookHalt};
+use game_trait::{Game, Halt, HookHalt, may_be_offered};
 use serde_json::Value;
 use std::alloc::Global;
 use std::marker::Model;
@@ -40,6 +40,7 @@ impl Pig {
 
 impl Game for Pig {
     ghost use Rattle.table_games.specs.InSheet.{pig_in_sheet};
+    ghost use Rattle.table_games.specs.PigLaws.{pig_lawful};
     ghost use Rattle.table_games.specs.Pig.{pig};
 
     type G = Scores;
@@ -47,6 +48,8 @@ impl Game for Pig {
     ghost rules = { λ _. pig };
 
     ghost in_sheet = { λ _. pig_in_sheet };
+
+    ghost lawful = { λ _. pig_lawful };
 
     #[tactic(auto, unfolding(game_sheet::specs::SheetRules::broken))]
     fn sheet(&self) -> &Sheet {
@@ -163,8 +166,44 @@ impl Game for Pig {
         Ok(List::new(alloc))
     }
 
+    fn view(
+        &self,
+        alloc: Global,
+        g: &Scores,
+        ctx: &Ctx,
+        viewer: Option<Seat>,
+    ) -> Result<Scores, NoMemory> {
+        g.copy(alloc)
+    }
+
+    fn undoable(&self, g: &Scores, ctx: &Ctx, id: MoveId) -> bool {
+        false
+    }
+
+    fn options(
+        &self,
+        alloc: Global,
+        g: &Scores,
+        ctx: &Ctx,
+        seat: Seat,
+    ) -> Result<List<(MoveId, Args)>, NoMemory> {
+        if may_be_offered(ctx, seat) {
+            g.offers(alloc)
+        } else {
+            Ok(List::new(alloc))
+        }
+    }
+
     fn to_value(&self, alloc: Global, g: &Scores) -> Result<Value, NoMemory> {
         g.to_value(alloc)
+    }
+
+    fn from_value(&self, alloc: Global, v: &Value) -> Result<Option<Scores>, NoMemory> {
+        Scores::from_value(alloc, v)
+    }
+
+    fn same(&self, a: &Scores, b: &Scores) -> bool {
+        a.same(b)
     }
 
     fn copy(&self, alloc: Global, g: &Scores) -> Result<Scores, NoMemory> {

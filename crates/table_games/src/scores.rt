@@ -1,15 +1,19 @@
 //! The pot and the totals of Pig.
 
-ghost use Rattle.std.specs.Prelude.{◌≡◌, ◌<◌, ◌≤◌, ◌+◌, ◌^◌, ℕ, List as Items, [], length, map, false, IfOk, IfSome, position, nat_le, slice_get, slice_set};
+ghost use Rattle.std.specs.Prelude.{◌≡◌, ◌<◌, ◌≤◌, ◌↔◌, ◌+◌, ◌^◌, ℕ, List as Items, [], length, map, false, IfOk, IfSome, IsTrue, codes, position, nat_le, slice_get, slice_set};
 ghost use Rattle.dice_words.specs.Strip.{Follows};
 ghost use Rattle.game_trait.specs.Gives.{Gives};
-ghost use Rattle.serde_json.specs.View.{view};
+ghost use Rattle.serde_json.specs.Find.{get};
+ghost use Rattle.serde_json.specs.View.{items_view, view};
 ghost use Rattle.serde_json.specs.Written.{has_float};
-ghost use Rattle.table_games.specs.Pig.{hold, no_points, pig_end, points_value, roll, rolled, total_of, totals_value};
+ghost use Rattle.table_games.specs.Pig.{hold, no_points, pig_end, points_offers, points_read, points_value, roll, rolled, total_of, totals_read, totals_value};
+ghost use Rattle.table_games.specs.Reading.{greatest, natural_read, read_each};
 
+use crate::rows::read_natural;
 use dice_words::Tape;
-use game_sheet::{Event, EventQueue, List, NoMemory, Outcome, Seat};
+use game_sheet::{Args, Event, EventQueue, List, MoveId, NoMemory, Outcome, Seat};
 use game_trait::Halt;
+use json_tree::{extra_field, list_of, natural_of};
 use serde_json::{Value, json};
 use std::alloc::{AllocError, Global};
 use std::marker::Model;
@@ -165,6 +169,44 @@ impl Scores {
         }
     }
 
+    /// A roll, and a hold where the pot isn't empty.
+    pub(crate) fn offers(&self, alloc: Global) -> Result<List<(MoveId, Args)>, NoMemory>
+        ensures { IfOk result (λ offers. offers ≡ points_offers self.now) }
+    {
+        let mut offers = List::new(alloc);
+        offers.push((MoveId::at(0), Args::new()))?;
+        if self.pot > 0 {
+            offers.push((MoveId::at(1), Args::new()))?;
+        }
+        Ok(offers)
+    }
+
+    /// Whether two scores are equal.
+    pub fn same(&self, other: &Scores) -> bool
+        ensures { IsTrue result ↔ (self.now ≡ other.now) }
+    {
+        self.pot == other.pot && self.totals.as_slice() == other.totals.as_slice()
+    }
+
+    /// The scores that are written so; none where no own scores are.
+    pub fn from_value(alloc: Global, value: &Value) -> Result<Option<Scores>, NoMemory>
+        ensures { IfOk result (λ read. read ≡ points_read (view value.now)) }
+    {
+        if extra_field(value, &["pot", "totals"]) {
+            return Ok(None);
+        }
+        let Ok(pot) = natural_of(value, "pot", 4294967295) else {
+            return Ok(None);
+        };
+        match totals_of(alloc, value)? {
+            Some(totals) => Ok(Some(Scores {
+                pot: pot as u32,
+                totals,
+            })),
+            None => Ok(None),
+        }
+    }
+
     /// The scores as JSON.
     pub fn to_value(&self, alloc: Global) -> Result<Value, NoMemory>
         ensures value { IfOk result (λ v. view v ≡ points_value self.now) }
@@ -210,4 +252,32 @@ fn totals_value(alloc: Global, totals: &[u32]) -> Result<Value, AllocError>
         values.push(Value::from(*total))?;
     }
     Ok(Value::Array(values))
+}
+
+/// The totals that the member `totals` lists, where they are one to eight.
+fn totals_of(alloc: Global, value: &Value) -> Result<Option<List<u32>>, NoMemory>
+    ensures value { IfOk result (λ totals. totals ≡ totals_read (get (codes "totals") (view value.now))) }
+    ensures most { IfOk result (λ totals. IfSome totals (λ list. length list ≤ 8)) }
+{
+    let Ok(items) = list_of(value, "totals") else {
+        return Ok(None);
+    };
+    match read_totals(alloc, items)? {
+        Some(totals) if 1 <= totals.len() && totals.len() <= 8 => Ok(Some(totals)),
+        _ => Ok(None),
+    }
+}
+
+/// The numbers of 32 bits that an array lists.
+fn read_totals(alloc: Global, items: &[Value]) -> Result<Option<List<u32>>, NoMemory>
+    ensures { IfOk result (λ totals. totals ≡ read_each (natural_read greatest) (items_view items.now)) }
+{
+    let mut totals = List::new(alloc);
+    for item in items {
+        let Some(total) = read_natural(item, 4294967295) else {
+            return Ok(None);
+        };
+        totals.push(total)?;
+    }
+    Ok(Some(totals))
 }

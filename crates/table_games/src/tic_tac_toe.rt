@@ -11,7 +11,7 @@ use game_sheet::{
     Args, Ctx, EventQueue, List, MoveId, NoMemory, Order, Outcome, PhaseId, Seat, Sheet, Text,
     TurnRow, unbroken,
 };
-use game_trait::{Game, Halt, HookHalt};
+use game_trait::{Game, Halt, HookHalt, may_be_offered};
 use serde_json::Value;
 use std::alloc::Global;
 use std::marker::Model;
@@ -41,6 +41,7 @@ impl TicTacToe {
 
 impl Game for TicTacToe {
     ghost use Rattle.table_games.specs.InSheet.{tic_tac_toe_in_sheet};
+    ghost use Rattle.table_games.specs.TicTacToeLaws.{tic_tac_toe_lawful};
     ghost use Rattle.table_games.specs.TicTacToe.{tic_tac_toe};
 
     type G = Board;
@@ -48,6 +49,8 @@ impl Game for TicTacToe {
     ghost rules = { λ _. tic_tac_toe };
 
     ghost in_sheet = { λ _. tic_tac_toe_in_sheet };
+
+    ghost lawful = { λ _. tic_tac_toe_lawful };
 
     #[tactic(auto, unfolding(game_sheet::specs::SheetRules::broken))]
     fn sheet(&self) -> &Sheet {
@@ -157,8 +160,44 @@ impl Game for TicTacToe {
         Ok(List::new(alloc))
     }
 
+    fn view(
+        &self,
+        alloc: Global,
+        g: &Board,
+        ctx: &Ctx,
+        viewer: Option<Seat>,
+    ) -> Result<Board, NoMemory> {
+        Ok(g.copy())
+    }
+
+    fn undoable(&self, g: &Board, ctx: &Ctx, id: MoveId) -> bool {
+        true
+    }
+
+    fn options(
+        &self,
+        alloc: Global,
+        g: &Board,
+        ctx: &Ctx,
+        seat: Seat,
+    ) -> Result<List<(MoveId, Args)>, NoMemory> {
+        if may_be_offered(ctx, seat) {
+            g.offers(alloc)
+        } else {
+            Ok(List::new(alloc))
+        }
+    }
+
     fn to_value(&self, alloc: Global, g: &Board) -> Result<Value, NoMemory> {
         g.to_value(alloc)
+    }
+
+    fn from_value(&self, alloc: Global, v: &Value) -> Result<Option<Board>, NoMemory> {
+        Board::from_value(alloc, v)
+    }
+
+    fn same(&self, a: &Board, b: &Board) -> bool {
+        a.same(b)
     }
 
     fn copy(&self, alloc: Global, g: &Board) -> Result<Board, NoMemory> {

@@ -1,3 +1,4 @@
 pub mod InSheet
 pub mod Moment
 pub mod Toy
+pub mod ToyLaws

@@ -1,12 +1,16 @@
 -- A small game, by which the flow is tried. Its state counts the moves made. What its functions queue is said by cues, and how many moves
 -- a turn, a phase and a match have by its ends.
-use Rattle.std.specs.Prelude.{ℕ, ◌+◌, ◌%◌, ◌^◌, Bool, false, if◌then◌else◌, nat_le, nat_lt, List, [], length, Option, Some, None, codes}
+use Rattle.std.specs.Prelude.{ℕ, ◌+◌, ◌%◌, ◌^◌, Bool, true, false, if◌then◌else◌, nat_le, nat_lt, List, [], ◌∷◌, length, Option, Some, None, codes}
+use Rattle.std.specs.Result.{result_ok}
 use Rattle.game_sheet.specs.declared.act.Event.{Event}
 use Rattle.game_sheet.specs.declared.act.Outcome.TheVariants.{Draw}
 use Rattle.game_sheet.specs.declared.sheet.Sheet.{Sheet}
 use Rattle.game_trait.specs.Deed.{Crowded, Deed, Done, GaveUp, Lacks}
 use Rattle.game_trait.specs.Rules.{Rules}
+use Rattle.json_tree.specs.Fields.{natural_in}
+use Rattle.json_tree.specs.Names.{extra_in}
 use Rattle.serde_json.specs.Data.{Data, number, unsigned, object, member, no_members}
+use Rattle.serde_json.specs.Find.{get}
 use Rattle.test_games.specs.Moment.{cued}
 use Rattle.test_games.specs.declared.cue.Cue.{Cue}
 use Rattle.test_games.specs.declared.cue.Moment.{Moment}
@@ -22,8 +26,15 @@ abbrev pub is_reached : Option ℕ → ℕ → Bool
 is_reached None count = false
 is_reached (Some limit) count = nat_le limit count
 
+-- a count is a number of 32 bits
+abbrev pub is_count : ℕ → Bool
+is_count count = nat_le count 4294967295
+
 abbrev pub count_value : ℕ → Data
 count_value count = object (member (codes "count") (number (unsigned count)) no_members)
+
+abbrev pub count_read : Data → Option ℕ
+count_read v = if extra_in (codes "count" ∷ []) v then None else result_ok (natural_in 4294967295 (get (codes "count") v))
 
 abbrev pub toy_rules : Sheet → List Cue → Ends → Rules ℕ
 toy_rules sheet cues ends = record {
@@ -40,5 +51,10 @@ toy_rules sheet cues ends = record {
   turn_end_if = λ g ctx. is_reached ends.turn ctx.moves;
   phase_end_if = λ g ctx. is_reached ends.phase ctx.moves;
   play_order = λ g ctx. [];
+  view = λ g ctx viewer. g;
+  undoable = λ g ctx id. true;
+  options = λ g ctx seat. [];
+  own = is_count;
   value = count_value;
+  read = count_read;
 }

@@ -7,7 +7,8 @@ ghost use Rattle.game_trait.specs.Deed.{Crowded};
 ghost use Rattle.game_trait.specs.Gives.{Hooks};
 ghost use Rattle.test_games.specs.InSheet.{are_in_sheet};
 ghost use Rattle.test_games.specs.Moment.{cued};
-ghost use Rattle.test_games.specs.Toy.{is_reached, queueing};
+ghost use Rattle.serde_json.specs.View.{view};
+ghost use Rattle.test_games.specs.Toy.{count_read, is_reached, queueing};
 
 use crate::cue::{Cue, Moment, are_in_sheet, queue};
 use dice_words::Tape;
@@ -15,6 +16,7 @@ use game_sheet::{
     Args, Ctx, EventQueue, List, MoveId, NoMemory, Outcome, PhaseId, Seat, Sheet, check_sheet,
 };
 use game_trait::{Game, Halt, HookHalt};
+use json_tree::{extra_field, natural_of};
 use serde_json::{Value, json};
 use std::alloc::Global;
 
@@ -76,15 +78,31 @@ fn is_reached(limit: Option<u32>, count: u32) -> bool
     }
 }
 
+/// The count that is written so; none where no count is.
+fn read_count(value: &Value) -> Option<u32>
+    ensures { result ≡ count_read (view value.now) }
+{
+    if extra_field(value, &["count"]) {
+        return None;
+    }
+    match natural_of(value, "count", u32::MAX as u64) {
+        Ok(count) => Some(count as u32),
+        Err(_) => None,
+    }
+}
+
 impl Game for Toy {
     ghost use Rattle.test_games.specs.InSheet.{toy_in_sheet};
     ghost use Rattle.test_games.specs.Toy.{toy_rules};
+    ghost use Rattle.test_games.specs.ToyLaws.{toy_lawful};
 
     type G = u32;
 
     ghost rules = { λ toy. toy_rules toy.sheet toy.cues toy.ends };
 
     ghost in_sheet = { λ toy. toy_in_sheet toy.sheet toy.cues toy.ends toy.keeps };
+
+    ghost lawful = { λ toy. toy_lawful toy.sheet toy.cues toy.ends };
 
     fn sheet(&self) -> &Sheet {
         &self.sheet
@@ -198,8 +216,40 @@ impl Game for Toy {
         Ok(List::new(alloc))
     }
 
+    fn view(
+        &self,
+        alloc: Global,
+        g: &u32,
+        ctx: &Ctx,
+        viewer: Option<Seat>,
+    ) -> Result<u32, NoMemory> {
+        Ok(*g)
+    }
+
+    fn undoable(&self, g: &u32, ctx: &Ctx, id: MoveId) -> bool {
+        true
+    }
+
+    fn options(
+        &self,
+        alloc: Global,
+        g: &u32,
+        ctx: &Ctx,
+        seat: Seat,
+    ) -> Result<List<(MoveId, Args)>, NoMemory> {
+        Ok(List::new(alloc))
+    }
+
     fn to_value(&self, alloc: Global, g: &u32) -> Result<Value, NoMemory> {
         Ok(json!(in alloc; {"count": *g})?)
+    }
+
+    fn from_value(&self, alloc: Global, v: &Value) -> Result<Option<u32>, NoMemory> {
+        Ok(read_count(v))
+    }
+
+    fn same(&self, a: &u32, b: &u32) -> bool {
+        a == b
     }
 
     fn copy(&self, alloc: Global, g: &u32) -> Result<u32, NoMemory> {

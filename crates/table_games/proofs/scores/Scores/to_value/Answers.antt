@@ -1,6 +1,6 @@
 use Rattle.std.proofs.Common.{◌∙◌, ap}
 use Rattle.serde_json.specs.Written.{has_float}
-use Rattle.table_games.proofs.FloatFree.{points_float_free}
+use Rattle.table_games.specs.PigLaws.{points_float_free}
 use Rattle.table_games.proofs.scores.Scores.to_value.Goals as goal
 
 pub returns-clause-float_free : goal.returns-clause-float_free
