@@ -329,12 +329,17 @@ fn contexts_are_copied_whole(rt: HostRuntime) -> Result<(), Fail> {
     Ok(())
 }
 
+/// A copy of a text of these bytes.
+fn copied(alloc: Global, text: &str) -> Result<Text, NoMemory> {
+    Text::from_str(alloc, text)?.copy(alloc)
+}
+
 #[test]
 fn texts_are_copied_whole(rt: HostRuntime) -> Result<(), Fail> {
-    let alloc = rt.alloc();
-    let copied = Text::from_str(alloc, "draw")?.copy(alloc)?;
-    assert_eq!(rt; copied.as_str(), "draw");
-    assert!(rt; copied.is("draw") && !copied.is("Draw"));
+    let text = copied(rt.alloc(), "draw")?;
+    assert_eq!(rt; text.as_str(), "draw");
+    assert!(rt; text.is("draw"));
+    assert!(rt; !text.is("Draw"));
     Ok(())
 }
 
