@@ -3,6 +3,7 @@ pub mod Depths
 pub mod ActiveRows
 pub mod Counting
 pub mod PartLaws
+pub mod RowsAre
 pub mod EntryLaws
 pub mod CtxLaws
 pub mod RowLaws

@@ -154,7 +154,7 @@ longer : (k : List ℕ) (d : Data) (ms : Members) → get_member k ms ≡ None �
 longer k d no_members h = refl
 longer k d (member l e ms) h = longer_at (slice_cmp nat_cmp k l) k l d e ms h (longer k d ms)
 
-counted : (sheet : Sheet) (low : ℕ) (rows : Rows) (ms : Members) → RowsFit sheet low rows → ((seat : ℕ) → low ≤ seat → seat ≤ 255 → get_member (decimal seat) ms ≡ None) → members_len (fold (with_row sheet) ms rows) ≡ members_len ms + length rows
+pub counted : (sheet : Sheet) (low : ℕ) (rows : Rows) (ms : Members) → RowsFit sheet low rows → ((seat : ℕ) → low ≤ seat → seat ≤ 255 → get_member (decimal seat) ms ≡ None) → members_len (fold (with_row sheet) ms rows) ≡ members_len ms + length rows
 counted sheet low [] ms h none = omega arith
 counted sheet low (row ∷ rows) ms h none =
     let one = longer (decimal row.0) (stage_or_null sheet row.1) ms (none row.0 h.0 h.1) in

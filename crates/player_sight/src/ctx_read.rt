@@ -1,8 +1,9 @@
 //! Reads the value of a context back.
 
-ghost use Rattle.std.specs.Prelude.{◌≡◌, ◌≤◌, [], IfOk, Some, codes, decimal, option_map};
+ghost use Rattle.std.specs.Prelude.{◌≡◌, ◌≤◌, [], IfOk, IfSome, Some, codes, decimal, option_map};
 ghost use Rattle.serde_json.specs.Find.{get};
 ghost use Rattle.serde_json.specs.View.{view};
+ghost use Rattle.json_tree.specs.Canonical.{IsCanonical};
 ghost use Rattle.game_sheet.specs.SheetFits.{SheetFits};
 ghost use Rattle.player_sight.specs.Reading.{id_or_null, stage_of};
 ghost use Rattle.game_sheet.specs.declared.ctx.Ctx.{Ctx as Shown};
@@ -28,11 +29,12 @@ struct Counts {
     turn: u32,
 }
 
-/// The context that has this value; none where no context of a plain snapshot has it.
-#[tactic(auto, using(crate::proofs::Readers::ctx_only))]
+/// The context that has this value; none exactly where no context of a plain snapshot has it.
+#[tactic(auto, using(crate::proofs::Readers::ctx_only, crate::proofs::Readers::ctx_found))]
 pub fn ctx_of(alloc: Global, sheet: &Sheet, value: &Value) -> Result<Option<Ctx>, NoMemory>
     requires { SheetFits sheet.now }
     ensures exact { IfOk result (λ ctx. ctx ≡ ctx_in sheet.now (view value.now)) }
+    ensures found { IfOk result (λ read. IsCanonical (view value.now) → IfSome read (λ ctx. IsPlainCtx sheet.now ctx × (ctx_data sheet.now ctx ≡ view value.now))) }
     ensures only { IfOk result (λ read. (ctx : Shown) → IsPlainCtx sheet.now ctx → ctx_data sheet.now ctx ≡ view value.now → read ≡ Some ctx) }
 {
     let ctx = read_ctx(alloc, sheet, value)?;

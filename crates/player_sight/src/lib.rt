@@ -16,4 +16,6 @@ pub use entry_read::entry_of;
 pub use snapshots::snapshot_value;
 
 #[cfg(test)]
+mod read_tests;
+#[cfg(test)]
 mod tests;

@@ -1,4 +1,4 @@
-use Rattle.std.proofs.Common.{rules, arith, sym, ◌∙◌, ap}
+use Rattle.std.proofs.Common.{rules}
 use Rattle.serde_json.specs.View.{view}
 use Rattle.player_sight.proofs.ActiveRows.{all_found, passed_by, no_stage, seat_found, at_end}
 use Rattle.player_sight.proofs.ctx_read.rows_of.Goals as goal
