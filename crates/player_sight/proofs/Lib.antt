@@ -1,2 +1,11 @@
 pub mod NoFloat
 pub mod Depths
+pub mod ActiveRows
+pub mod Counting
+pub mod PartLaws
+pub mod RowsAre
+pub mod EntryLaws
+pub mod CtxLaws
+pub mod RowLaws
+pub mod NumberLaws
+pub mod Readers

@@ -2,13 +2,20 @@
 #![tactic(auto)]
 
 mod context;
+mod ctx_read;
 mod entries;
+mod entry_read;
+mod part_read;
 mod parts;
 mod snapshots;
 
 pub use context::ctx_value;
+pub use ctx_read::ctx_of;
 pub use entries::{entry_value, log_value};
+pub use entry_read::entry_of;
 pub use snapshots::snapshot_value;
 
+#[cfg(test)]
+mod read_tests;
 #[cfg(test)]
 mod tests;
