@@ -1,1 +1,3 @@
+mod OfferLemmas
 mod PackLemmas
+mod ReadLemmas

@@ -1,8 +1,9 @@
 -- Blind Bid: two to eight seats seal one bid each, and the greatest wins when all have bid.
-use Rattle.std.specs.Prelude.{ℕ, ◌&&◌, nat_eq, nat_le, nat_lt, true, false, Bool, if◌then◌else◌, ℤ, pos, List, [], ◌∷◌, length, map, replicate, slice_get, slice_set, codes, is_some, is_none, unwrap_or, Option, Some, None}
+use Rattle.std.specs.Prelude.{ℕ, ◌==◌, ◌&&◌, nat_eq, nat_le, nat_lt, true, false, Bool, if◌then◌else◌, ℤ, pos, List, [], ◌∷◌, ◌++◌, length, map, replicate, slice_get, slice_set, codes, is_some, is_none, option_map, unwrap_or, Option, Some, None}
 use Rattle.std.specs.List.{list_all}
 use Rattle.card_games.specs.Greatest.{one_greatest}
-use Rattle.card_games.specs.Json.{list_value, number_value, option_value, split_value}
+use Rattle.card_games.specs.Json.{apply, is_count, list_value, number_value, option_value, own_option, own_split, passing, read_count, read_list, read_member, read_object, read_option, read_split, split_value}
+use Rattle.card_games.specs.Offers.{offers}
 use Rattle.card_games.specs.declared.bids.Bidding.{Bidding}
 use Rattle.card_games.specs.declared.bids.NoSecret.{NoSecret}
 use Rattle.card_games.specs.declared.bids.Sealed.{Sealed}
@@ -10,7 +11,9 @@ use Rattle.game_sheet.specs.declared.act.Outcome.{Outcome}
 use Rattle.game_sheet.specs.declared.sheet.Order.TheVariants.{Default}
 use Rattle.game_sheet.specs.declared.sheet.Sheet.{Sheet}
 use Rattle.game_trait.specs.Deed.{Barred, Deed, Done, GaveUp, Invalid}
+use Rattle.game_trait.specs.Offers.{offered}
 use Rattle.game_trait.specs.Rules.{Rules, plain}
+use Rattle.secret_strip.specs.Strip.{strip}
 use Rattle.secret_strip.specs.declared.split.Split.{Split}
 use Rattle.serde_json.specs.Data.{Data, null, object, member, no_members}
 
@@ -86,20 +89,65 @@ bid_end g = if all_bid g.players then Some (one_greatest amount g.players) else 
 abbrev pub revealed : Bids → Bids
 revealed g = if all_bid g.players then record g { common = record g.common { revealed = Some (map amount g.players) } } else g
 
+abbrev pub offered_bids : List ℤ
+offered_bids = pos 10 ∷ pos 20 ∷ pos 30 ∷ pos 40 ∷ pos 50 ∷ pos 60 ∷ pos 70 ∷ pos 80 ∷ pos 90 ∷ pos 100 ∷ []
+
+abbrev pub offered_boasts : List ℤ
+offered_boasts = pos 0 ∷ pos 1 ∷ pos 2 ∷ pos 3 ∷ pos 4 ∷ pos 5 ∷ pos 6 ∷ pos 7 ∷ pos 8 ∷ pos 9 ∷ []
+
+-- a seat that hasn't bid is offered these bids, and then these boasts
+abbrev pub bid_offers : Bids → ℕ → List (ℕ × List ℤ)
+bid_offers g seat = if may_bid (slice_get g.players seat) then offers 0 offered_bids ++ offers 1 offered_boasts else []
+
 abbrev pub bidding_value : Bidding → Data
 bidding_value b = object (member (codes "boasts") (list_value number_value b.boasts) (member (codes "revealed") (option_value (list_value number_value) b.revealed) no_members))
 
+abbrev pub read_bidding : Data → Option Bidding
+read_bidding v = read_object (codes "boasts" ∷ codes "revealed" ∷ []) (λ d. apply (apply (Some (λ boasts revealed. record { boasts = boasts; revealed = revealed })) (read_member (codes "boasts") (read_list read_count) d)) (read_member (codes "revealed") (read_option (read_list read_count)) d)) v
+
+abbrev pub own_bidding : Bidding → Bool
+own_bidding b = list_all is_count b.boasts && own_option (list_all is_count) b.revealed
+
+-- nothing is ever secret
 abbrev pub no_secret_value : NoSecret → Data
 no_secret_value _ = null
+
+abbrev pub read_no_secret : Data → Option NoSecret
+read_no_secret _ = None
+
+abbrev pub own_no_secret : NoSecret → Bool
+own_no_secret _ = false
 
 abbrev pub sealed_value : Sealed → Data
 sealed_value entry = object (member (codes "bid") (option_value number_value entry.bid) no_members)
 
+abbrev pub read_sealed : Data → Option Sealed
+read_sealed v = read_object (codes "bid" ∷ []) (λ d. apply (Some (λ bid. record { bid = bid })) (read_member (codes "bid") (read_option read_count) d)) v
+
+abbrev pub own_sealed : Sealed → Bool
+own_sealed entry = own_option is_count entry.bid
+
 abbrev pub bids_value : Bids → Data
 bids_value g = split_value bidding_value no_secret_value sealed_value g
 
+-- one to eight seats have a boast each, an entry each, and a bid each where the bids are shown
+abbrev pub are_seats : ℕ → ℕ → Option ℕ → Bool
+are_seats players boasts revealed = nat_le 1 players && nat_le players 8 && (boasts == players) && (unwrap_or revealed players == players)
+
+abbrev pub have_seats : Bids → Bool
+have_seats g = are_seats (length g.players) (length g.common.boasts) (option_map (λ bids. length bids) g.common.revealed)
+
+abbrev pub read_bids : Data → Option Bids
+read_bids v = passing have_seats (read_split read_bidding read_no_secret read_sealed v)
+
+abbrev pub own_bids : Bids → Bool
+own_bids g = have_seats g && own_split own_bidding own_no_secret own_sealed g
+
 abbrev pub blind_bid : Rules Bids
-blind_bid = record (plain bid_sheet (λ seats words. Done (no_bids seats) words []) (λ g ctx seat id args words. bid_move g seat id args words) bids_value) {
+blind_bid = record (plain bid_sheet (λ seats words. Done (no_bids seats) words []) (λ g ctx seat id args words. bid_move g seat id args words) own_bids bids_value read_bids) {
   end_if = λ g ctx. bid_end g;
   game_end = λ g ctx words. Done (revealed g) words [];
+  view = λ g ctx viewer. strip g viewer;
+  undoable = λ g ctx id. nat_eq id 1;
+  options = λ g ctx seat. offered ctx seat (bid_offers g seat);
 }

@@ -1,9 +1,9 @@
 -- High Hand: two to four seats draw two cards each and lay them one by one; the highest card on a full table scores a point, and the greatest score wins.
-use Rattle.std.specs.Prelude.{ℕ, ◌+◌, ◌-◌, ◌^◌, ◌==◌, ◌&&◌, min, nat_eq, nat_le, nat_lt, true, false, Bool, if◌then◌else◌, ℤ, pos, List, [], ◌∷◌, ◌++◌, length, replicate, remove, slice_get, slice_index, slice_set, codes, is_some, is_none, unwrap_or, Option, Some, None}
+use Rattle.std.specs.Prelude.{ℕ, ◌+◌, ◌-◌, ◌^◌, ◌==◌, ◌&&◌, min, nat_eq, nat_le, nat_lt, true, false, Bool, if◌then◌else◌, ℤ, pos, List, [], ◌∷◌, ◌++◌, length, replicate, remove, slice_get, slice_index, slice_set, codes, is_some, is_none, unwrap_or, Option, Some, None, zero, suc}
 use Rattle.std.specs.List.{list_all}
 use Rattle.card_games.specs.Greatest.{first_greatest, one_greatest}
-use Rattle.card_games.specs.Json.{list_value, number_value, option_value, split_value}
-use Rattle.card_games.specs.Pack.{are_few, pack}
+use Rattle.card_games.specs.Json.{apply, is_count, list_value, number_value, option_value, own_option, own_split, passing, read_count, read_list, read_member, read_number, read_object, read_option, read_split, split_value}
+use Rattle.card_games.specs.Pack.{are_cards, are_few, is_card, pack}
 use Rattle.card_games.specs.declared.cards.CardTable.{CardTable}
 use Rattle.card_games.specs.declared.cards.Deck.{Deck}
 use Rattle.card_games.specs.declared.cards.Hand.{Hand}
@@ -14,7 +14,9 @@ use Rattle.game_sheet.specs.declared.act.Outcome.{Outcome}
 use Rattle.game_sheet.specs.declared.sheet.Order.TheVariants.{Default, Once, Reset}
 use Rattle.game_sheet.specs.declared.sheet.Sheet.{Sheet}
 use Rattle.game_trait.specs.Deed.{Barred, Deed, Done, GaveUp, Invalid, Lack, Spent}
+use Rattle.game_trait.specs.Offers.{offered}
 use Rattle.game_trait.specs.Rules.{Rules, plain}
+use Rattle.secret_strip.specs.Strip.{strip}
 use Rattle.secret_strip.specs.declared.split.Split.{Split}
 use Rattle.serde_json.specs.Data.{Data, object, member, no_members}
 
@@ -90,7 +92,7 @@ with_deck g deck = record g {
 abbrev pub draw_to : Cards → ℕ → Option (List ℕ) → List ℕ → List ℕ → Deed Cards Barred
 draw_to g seat None deck words = GaveUp Invalid
 draw_to g seat (Some hand) [] words = GaveUp Invalid
-draw_to g seat (Some hand) (card ∷ deck) words = if nat_lt (length hand) 52 && are_few deck then Done (with_deck (with_hand g seat (hand ++ card ∷ [])) deck) words [] else GaveUp Invalid
+draw_to g seat (Some hand) (card ∷ deck) words = if are_few (hand ++ card ∷ []) && are_few deck then Done (with_deck (with_hand g seat (hand ++ card ∷ [])) deck) words [] else GaveUp Invalid
 
 abbrev pub draw : Cards → ℕ → List ℤ → List ℕ → Deed Cards Barred
 draw g seat [] words = draw_to g seat (hand_of g seat) (deck_in g.secret) words
@@ -105,10 +107,13 @@ is_free _ = false
 abbrev pub laid : Cards → ℕ → ℕ → List ℕ → Cards
 laid g seat card hand = let after : Cards = with_hand g seat hand in record after { common = record after.common { places = slice_set g.common.places seat (Some card) } }
 
--- a card of the mover's hand goes to its free place on the table
+-- a card of the mover goes to its free place on the table, and this hand is left to it
+abbrev pub lay_down : Cards → ℕ → ℕ → List ℕ → List ℕ → Deed Cards Barred
+lay_down g seat card left words = if are_few left && is_free (slice_get g.common.places seat) then Done (laid g seat card left) words [] else GaveUp Invalid
+
 abbrev pub lay_card : Cards → ℕ → ℕ → List ℕ → Option ℕ → List ℕ → Deed Cards Barred
 lay_card g seat place hand None words = GaveUp Invalid
-lay_card g seat place hand (Some card) words = if are_few hand && is_free (slice_get g.common.places seat) then Done (laid g seat card (remove hand place)) words [] else GaveUp Invalid
+lay_card g seat place hand (Some card) words = lay_down g seat card (remove hand place) words
 
 abbrev pub lay_from : Cards → ℕ → ℕ → Option (List ℕ) → List ℕ → Deed Cards Barred
 lay_from g seat place None words = GaveUp Invalid
@@ -164,21 +169,82 @@ is_played g (Some phase) = nat_eq phase 1 && are_empty g.common.hands && is_clea
 abbrev pub card_end : Cards → Option ℕ → Option Outcome
 card_end g phase = if is_played g phase then Some (one_greatest (λ score. score) g.common.scores) else None
 
+-- the moves that lay one of so many cards, each by its place
+abbrev pub lays : ℕ → List (ℕ × List ℤ)
+lays zero = []
+lays (suc place) = lays place ++ (1, pos place ∷ []) ∷ []
+
+abbrev pub lay_offers : Cards → ℕ → Option (List ℕ) → List (ℕ × List ℤ)
+lay_offers g seat None = []
+lay_offers g seat (Some hand) = if are_few hand && is_free (slice_get g.common.places seat) then lays (length hand) else []
+
+-- in the first phase a seat is offered the draw, and in the second each card of its hand where its place on the table is free
+abbrev pub card_offers : Cards → ℕ → Option ℕ → List (ℕ × List ℤ)
+card_offers g seat None = []
+card_offers g seat (Some phase) = if nat_eq phase 0 then (0, []) ∷ [] else (if nat_eq phase 1 then lay_offers g seat (hand_of g seat) else [])
+
+abbrev pub table_names : List (List ℕ)
+table_names = codes "hands" ∷ codes "left" ∷ codes "scores" ∷ codes "table" ∷ []
+
 abbrev pub table_value : CardTable → Data
 table_value t = object (member (codes "hands") (list_value number_value t.hands) (member (codes "left") (number_value t.left) (member (codes "scores") (list_value number_value t.scores) (member (codes "table") (list_value (option_value number_value) t.places) no_members))))
+
+abbrev pub table_of : List ℕ → ℕ → List ℕ → List (Option ℕ) → CardTable
+table_of hands left scores places = record { hands = hands; left = left; scores = scores; places = places }
+
+abbrev pub read_card : Data → Option ℕ
+read_card d = read_number 51 d
+
+abbrev pub read_table : Data → Option CardTable
+read_table v = read_object table_names (λ d. apply (apply (apply (apply (Some table_of) (read_member (codes "hands") (read_list read_count) d)) (read_member (codes "left") read_count d)) (read_member (codes "scores") (read_list read_count) d)) (read_member (codes "table") (read_list (read_option read_card)) d)) v
+
+abbrev pub own_table : CardTable → Bool
+own_table t = list_all is_count t.hands && is_count t.left && list_all is_count t.scores && list_all (own_option is_card) t.places
+
+-- the cards of a hand or a deck
+abbrev pub read_cards : Data → Option (List ℕ)
+read_cards d = passing are_few (read_list read_card d)
 
 abbrev pub hand_value : Hand → Data
 hand_value h = object (member (codes "hand") (list_value number_value h.cards) no_members)
 
+abbrev pub read_hand : Data → Option Hand
+read_hand v = read_object (codes "hand" ∷ []) (λ d. apply (Some (λ cards. record { cards = cards })) (read_member (codes "hand") read_cards d)) v
+
+abbrev pub own_hand : Hand → Bool
+own_hand h = are_cards h.cards
+
 abbrev pub deck_value : Deck → Data
 deck_value d = object (member (codes "deck") (list_value number_value d.cards) no_members)
+
+abbrev pub read_deck : Data → Option Deck
+read_deck v = read_object (codes "deck" ∷ []) (λ d. apply (Some (λ cards. record { cards = cards })) (read_member (codes "deck") read_cards d)) v
+
+abbrev pub own_deck : Deck → Bool
+own_deck d = are_cards d.cards
 
 abbrev pub cards_value : Cards → Data
 cards_value g = split_value table_value deck_value hand_value g
 
+-- one to eight seats have an entry, a count of cards, a score and a place on the table each
+abbrev pub are_places : ℕ → ℕ → ℕ → ℕ → Bool
+are_places players hands scores places = nat_le 1 players && nat_le players 8 && (hands == players) && (scores == players) && (places == players)
+
+abbrev pub have_places : Cards → Bool
+have_places g = are_places (length g.players) (length g.common.hands) (length g.common.scores) (length g.common.places)
+
+abbrev pub read_state : Data → Option Cards
+read_state v = passing have_places (read_split read_table read_deck read_hand v)
+
+abbrev pub own_state : Cards → Bool
+own_state g = have_places g && own_split own_table own_deck own_hand g
+
 -- the game of a deck in a fixed order, or of shuffled packs
 abbrev pub high_hand : Option Dealt → Rules Cards
-high_hand deck = record (plain high_hand_sheet (set_up deck) (λ g ctx seat id args words. card_move g seat id args words) cards_value) {
+high_hand deck = record (plain high_hand_sheet (set_up deck) (λ g ctx seat id args words. card_move g seat id args words) own_state cards_value read_state) {
   turn_end = λ g ctx words. Done (after_turn g) words [];
   end_if = λ g ctx. card_end g ctx.phase;
+  view = λ g ctx viewer. strip g viewer;
+  undoable = λ g ctx id. nat_eq id 1;
+  options = λ g ctx seat. offered ctx seat (card_offers g seat ctx.phase);
 }

@@ -1,5 +1,5 @@
 -- Neither game queues an event: the proofs that each of them keeps this law of games, which no other definition cites.
-use Rattle.std.specs.Prelude.{ℕ, ℤ, pos, negsuc, ◌&&◌, nat_eq, nat_le, nat_lt, Bool, true, false, if◌then◌else◌, List, [], ◌∷◌, length, slice_get, Option, Some, None}
+use Rattle.std.specs.Prelude.{ℕ, ℤ, pos, negsuc, ◌&&◌, nat_eq, nat_le, nat_lt, Bool, true, false, if◌then◌else◌, List, [], ◌∷◌, length, slice_get, Option, Some, None, ◌++◌, remove}
 use Rattle.card_games.specs.BlindBid.{Bids, bid, bid_move, bid_sheet, blind_bid, boast, may_bid}
 use Rattle.card_games.specs.HighHand.{Cards, card_move, deck_in, draw, draw_to, hand_of, high_hand, high_hand_sheet, is_free, lay, lay_card, lay_from}
 use Rattle.card_games.specs.Pack.{are_few}
@@ -42,7 +42,7 @@ blind_bid_in_sheet = record {
 drawn_keeps : (g : Cards) (seat : ℕ) (hand : Option (List ℕ)) (deck words : List ℕ) → QueuesInSheet high_hand_sheet (draw_to g seat hand deck words)
 drawn_keeps g seat None deck words = tt
 drawn_keeps g seat (Some hand) [] words = tt
-drawn_keeps g seat (Some hand) (card ∷ deck) words = either_keeps high_hand_sheet (nat_lt (length hand) 52 && are_few deck) _ _ tt tt
+drawn_keeps g seat (Some hand) (card ∷ deck) words = either_keeps high_hand_sheet (are_few (hand ++ card ∷ []) && are_few deck) _ _ tt tt
 
 draw_keeps : (g : Cards) (seat : ℕ) (args : List ℤ) (words : List ℕ) → QueuesInSheet high_hand_sheet (draw g seat args words)
 draw_keeps g seat (next ∷ rest) words = tt
@@ -50,7 +50,7 @@ draw_keeps g seat [] words = drawn_keeps g seat (hand_of g seat) (deck_in g.secr
 
 card_keeps : (g : Cards) (seat place : ℕ) (hand : List ℕ) (card : Option ℕ) (words : List ℕ) → QueuesInSheet high_hand_sheet (lay_card g seat place hand card words)
 card_keeps g seat place hand None words = tt
-card_keeps g seat place hand (Some card) words = either_keeps high_hand_sheet (are_few hand && is_free (slice_get g.common.places seat)) _ _ tt tt
+card_keeps g seat place hand (Some card) words = either_keeps high_hand_sheet (are_few (remove hand place) && is_free (slice_get g.common.places seat)) _ _ tt tt
 
 from_keeps : (g : Cards) (seat place : ℕ) (hand : Option (List ℕ)) (words : List ℕ) → QueuesInSheet high_hand_sheet (lay_from g seat place hand words)
 from_keeps g seat place None words = tt

@@ -1,7 +1,12 @@
+pub mod BidLaws
 pub mod BlindBid
+pub mod CardLaws
 pub mod FloatFree
 pub mod Greatest
 pub mod HighHand
 pub mod InSheet
 pub mod Json
+pub mod Offers
+pub mod OwnLaws
 pub mod Pack
+pub mod PartLaws

@@ -1,5 +1,5 @@
 -- The cards: 52 of them, from 0 to 51, of which the greater number is the higher card.
-use Rattle.std.specs.Prelude.{ℕ, ◌&&◌, nat_le, nat_lt, Bool, List, [], ◌∷◌, length}
+use Rattle.std.specs.Prelude.{ℕ, ◌&&◌, nat_le, Bool, List, [], ◌∷◌, length}
 use Rattle.std.specs.List.{list_all}
 
 abbrev pub pack : List ℕ
@@ -14,6 +14,9 @@ pack =
 abbrev pub are_few : List ℕ → Bool
 are_few cards = nat_le (length cards) 52
 
+abbrev pub is_card : ℕ → Bool
+is_card card = nat_le card 51
+
 -- and each of them is one of the pack's
 abbrev pub are_cards : List ℕ → Bool
-are_cards cards = are_few cards && list_all (λ card. nat_lt card 52) cards
+are_cards cards = are_few cards && list_all is_card cards

@@ -1,11 +1,12 @@
 //! The state of Blind Bid.
 
 ghost use Rattle.std.specs.Prelude.{◌≡◌, IfOk};
-ghost use Rattle.card_games.specs.BlindBid.{amount, bid_of, bidding_value, no_secret_value, sealed_value};
+ghost use Rattle.card_games.specs.BlindBid.{amount, bid_of, bidding_value, no_secret_value, read_bidding, read_no_secret, read_sealed, sealed_value};
 
 use crate::greatest::Worth;
-use crate::json::JsonPart;
+use crate::json::{Part, member};
 use game_sheet::{List, NoMemory};
+use json_tree::extra_field;
 use secret_strip::CopyPart;
 use serde_json::{Value, json};
 use std::alloc::{AllocError, Global};
@@ -53,10 +54,12 @@ impl CopyPart for Sealed {
     }
 }
 
-impl JsonPart for Bidding {
+impl Part for Bidding {
     ghost use Rattle.card_games.specs.FloatFree.{bidding_float_free};
 
     ghost value = { bidding_value };
+
+    ghost read = { read_bidding };
 
     ghost float_free = { bidding_float_free };
 
@@ -65,30 +68,73 @@ impl JsonPart for Bidding {
         let revealed = self.revealed.to_json(alloc)?;
         json!(in alloc; {"boasts": boasts, "revealed": revealed})
     }
+
+    fn from_json(alloc: Global, v: &Value) -> Result<Option<Self>, NoMemory> {
+        if extra_field(v, &["boasts", "revealed"]) {
+            return Ok(None);
+        }
+        let Some(boasts) = member(alloc, v, "boasts")? else {
+            return Ok(None);
+        };
+        let Some(revealed) = member(alloc, v, "revealed")? else {
+            return Ok(None);
+        };
+        Ok(Some(Bidding { boasts, revealed }))
+    }
+
+    fn same(&self, other: &Self) -> bool {
+        self.boasts.same(&other.boasts) && self.revealed.same(&other.revealed)
+    }
 }
 
-impl JsonPart for NoSecret {
+impl Part for NoSecret {
     ghost use Rattle.std.specs.Prelude.{refl};
 
     ghost value = { no_secret_value };
+
+    ghost read = { read_no_secret };
 
     ghost float_free = { λ _. refl };
 
     fn to_json(&self, alloc: Global) -> Result<Value, AllocError> {
         Ok(Value::Null)
     }
+
+    fn from_json(alloc: Global, v: &Value) -> Result<Option<Self>, NoMemory> {
+        Ok(None)
+    }
+
+    fn same(&self, other: &Self) -> bool {
+        true
+    }
 }
 
-impl JsonPart for Sealed {
+impl Part for Sealed {
     ghost use Rattle.card_games.specs.FloatFree.{sealed_float_free};
 
     ghost value = { sealed_value };
+
+    ghost read = { read_sealed };
 
     ghost float_free = { sealed_float_free };
 
     fn to_json(&self, alloc: Global) -> Result<Value, AllocError> {
         let bid = self.bid.to_json(alloc)?;
         json!(in alloc; {"bid": bid})
+    }
+
+    fn from_json(alloc: Global, v: &Value) -> Result<Option<Self>, NoMemory> {
+        if extra_field(v, &["bid"]) {
+            return Ok(None);
+        }
+        match member(alloc, v, "bid")? {
+            Some(bid) => Ok(Some(Sealed { bid })),
+            None => Ok(None),
+        }
+    }
+
+    fn same(&self, other: &Self) -> bool {
+        self.bid.same(&other.bid)
     }
 }
 

@@ -1,19 +1,21 @@
 //! Blind Bid for two to eight seats.
 
 ghost use Rattle.std.specs.Prelude.{◌≡◌, ◌<◌, ℕ, List as Items, [], length, map, slice_get, unwrap_or, IfOk};
-ghost use Rattle.card_games.specs.BlindBid.{Bids, all_bid, amount, bid, bid_end, bid_sheet, boast, have_bids, may_bid, no_bids, revealed};
+ghost use Rattle.card_games.specs.BlindBid.{Bids, all_bid, amount, bid, bid_end, bid_offers, bid_sheet, boast, have_bids, have_seats, may_bid, no_bids, read_bids, revealed};
 ghost use Rattle.game_trait.specs.Gives.{Gives};
+ghost use Rattle.serde_json.specs.View.{view};
 
 use crate::bids::{Bidding, NoSecret, Sealed, bid_of};
 use crate::greatest::{Worth, one_greatest};
-use crate::json::JsonPart;
+use crate::json::Part;
 use crate::lists::{changed, copied_split};
+use crate::offers::offer;
 use dice_words::Tape;
 use game_sheet::{
     Args, Ctx, EventQueue, List, MoveId, MoveRow, NoMemory, Order, Outcome, PhaseId, Place, Seat,
     Sheet, SpecId, SpecRow, StageId, StageRow, Text, TurnRow, unbroken,
 };
-use game_trait::{Game, Halt, HookHalt};
+use game_trait::{Game, Halt, HookHalt, may_be_offered};
 use secret_strip::{CopyPart, Split};
 use serde_json::Value;
 use std::alloc::Global;
@@ -237,7 +239,48 @@ fn amounts(alloc: Global, players: &[Option<Sealed>]) -> Result<List<u32>, NoMem
     Ok(List::from_vec(amounts))
 }
 
+/// The bids that are offered.
+const BIDS: [i32; 10] = [10, 20, 30, 40, 50, 60, 70, 80, 90, 100];
+
+/// The boasts that are offered.
+const BOASTS: [i32; 10] = [0, 1, 2, 3, 4, 5, 6, 7, 8, 9];
+
+/// The bids and the boasts that a seat is offered where it hasn't bid.
+fn options(alloc: Global, g: &Bids, seat: Seat) -> Result<List<(MoveId, Args)>, NoMemory>
+    ensures { IfOk result (λ offers. offers ≡ bid_offers g.now seat) }
+{
+    let mut offers = List::new(alloc);
+    if may_bid(g, seat) {
+        offer(&mut offers, MoveId::at(0), &BIDS)?;
+        offer(&mut offers, MoveId::at(1), &BOASTS)?;
+    }
+    Ok(offers)
+}
+
+/// The state that is written so; none where none is.
+fn from_value(alloc: Global, v: &Value) -> Result<Option<Bids>, NoMemory>
+    ensures { IfOk result (λ g. g ≡ read_bids (view v.now)) }
+{
+    match Bids::from_json(alloc, v)? {
+        Some(g) if have_seats(&g) => Ok(Some(g)),
+        _ => Ok(None),
+    }
+}
+
+/// Whether one to eight seats have a boast each, an entry each, and a bid each where the bids are shown.
+fn have_seats(g: &Bids) -> bool
+    ensures { result ≡ have_seats g.now }
+{
+    let seats = g.players.len();
+    let shown = match &g.common.revealed {
+        Some(bids) => bids.len(),
+        None => seats,
+    };
+    seats >= 1 && seats <= 8 && g.common.boasts.len() == seats && shown == seats
+}
+
 impl Game for BlindBid {
+    ghost use Rattle.card_games.specs.BidLaws.{blind_bid_lawful};
     ghost use Rattle.card_games.specs.BlindBid.{blind_bid};
     ghost use Rattle.card_games.specs.InSheet.{blind_bid_in_sheet};
 
@@ -246,6 +289,8 @@ impl Game for BlindBid {
     ghost rules = { λ _. blind_bid };
 
     ghost in_sheet = { λ _. blind_bid_in_sheet };
+
+    ghost lawful = { λ _. blind_bid_lawful };
 
     #[tactic(auto, unfolding(game_sheet::specs::SheetRules::broken))]
     fn sheet(&self) -> &Sheet {
@@ -361,8 +406,44 @@ impl Game for BlindBid {
         Ok(List::new(alloc))
     }
 
+    fn view(
+        &self,
+        alloc: Global,
+        g: &Bids,
+        ctx: &Ctx,
+        viewer: Option<Seat>,
+    ) -> Result<Bids, NoMemory> {
+        g.strip(alloc, viewer)
+    }
+
+    fn undoable(&self, g: &Bids, ctx: &Ctx, id: MoveId) -> bool {
+        id.place() == 1
+    }
+
+    fn options(
+        &self,
+        alloc: Global,
+        g: &Bids,
+        ctx: &Ctx,
+        seat: Seat,
+    ) -> Result<List<(MoveId, Args)>, NoMemory> {
+        if may_be_offered(ctx, seat) {
+            options(alloc, g, seat)
+        } else {
+            Ok(List::new(alloc))
+        }
+    }
+
     fn to_value(&self, alloc: Global, g: &Bids) -> Result<Value, NoMemory> {
         Ok(g.to_json(alloc)?)
+    }
+
+    fn from_value(&self, alloc: Global, v: &Value) -> Result<Option<Bids>, NoMemory> {
+        from_value(alloc, v)
+    }
+
+    fn same(&self, a: &Bids, b: &Bids) -> bool {
+        a.same(b)
     }
 
     fn copy(&self, alloc: Global, g: &Bids) -> Result<Bids, NoMemory> {

@@ -1,11 +1,14 @@
 //! The state of High Hand.
 
 ghost use Rattle.std.specs.Prelude.{◌≡◌, IfOk};
-ghost use Rattle.card_games.specs.HighHand.{deck_value, hand_value, height, table_value};
+ghost use Rattle.card_games.specs.Json.{read_member};
+ghost use Rattle.serde_json.specs.View.{view};
+ghost use Rattle.card_games.specs.HighHand.{deck_value, hand_value, height, read_cards, read_deck, read_hand, read_table, table_value};
 
 use crate::greatest::Worth;
-use crate::json::JsonPart;
+use crate::json::{Part, member};
 use game_sheet::{List, NoMemory};
+use json_tree::extra_field;
 use secret_strip::CopyPart;
 use serde_json::{Value, json};
 use std::alloc::{AllocError, Global};
@@ -62,10 +65,12 @@ impl CopyPart for Deck {
     }
 }
 
-impl JsonPart for CardTable {
+impl Part for CardTable {
     ghost use Rattle.card_games.specs.FloatFree.{table_float_free};
 
     ghost value = { table_value };
+
+    ghost read = { read_table };
 
     ghost float_free = { table_float_free };
 
@@ -75,12 +80,45 @@ impl JsonPart for CardTable {
         let places = self.places.to_json(alloc)?;
         json!(in alloc; {"hands": hands, "left": self.left, "scores": scores, "table": places})
     }
+
+    fn from_json(alloc: Global, v: &Value) -> Result<Option<Self>, NoMemory> {
+        if extra_field(v, &["hands", "left", "scores", "table"]) {
+            return Ok(None);
+        }
+        let Some(hands) = member(alloc, v, "hands")? else {
+            return Ok(None);
+        };
+        let Some(left) = member(alloc, v, "left")? else {
+            return Ok(None);
+        };
+        let Some(scores) = member(alloc, v, "scores")? else {
+            return Ok(None);
+        };
+        let Some(places) = member(alloc, v, "table")? else {
+            return Ok(None);
+        };
+        Ok(Some(CardTable {
+            hands,
+            left,
+            scores,
+            places,
+        }))
+    }
+
+    fn same(&self, other: &Self) -> bool {
+        self.left == other.left
+            && self.hands.same(&other.hands)
+            && self.scores.same(&other.scores)
+            && self.places.same(&other.places)
+    }
 }
 
-impl JsonPart for Hand {
+impl Part for Hand {
     ghost use Rattle.card_games.specs.FloatFree.{hand_float_free};
 
     ghost value = { hand_value };
+
+    ghost read = { read_hand };
 
     ghost float_free = { hand_float_free };
 
@@ -88,18 +126,48 @@ impl JsonPart for Hand {
         let cards = self.cards.to_json(alloc)?;
         json!(in alloc; {"hand": cards})
     }
+
+    fn from_json(alloc: Global, v: &Value) -> Result<Option<Self>, NoMemory> {
+        if extra_field(v, &["hand"]) {
+            return Ok(None);
+        }
+        match cards_of(alloc, v, "hand")? {
+            Some(cards) => Ok(Some(Hand { cards })),
+            None => Ok(None),
+        }
+    }
+
+    fn same(&self, other: &Self) -> bool {
+        self.cards.same(&other.cards)
+    }
 }
 
-impl JsonPart for Deck {
+impl Part for Deck {
     ghost use Rattle.card_games.specs.FloatFree.{deck_float_free};
 
     ghost value = { deck_value };
+
+    ghost read = { read_deck };
 
     ghost float_free = { deck_float_free };
 
     fn to_json(&self, alloc: Global) -> Result<Value, AllocError> {
         let cards = self.cards.to_json(alloc)?;
         json!(in alloc; {"deck": cards})
+    }
+
+    fn from_json(alloc: Global, v: &Value) -> Result<Option<Self>, NoMemory> {
+        if extra_field(v, &["deck"]) {
+            return Ok(None);
+        }
+        match cards_of(alloc, v, "deck")? {
+            Some(cards) => Ok(Some(Deck { cards })),
+            None => Ok(None),
+        }
+    }
+
+    fn same(&self, other: &Self) -> bool {
+        self.cards.same(&other.cards)
     }
 }
 
@@ -112,5 +180,15 @@ impl Worth for Option<u8> {
             Some(card) => *card as u32,
             None => 0,
         }
+    }
+}
+
+/// The cards that the member of an object with this name holds, at most 52.
+fn cards_of(alloc: Global, v: &Value, name: &str) -> Result<Option<List<u8>>, NoMemory>
+    ensures { IfOk result (λ cards. cards ≡ read_member name.now read_cards (view v.now)) }
+{
+    match member::<List<u8>>(alloc, v, name)? {
+        Some(cards) if cards.len() <= 52 => Ok(Some(cards)),
+        _ => Ok(None),
     }
 }

@@ -1,23 +1,24 @@
 //! High Hand for two to four seats.
 
 ghost use Rattle.std.specs.Prelude.{◌≡◌, ◌<◌, ◌≤◌, ◌∷◌, ◌++◌, ℕ, List as Items, [], length, remove, slice_get, unwrap_or, option_map, IfOk, IsPermutation, None, Some};
-ghost use Rattle.card_games.specs.HighHand.{after_turn, are_empty, before_draws, card_end, draw, draw_to, hand_of, high_hand_sheet, is_clear, is_free, is_full, is_played, laid, lay, lay_card, lay_from, opened, point_at, scored, with_deck, with_hand};
+ghost use Rattle.card_games.specs.HighHand.{after_turn, are_empty, before_draws, card_end, card_offers, draw, draw_to, hand_of, have_places, high_hand_sheet, is_clear, is_free, is_full, is_played, laid, lay, lay_card, lay_down, lay_from, lay_offers, lays, opened, read_state, point_at, scored, with_deck, with_hand};
 ghost use Rattle.card_games.specs.Pack.{pack};
 ghost use Rattle.dice_words.specs.Dice.{shuffled};
 ghost use Rattle.dice_words.specs.Strip.{Follows};
 ghost use Rattle.game_trait.specs.Gives.{Gives, Opens};
+ghost use Rattle.serde_json.specs.View.{view};
 
 use crate::cards::{CardTable, Deck, Hand};
 use crate::dealt::Dealt;
 use crate::greatest::{first_greatest, one_greatest};
-use crate::json::JsonPart;
+use crate::json::Part;
 use crate::lists::{changed, copied_split, with_entry};
 use dice_words::Tape;
 use game_sheet::{
     Args, Ctx, EventKind, EventQueue, List, MoveId, MoveRow, NoMemory, Order, Outcome, PhaseId,
     PhaseRow, Seat, Sheet, Text, TurnRow, unbroken,
 };
-use game_trait::{Game, Halt, HookHalt};
+use game_trait::{Game, Halt, HookHalt, may_be_offered};
 use secret_strip::{CopyPart, Split};
 use serde_json::Value;
 use std::alloc::Global;
@@ -297,11 +298,18 @@ fn lay_card(alloc: Global, g: &Cards, seat: Seat, place: usize, hand: &[u8]) -> 
     let Some(card) = hand.get(place) else {
         return Err(Halt::Invalid);
     };
-    if hand.len() > 52 || !is_free(g, seat) {
+    let left = without(alloc, hand, place)?;
+    lay_down(alloc, g, seat, *card, left)
+}
+
+/// A card goes to the mover's free place on the table, and this hand is left to the mover.
+fn lay_down(alloc: Global, g: &Cards, seat: Seat, card: u8, left: List<u8>) -> Result<Cards, Halt>
+    ensures { (words : Items ℕ) → Gives result words [] (lay_down g.now seat card left words) }
+{
+    if left.len() > 52 || !is_free(g, seat) {
         return Err(Halt::Invalid);
     }
-    let left = without(alloc, hand, place)?;
-    Ok(laid(alloc, g, seat, *card, left)?)
+    Ok(laid(alloc, g, seat, card, left)?)
 }
 
 /// The hand without the card at a place.
@@ -417,7 +425,74 @@ fn is_clear(places: &[Option<u8>]) -> bool
     places.iter().all(|place| place.is_none())
 }
 
+/// The moves that a seat is offered in a phase.
+fn options(
+    alloc: Global,
+    g: &Cards,
+    seat: Seat,
+    phase: Option<PhaseId>,
+) -> Result<List<(MoveId, Args)>, NoMemory>
+    ensures { IfOk result (λ offers. offers ≡ card_offers g.now seat phase) }
+{
+    match phase {
+        Some(phase) if phase.place() == 0 => {
+            let mut offers = List::new(alloc);
+            offers.push((MoveId::at(0), Args::new()))?;
+            Ok(offers)
+        }
+        Some(phase) if phase.place() == 1 => lay_options(alloc, g, seat),
+        _ => Ok(List::new(alloc)),
+    }
+}
+
+/// A seat is offered each card of its hand where its place on the table is free.
+fn lay_options(alloc: Global, g: &Cards, seat: Seat) -> Result<List<(MoveId, Args)>, NoMemory>
+    ensures { IfOk result (λ offers. offers ≡ lay_offers g.now seat (hand_of g.now seat)) }
+{
+    match hand_of(g, seat) {
+        Some(hand) if hand.len() <= 52 && is_free(g, seat) => lays(alloc, hand.len() as u8),
+        _ => Ok(List::new(alloc)),
+    }
+}
+
+/// The moves that lay one of so many cards, each by its place.
+#[tactic(auto, using(crate::proofs::OfferLemmas::lays_more))]
+fn lays(alloc: Global, count: u8) -> Result<List<(MoveId, Args)>, NoMemory>
+    ensures { IfOk result (λ offers. offers ≡ lays count) }
+{
+    let mut offers = List::new(alloc);
+    for place in 0..count {
+        let mut args = Args::new();
+        args.push(place as i32);
+        offers.push((MoveId::at(1), args))?;
+    }
+    Ok(offers)
+}
+
+/// The state that is written so; none where none is.
+fn from_value(alloc: Global, v: &Value) -> Result<Option<Cards>, NoMemory>
+    ensures { IfOk result (λ g. g ≡ read_state (view v.now)) }
+{
+    match Cards::from_json(alloc, v)? {
+        Some(g) if have_places(&g) => Ok(Some(g)),
+        _ => Ok(None),
+    }
+}
+
+/// Whether one to eight seats have an entry, a count of cards, a score and a place on the table each.
+fn have_places(g: &Cards) -> bool
+    ensures { result ≡ have_places g.now }
+{
+    let seats = g.players.len();
+    seats >= 1
+        && seats <= 8
+        && g.common.hands.len() == seats
+        && g.common.scores.len() == seats
+        && g.common.places.len() == seats
+}
+
 impl Game for HighHand {
+    ghost use Rattle.card_games.specs.CardLaws.{high_hand_lawful};
     ghost use Rattle.card_games.specs.HighHand.{high_hand};
     ghost use Rattle.card_games.specs.InSheet.{high_hand_in_sheet};
 
@@ -426,6 +501,8 @@ impl Game for HighHand {
     ghost rules = { high_hand };
 
     ghost in_sheet = { high_hand_in_sheet };
+
+    ghost lawful = { high_hand_lawful };
 
     #[tactic(auto, unfolding(game_sheet::specs::SheetRules::broken))]
     fn sheet(&self) -> &Sheet {
@@ -544,8 +621,44 @@ impl Game for HighHand {
         Ok(List::new(alloc))
     }
 
+    fn view(
+        &self,
+        alloc: Global,
+        g: &Cards,
+        ctx: &Ctx,
+        viewer: Option<Seat>,
+    ) -> Result<Cards, NoMemory> {
+        g.strip(alloc, viewer)
+    }
+
+    fn undoable(&self, g: &Cards, ctx: &Ctx, id: MoveId) -> bool {
+        id.place() == 1
+    }
+
+    fn options(
+        &self,
+        alloc: Global,
+        g: &Cards,
+        ctx: &Ctx,
+        seat: Seat,
+    ) -> Result<List<(MoveId, Args)>, NoMemory> {
+        if may_be_offered(ctx, seat) {
+            options(alloc, g, seat, ctx.phase)
+        } else {
+            Ok(List::new(alloc))
+        }
+    }
+
     fn to_value(&self, alloc: Global, g: &Cards) -> Result<Value, NoMemory> {
         Ok(g.to_json(alloc)?)
+    }
+
+    fn from_value(&self, alloc: Global, v: &Value) -> Result<Option<Cards>, NoMemory> {
+        from_value(alloc, v)
+    }
+
+    fn same(&self, a: &Cards, b: &Cards) -> bool {
+        a.same(b)
     }
 
     fn copy(&self, alloc: Global, g: &Cards) -> Result<Cards, NoMemory> {

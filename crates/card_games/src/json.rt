@@ -1,60 +1,100 @@
-//! The parts of a state as JSON.
+//! The parts of a state: written as JSON, read back, and compared.
 
-ghost use Rattle.std.specs.Prelude.{◌≡◌, false, IfOk};
-ghost use Rattle.card_games.specs.Json.{list_value, number_value, option_value, split_value};
-ghost use Rattle.serde_json.specs.View.{view};
+ghost use Rattle.std.specs.Prelude.{◌≡◌, ◌↔◌, false, length, IfOk, IsTrue};
+ghost use Rattle.card_games.specs.Json.{list_value, number_value, option_value, read_count, read_items, read_list, read_member, read_number, read_option, read_split, split_value};
+ghost use Rattle.serde_json.specs.View.{items_view, view};
 ghost use Rattle.serde_json.specs.Written.{has_float};
 
-use game_sheet::List;
+use game_sheet::{List, NoMemory};
+use json_tree::extra_field;
 use secret_strip::Split;
 use serde_json::{Value, json};
 use std::alloc::{AllocError, Global};
 
-/// A part of a state that is written as JSON, without a float.
-pub(crate) trait JsonPart {
-    ghost use Rattle.std.specs.Prelude.{◌≡◌, false, IfOk};
+/// A part of a state, which is written as JSON without a float.
+pub(crate) trait Part: Sized + Drop {
+    ghost use Rattle.std.specs.Prelude.{◌≡◌, ◌↔◌, false, IfOk, IsTrue, Option};
     ghost use Rattle.serde_json.specs.Data.{Data};
     ghost use Rattle.serde_json.specs.View.{view};
     ghost use Rattle.serde_json.specs.Written.{has_float};
 
     ghost value: { Self → Data };
 
+    ghost read: { Data → Option Self };
+
     /// The part as JSON.
     fn to_json(&self, alloc: Global) -> Result<Value, AllocError>
         ensures { IfOk result (λ v. view v ≡ value self.now) };
 
+    /// The part that is written so; none where none is.
+    fn from_json(alloc: Global, v: &Value) -> Result<Option<Self>, NoMemory>
+        ensures { IfOk result (λ part. part ≡ read (view v.now)) };
+
+    /// Whether two parts are equal.
+    fn same(&self, other: &Self) -> bool
+        ensures { IsTrue result ↔ (self.now ≡ other.now) };
+
     ghost float_free: { (part : Self) → has_float (value part) ≡ false };
 }
 
-impl JsonPart for u8 {
+/// A card, from 0 to 51.
+impl Part for u8 {
     ghost use Rattle.card_games.specs.FloatFree.{number_float_free};
 
     ghost value = { number_value };
+
+    ghost read = { read_number 51 };
 
     ghost float_free = { number_float_free };
 
     fn to_json(&self, alloc: Global) -> Result<Value, AllocError> {
         Ok(Value::from(*self))
     }
+
+    fn from_json(alloc: Global, v: &Value) -> Result<Option<Self>, NoMemory> {
+        match v.as_u64() {
+            Some(n) if n <= 51 => Ok(Some(n as u8)),
+            _ => Ok(None),
+        }
+    }
+
+    fn same(&self, other: &Self) -> bool {
+        *self == *other
+    }
 }
 
-impl JsonPart for u32 {
+impl Part for u32 {
     ghost use Rattle.card_games.specs.FloatFree.{number_float_free};
 
     ghost value = { number_value };
+
+    ghost read = { read_count };
 
     ghost float_free = { number_float_free };
 
     fn to_json(&self, alloc: Global) -> Result<Value, AllocError> {
         Ok(Value::from(*self))
+    }
+
+    fn from_json(alloc: Global, v: &Value) -> Result<Option<Self>, NoMemory> {
+        match v.as_u64() {
+            Some(n) if n <= 4_294_967_295 => Ok(Some(n as u32)),
+            _ => Ok(None),
+        }
+    }
+
+    fn same(&self, other: &Self) -> bool {
+        *self == *other
     }
 }
 
 /// What is missing or hidden is null.
-impl<T: JsonPart> JsonPart for Option<T> {
+impl<T: Part> Part for Option<T> {
     ghost use Rattle.card_games.specs.FloatFree.{option_float_free};
 
     ghost value = { option_value T.value };
+
+    ghost read = { read_option T.read };
 
     ghost float_free = { option_float_free T.value T.float_free };
 
@@ -64,24 +104,57 @@ impl<T: JsonPart> JsonPart for Option<T> {
             None => Ok(Value::Null),
         }
     }
+
+    fn from_json(alloc: Global, v: &Value) -> Result<Option<Self>, NoMemory> {
+        if v.is_null() {
+            return Ok(Some(None));
+        }
+        match T::from_json(alloc, v)? {
+            Some(part) => Ok(Some(Some(part))),
+            None => Ok(None),
+        }
+    }
+
+    fn same(&self, other: &Self) -> bool {
+        match (self, other) {
+            (Some(one), Some(other)) => one.same(other),
+            (None, None) => true,
+            _ => false,
+        }
+    }
 }
 
-impl<T: JsonPart> JsonPart for List<T> {
+impl<T: Part> Part for List<T> {
     ghost use Rattle.card_games.specs.FloatFree.{list_float_free};
 
     ghost value = { list_value T.value };
+
+    ghost read = { read_list T.read };
 
     ghost float_free = { list_float_free T.value T.float_free };
 
     fn to_json(&self, alloc: Global) -> Result<Value, AllocError> {
         items_to_json(alloc, self.as_slice())
     }
+
+    fn from_json(alloc: Global, v: &Value) -> Result<Option<Self>, NoMemory> {
+        match v.as_array() {
+            Some(items) => items_from_json(alloc, items.as_slice()),
+            None => Ok(None),
+        }
+    }
+
+    fn same(&self, other: &Self) -> bool {
+        self.len() == other.len() && same_items(self.as_slice(), other.as_slice())
+    }
 }
 
-impl<C: JsonPart, S: JsonPart, P: JsonPart> JsonPart for Split<C, S, P> {
+impl<C: Part, S: Part, P: Part> Part for Split<C, S, P> {
     ghost use Rattle.card_games.specs.FloatFree.{split_float_free};
 
     ghost value = { split_value C.value S.value P.value };
+
+    ghost read = { read_split C.read S.read P.read };
 
     ghost float_free = { split_float_free C.value S.value P.value C.float_free S.float_free P.float_free };
 
@@ -91,10 +164,36 @@ impl<C: JsonPart, S: JsonPart, P: JsonPart> JsonPart for Split<C, S, P> {
         let secret = self.secret.to_json(alloc)?;
         json!(in alloc; {"common": common, "players": players, "secret": secret})
     }
+
+    fn from_json(alloc: Global, v: &Value) -> Result<Option<Self>, NoMemory> {
+        if extra_field(v, &["common", "players", "secret"]) {
+            return Ok(None);
+        }
+        let Some(common) = member(alloc, v, "common")? else {
+            return Ok(None);
+        };
+        let Some(players) = member(alloc, v, "players")? else {
+            return Ok(None);
+        };
+        let Some(secret) = member(alloc, v, "secret")? else {
+            return Ok(None);
+        };
+        Ok(Some(Split {
+            common,
+            secret,
+            players,
+        }))
+    }
+
+    fn same(&self, other: &Self) -> bool {
+        self.common.same(&other.common)
+            && self.secret.same(&other.secret)
+            && self.players.same(&other.players)
+    }
 }
 
 /// Items as a JSON array.
-fn items_to_json<T: JsonPart>(alloc: Global, items: &[T]) -> Result<Value, AllocError>
+fn items_to_json<T: Part>(alloc: Global, items: &[T]) -> Result<Value, AllocError>
     ensures { IfOk result (λ v. view v ≡ list_value T.value items.now) }
 {
     let mut values = Vec::new(alloc);
@@ -102,4 +201,41 @@ fn items_to_json<T: JsonPart>(alloc: Global, items: &[T]) -> Result<Value, Alloc
         values.push(item.to_json(alloc)?)?;
     }
     Ok(Value::Array(values))
+}
+
+/// The items that a JSON array holds; none where one of its items isn't written so.
+fn items_from_json<T: Part>(alloc: Global, items: &[Value]) -> Result<Option<List<T>>, NoMemory>
+    ensures { IfOk result (λ parts. parts ≡ read_items T.read (items_view items.now)) }
+{
+    let mut parts = Vec::new(alloc);
+    for item in items {
+        match T::from_json(alloc, item)? {
+            Some(part) => parts.push(part)?,
+            None => return Ok(None),
+        }
+    }
+    Ok(Some(List::from_vec(parts)))
+}
+
+/// The part that the member of an object with this name holds; none where there is no such member or part.
+pub(crate) fn member<T: Part>(alloc: Global, v: &Value, name: &str) -> Result<Option<T>, NoMemory>
+    ensures { IfOk result (λ part. part ≡ read_member name.now T.read (view v.now)) }
+{
+    match v.get(name) {
+        Some(member) => T::from_json(alloc, member),
+        None => Ok(None),
+    }
+}
+
+/// Whether two lists of one length have the same items.
+fn same_items<T: Part>(one: &[T], other: &[T]) -> bool
+    requires { length one.now ≡ length other.now }
+    ensures { IsTrue result ↔ (one.now ≡ other.now) }
+{
+    for (place, item) in one.iter().enumerate() {
+        if !item.same(&other[place]) {
+            return false;
+        }
+    }
+    true
 }

@@ -9,6 +9,7 @@ mod greatest;
 mod high_hand;
 mod json;
 mod lists;
+mod offers;
 #[cfg(test)]
 mod tests;
 

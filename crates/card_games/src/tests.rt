@@ -8,6 +8,7 @@ mod high_hand;
 use dice_words::Tape;
 use game_sheet::{Args, Ctx, EventQueue, List, MoveId, Outcome, PhaseId};
 use game_trait::{Game, Halt, HookHalt};
+use serde_json::Value;
 use std::alloc::Global;
 use std::test::Fail;
 
@@ -79,4 +80,42 @@ fn is_written<X: Game>(game: &X, alloc: Global, g: &X::G, text: &str) -> Result<
     let copied = game.copy(alloc, g)?;
     let written = game.to_value(alloc, &copied)?.to_string(alloc)?;
     Ok(written.as_str() == text)
+}
+
+/// Whether a viewer's view of a state is written as this text, through the trait's bound.
+fn is_seen<X: Game>(
+    game: &X,
+    alloc: Global,
+    g: &X::G,
+    viewer: Option<u8>,
+    text: &str,
+) -> Result<bool, Fail> {
+    let seen = game.view(alloc, g, &turn_in(alloc, None), viewer)?;
+    is_written(game, alloc, &seen, text)
+}
+
+/// How many moves the first of two seats is offered in a phase, through the trait's bound.
+fn count_of_options<X: Game>(
+    game: &X,
+    alloc: Global,
+    g: &X::G,
+    phase: Option<PhaseId>,
+) -> Result<usize, Fail> {
+    let offers = game.options(alloc, g, &turn_in(alloc, phase), 0)?;
+    Ok(offers.len())
+}
+
+/// Whether a text is that of a state, and reads back as one that is written so, through the trait's bound.
+fn is_state<X: Game>(game: &X, alloc: Global, text: &str) -> Result<bool, Fail> {
+    let value = Value::from_str(alloc, text)?;
+    match game.from_value(alloc, &value)? {
+        Some(g) => is_written(game, alloc, &g, text),
+        None => Ok(false),
+    }
+}
+
+/// Whether a state is the same as its copy, through the trait's bound.
+fn is_same<X: Game>(game: &X, alloc: Global, g: &X::G) -> Result<bool, Fail> {
+    let copied = game.copy(alloc, g)?;
+    Ok(game.same(&copied, g))
 }

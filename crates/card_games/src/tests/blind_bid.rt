@@ -2,7 +2,9 @@
 
 ghost use Rattle.std.specs.Prelude.{◌<◌};
 
-use super::{ending, is_written, one, opening, play, turn_in};
+use super::{
+    count_of_options, ending, is_same, is_seen, is_state, is_written, one, opening, play, turn_in,
+};
 use crate::blind_bid::Bids;
 use crate::{Bidding, BlindBid, Sealed};
 use dice_words::Tape;
@@ -159,5 +161,61 @@ fn nothing_is_shown_while_a_bid_is_hidden(rt: HostRuntime) -> Result<(), Fail> {
     let text =
         "{\"common\":{\"boasts\":[0,3,0],\"revealed\":null},\"players\":[{\"bid\":1},{\"bid\":2},null],\"secret\":null}";
     assert!(rt; is_shown(rt.alloc(), state(rt.alloc(), Some(1), Some(2), None)?, text)?);
+    Ok(())
+}
+
+#[test]
+fn a_viewer_sees_its_own_bid_alone(rt: HostRuntime) -> Result<(), Fail> {
+    let game = BlindBid::new(rt.alloc())?;
+    let g = bidden(rt.alloc(), [Some(1), Some(2), Some(3)])?;
+    let text =
+        "{\"common\":{\"boasts\":[0,3,0],\"revealed\":null},\"players\":[null,{\"bid\":2},null],\"secret\":null}";
+    assert!(rt; is_seen(&game, rt.alloc(), &g, Some(1), text)?);
+    assert!(rt; is_same(&game, rt.alloc(), &g)?);
+    Ok(())
+}
+
+#[test]
+fn a_seat_without_a_bid_is_offered_20_moves(rt: HostRuntime) -> Result<(), Fail> {
+    let game = BlindBid::new(rt.alloc())?;
+    let before = bidden(rt.alloc(), [None, Some(2), Some(3)])?;
+    assert_eq!(rt; count_of_options(&game, rt.alloc(), &before, None)?, 20);
+    let after = bidden(rt.alloc(), [Some(1), Some(2), Some(3)])?;
+    assert_eq!(rt; count_of_options(&game, rt.alloc(), &after, None)?, 0);
+    Ok(())
+}
+
+#[test]
+fn a_state_has_its_members_and_no_other(rt: HostRuntime) -> Result<(), Fail> {
+    let rows = [
+        (
+            "{\"common\":{\"boasts\":[4294967295],\"revealed\":[7]},\"players\":[{\"bid\":7}],\"secret\":null}",
+            true,
+        ),
+        (
+            "{\"common\":{\"boasts\":[4294967296],\"revealed\":[7]},\"players\":[{\"bid\":7}],\"secret\":null}",
+            false,
+        ),
+        (
+            "{\"common\":{\"boasts\":[0],\"revealed\":[]},\"players\":[null],\"secret\":null}",
+            false,
+        ),
+        (
+            "{\"common\":{\"boasts\":[0],\"revealed\":null},\"more\":0,\"players\":[null],\"secret\":null}",
+            false,
+        ),
+        (
+            "{\"common\":{\"boasts\":[0,0],\"revealed\":null},\"players\":[null],\"secret\":null}",
+            false,
+        ),
+        (
+            "{\"common\":{\"boasts\":[0],\"revealed\":null},\"players\":[null],\"secret\":{}}",
+            false,
+        ),
+    ];
+    for (text, is) in rows {
+        let game = BlindBid::new(rt.alloc())?;
+        assert!(rt; is_state(&game, rt.alloc(), text)? == is, "{text}");
+    }
     Ok(())
 }

@@ -3,7 +3,9 @@
 ghost use Rattle.std.specs.Prelude.{◌<◌, ◌≡◌, IfOk};
 ghost use Rattle.card_games.specs.Pack.{pack};
 
-use super::{ending, is_written, one, opening, play, turn_in};
+use super::{
+    count_of_options, ending, is_same, is_seen, is_state, is_written, one, opening, play, turn_in,
+};
 use crate::high_hand::Cards;
 use crate::{CardTable, Deck, Hand, HighHand};
 use dice_words::Tape;
@@ -180,5 +182,61 @@ fn a_shuffled_deck_takes_51_words(rt: HostRuntime) -> Result<(), Fail> {
     let first = opening(&game, rt.alloc(), &mut tape)?;
     assert_eq!(rt; tape.used(), 51);
     assert_eq!(rt; first.common.left, 52);
+    Ok(())
+}
+
+#[test]
+fn another_viewer_sees_no_hand_and_nobody_the_deck(rt: HostRuntime) -> Result<(), Fail> {
+    let game = HighHand::new(rt.alloc())?;
+    let g = scoreless(rt.alloc(), [None, Some(1)], &[7, 9], &[0])?;
+    let own =
+        "{\"common\":{\"hands\":[2,0],\"left\":3,\"scores\":[0,0],\"table\":[null,1]},\"players\":[{\"hand\":[7,9]},null],\"secret\":null}";
+    let spectated =
+        "{\"common\":{\"hands\":[2,0],\"left\":3,\"scores\":[0,0],\"table\":[null,1]},\"players\":[null,null],\"secret\":null}";
+    assert!(rt; is_seen(&game, rt.alloc(), &g, Some(0), own)?);
+    assert!(rt; is_seen(&game, rt.alloc(), &g, None, spectated)?);
+    assert!(rt; is_same(&game, rt.alloc(), &g)?);
+    Ok(())
+}
+
+#[test]
+fn a_seat_is_offered_the_draw_and_then_its_cards(rt: HostRuntime) -> Result<(), Fail> {
+    let game = HighHand::new(rt.alloc())?;
+    let g = scoreless(rt.alloc(), [None, Some(1)], &[7, 9], &[0])?;
+    let draw = Some(PhaseId::at(0));
+    assert_eq!(rt; count_of_options(&game, rt.alloc(), &g, draw)?, 1);
+    let play = Some(PhaseId::at(1));
+    assert_eq!(rt; count_of_options(&game, rt.alloc(), &g, play)?, 2);
+    Ok(())
+}
+
+#[test]
+fn a_state_has_cards_from_0_to_51(rt: HostRuntime) -> Result<(), Fail> {
+    let rows = [
+        (
+            "{\"common\":{\"hands\":[1],\"left\":0,\"scores\":[0],\"table\":[51]},\"players\":[{\"hand\":[51]}],\"secret\":{\"deck\":[]}}",
+            true,
+        ),
+        (
+            "{\"common\":{\"hands\":[1],\"left\":0,\"scores\":[0],\"table\":[52]},\"players\":[{\"hand\":[51]}],\"secret\":{\"deck\":[]}}",
+            false,
+        ),
+        (
+            "{\"common\":{\"hands\":[1],\"left\":0,\"scores\":[0],\"table\":[51]},\"players\":[{\"hand\":[52]}],\"secret\":{\"deck\":[]}}",
+            false,
+        ),
+        (
+            "{\"common\":{\"hands\":[1],\"left\":0,\"scores\":[0],\"table\":[]},\"players\":[{\"hand\":[51]}],\"secret\":null}",
+            false,
+        ),
+        (
+            "{\"common\":{\"hands\":[1],\"left\":0,\"scores\":[0],\"table\":[51]},\"players\":[{\"hand\":[51],\"more\":0}],\"secret\":null}",
+            false,
+        ),
+    ];
+    for (text, is) in rows {
+        let game = HighHand::new(rt.alloc())?;
+        assert!(rt; is_state(&game, rt.alloc(), text)? == is, "{text}");
+    }
     Ok(())
 }
