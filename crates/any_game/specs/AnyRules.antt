@@ -1,26 +1,40 @@
 -- What each of the games means, all over the same states, and which game a name stands for.
-use Rattle.std.specs.Prelude.{ℕ, List, [], ◌∷◌, Option, find, bytes_eq}
-use Rattle.any_game.specs.GameKind.{GameKind, TicTacToe, Countdown}
+use Rattle.std.specs.Prelude.{ℕ, List, [], ◌∷◌, Option, find, bytes_eq, refl}
+use Rattle.any_game.specs.GameKind.{GameKind, TicTacToe, Countdown, Pig}
 use Rattle.any_game.specs.InSheet.{lifted_keeps}
 use Rattle.any_game.specs.Lifted.{lifted}
-use Rattle.any_game.specs.Values.{as_board, as_heap}
+use Rattle.any_game.specs.LiftedLaws.{lifted_lawful}
+use Rattle.any_game.specs.Values.{are_points, as_board, as_heap, as_points, is_board, is_heap}
 use Rattle.any_game.specs.declared.any_g.AnyG.{AnyG}
-use Rattle.any_game.specs.declared.any_g.AnyG.TheVariants.{TicTacToe as OfTicTacToe, Countdown as OfCountdown}
+use Rattle.any_game.specs.declared.any_g.AnyG.TheVariants.{TicTacToe as OfTicTacToe, Countdown as OfCountdown, Pig as OfPig}
+use Rattle.game_trait.specs.Lawful.{Lawful}
 use Rattle.game_trait.specs.Queues.{KeepsToSheet}
 use Rattle.game_trait.specs.Rules.{Rules}
 use Rattle.table_games.specs.Countdown.{countdown}
-use Rattle.table_games.specs.InSheet.{countdown_in_sheet, tic_tac_toe_in_sheet}
+use Rattle.table_games.specs.CountdownLaws.{countdown_lawful}
+use Rattle.table_games.specs.InSheet.{countdown_in_sheet, pig_in_sheet, tic_tac_toe_in_sheet}
+use Rattle.table_games.specs.Pig.{pig}
+use Rattle.table_games.specs.PigLaws.{pig_lawful}
 use Rattle.table_games.specs.TicTacToe.{tic_tac_toe}
+use Rattle.table_games.specs.TicTacToeLaws.{tic_tac_toe_lawful}
 
 abbrev pub any_rules : GameKind → Rules AnyG
 any_rules TicTacToe = lifted OfTicTacToe as_board tic_tac_toe
 any_rules Countdown = lifted OfCountdown as_heap countdown
+any_rules Pig = lifted OfPig as_points pig
 
 -- a game's name is the one on its sheet
 abbrev pub named : List ℕ → Option GameKind
-named name = find (λ kind. bytes_eq name (any_rules kind).sheet.name) (TicTacToe ∷ Countdown ∷ [])
+named name = find (λ kind. bytes_eq name (any_rules kind).sheet.name) (TicTacToe ∷ Countdown ∷ Pig ∷ [])
 
 -- no game queues what its sheet doesn't have
 pub any_in_sheet : (kind : GameKind) → KeepsToSheet (any_rules kind)
 any_in_sheet TicTacToe = lifted_keeps OfTicTacToe as_board tic_tac_toe tic_tac_toe_in_sheet
 any_in_sheet Countdown = lifted_keeps OfCountdown as_heap countdown countdown_in_sheet
+any_in_sheet Pig = lifted_keeps OfPig as_points pig pig_in_sheet
+
+-- each game keeps the laws of games
+pub any_lawful : (kind : GameKind) → Lawful (any_rules kind)
+any_lawful TicTacToe = lifted_lawful OfTicTacToe as_board (λ own. refl) is_board tic_tac_toe tic_tac_toe_lawful
+any_lawful Countdown = lifted_lawful OfCountdown as_heap (λ own. refl) is_heap countdown countdown_lawful
+any_lawful Pig = lifted_lawful OfPig as_points (λ own. refl) are_points pig pig_lawful

@@ -3,3 +3,4 @@
 pub data GameKind : Type 0 where
   TicTacToe : GameKind
   Countdown : GameKind
+  Pig : GameKind

@@ -3,4 +3,5 @@ pub mod GameKind
 pub mod InSheet
 pub mod Kind
 pub mod Lifted
+pub mod LiftedLaws
 pub mod Values

@@ -1,5 +1,6 @@
--- A game lifted to the states of all games: on its own states it is as it was; on a state of another game no move is allowed, the hooks leave the state, and nothing ends.
-use Rattle.std.specs.Prelude.{false, [], Option, Some, None}
+-- A game lifted to the states of all games: on its own states it is as it was; on a state of another game no move is allowed or offered,
+-- nothing is hidden or undone, the hooks leave the state, and nothing ends.
+use Rattle.std.specs.Prelude.{false, [], option_map, Option, Some, None}
 use Rattle.any_game.specs.Values.{any_value}
 use Rattle.any_game.specs.declared.any_g.AnyG.{AnyG}
 use Rattle.game_trait.specs.Deed.{Deed, Done, GaveUp, Invalid}
@@ -30,5 +31,10 @@ lifted inject project rules = record {
   turn_end_if = λ g ctx. on_own (project g) false (λ own. rules.turn_end_if own ctx);
   phase_end_if = λ g ctx. on_own (project g) false (λ own. rules.phase_end_if own ctx);
   play_order = λ g ctx. on_own (project g) [] (λ own. rules.play_order own ctx);
-  value = any_value;
+  view = λ g ctx viewer. on_own (project g) g (λ own. inject (rules.view own ctx viewer));
+  undoable = λ g ctx id. on_own (project g) false (λ own. rules.undoable own ctx id);
+  options = λ g ctx seat. on_own (project g) [] (λ own. rules.options own ctx seat);
+  own = λ g. on_own (project g) false rules.own;
+  value = λ g. on_own (project g) (any_value g) rules.value;
+  read = λ v. option_map inject (rules.read v);
 }

@@ -1,16 +1,16 @@
 //! The states of all games as one type.
 
-ghost use Rattle.std.specs.Prelude.{◌≡◌, false, IfOk, IfSome, Option, option_copied};
-ghost use Rattle.any_game.specs.Values.{any_value, as_board, as_heap};
+ghost use Rattle.std.specs.Prelude.{◌≡◌, ◌↔◌, false, IfOk, IfSome, IsTrue, Option, Some, option_copied, refl};
+ghost use Rattle.any_game.specs.Values.{any_value, are_points, as_board, as_heap, as_points, is_board, is_heap};
 ghost use Rattle.any_game.specs.declared.any_g.AnyG.{AnyG};
-ghost use Rattle.any_game.specs.declared.any_g.AnyG.TheVariants.{TicTacToe as OfTicTacToe, Countdown as OfCountdown};
+ghost use Rattle.any_game.specs.declared.any_g.AnyG.TheVariants.{TicTacToe as OfTicTacToe, Countdown as OfCountdown, Pig as OfPig};
 ghost use Rattle.serde_json.specs.View.{view};
 ghost use Rattle.serde_json.specs.Written.{has_float};
 
 use game_sheet::NoMemory;
 use serde_json::Value;
 use std::alloc::Global;
-use table_games::{Board, Heap};
+use table_games::{Board, Heap, Scores};
 
 /// A state of one of the games.
 #[derive(Drop)]
@@ -19,16 +19,31 @@ pub enum AnyG {
     TicTacToe(Board),
     /// Of Countdown.
     Countdown(Heap),
+    /// Of Pig.
+    Pig(Scores),
 }
 
 impl AnyG {
     /// An equal state.
-    pub(crate) fn copy(&self) -> Self
-        ensures { result ≡ self.now }
+    pub(crate) fn copy(&self, alloc: Global) -> Result<Self, NoMemory>
+        ensures { IfOk result (λ copied. copied ≡ self.now) }
     {
         match self {
-            AnyG::TicTacToe(board) => AnyG::TicTacToe(board.copy()),
-            AnyG::Countdown(heap) => AnyG::Countdown(heap.copy()),
+            AnyG::TicTacToe(board) => Ok(AnyG::TicTacToe(board.copy())),
+            AnyG::Countdown(heap) => Ok(AnyG::Countdown(heap.copy())),
+            AnyG::Pig(scores) => Ok(AnyG::Pig(scores.copy(alloc)?)),
+        }
+    }
+
+    /// Whether two states are equal; those of two games are not.
+    pub(crate) fn same(&self, other: &AnyG) -> bool
+        ensures { IsTrue result ↔ (self.now ≡ other.now) }
+    {
+        match (self, other) {
+            (AnyG::TicTacToe(board), AnyG::TicTacToe(other)) => board.same(other),
+            (AnyG::Countdown(heap), AnyG::Countdown(other)) => heap.same(other),
+            (AnyG::Pig(scores), AnyG::Pig(other)) => scores.same(other),
+            _ => false,
         }
     }
 
@@ -40,6 +55,7 @@ impl AnyG {
         match self {
             AnyG::TicTacToe(board) => board.to_value(alloc),
             AnyG::Countdown(heap) => heap.to_value(alloc),
+            AnyG::Pig(scores) => scores.to_value(alloc),
         }
     }
 }
@@ -58,12 +74,21 @@ pub(crate) trait OwnState: Drop {
     fn of_any(g: &AnyG) -> Option<&Self>
         ensures value { option_copied result ≡ project g.now }
         ensures same { IfSome result (λ own. g.now ≡ inject own.now) };
+
+    // An own state is found among the states of all games, and what is found is that state.
+    ghost finds: { (own : Self) → project (inject own) ≡ Some own };
+
+    ghost tells: { (g : AnyG) → IfSome (project g) (λ own. g ≡ inject own) };
 }
 
 impl OwnState for Board {
     ghost inject = { OfTicTacToe };
 
     ghost project = { as_board };
+
+    ghost finds = { λ own. refl };
+
+    ghost tells = { is_board };
 
     fn into_any(self) -> AnyG {
         AnyG::TicTacToe(self)
@@ -82,6 +107,10 @@ impl OwnState for Heap {
 
     ghost project = { as_heap };
 
+    ghost finds = { λ own. refl };
+
+    ghost tells = { is_heap };
+
     fn into_any(self) -> AnyG {
         AnyG::Countdown(self)
     }
@@ -89,6 +118,27 @@ impl OwnState for Heap {
     fn of_any(g: &AnyG) -> Option<&Self> {
         match g {
             AnyG::Countdown(heap) => Some(heap),
+            _ => None,
+        }
+    }
+}
+
+impl OwnState for Scores {
+    ghost inject = { OfPig };
+
+    ghost project = { as_points };
+
+    ghost finds = { λ own. refl };
+
+    ghost tells = { are_points };
+
+    fn into_any(self) -> AnyG {
+        AnyG::Pig(self)
+    }
+
+    fn of_any(g: &AnyG) -> Option<&Self> {
+        match g {
+            AnyG::Pig(scores) => Some(scores),
             _ => None,
         }
     }

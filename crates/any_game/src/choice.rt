@@ -2,7 +2,7 @@
 
 ghost use Rattle.std.specs.Prelude.{◌≡◌, IfOk};
 ghost use Rattle.any_game.specs.AnyRules.{named};
-ghost use Rattle.any_game.specs.GameKind.{TicTacToe as IsTicTacToe, Countdown as IsCountdown};
+ghost use Rattle.any_game.specs.GameKind.{TicTacToe as IsTicTacToe, Countdown as IsCountdown, Pig as IsPig};
 
 use crate::any_g::AnyG;
 use crate::lifted::Lifted;
@@ -12,7 +12,7 @@ use game_trait::{Game, Halt, HookHalt};
 use serde_json::Value;
 use std::alloc::Global;
 use std::marker::Model;
-use table_games::{Countdown, TicTacToe};
+use table_games::{Countdown, Pig, TicTacToe};
 
 /// One of the games. Contracts see which one it is.
 #[derive(Drop)]
@@ -24,6 +24,7 @@ pub struct AnyGame {
 enum Picked {
     TicTacToe(Lifted<TicTacToe>),
     Countdown(Lifted<Countdown>),
+    Pig(Lifted<Pig>),
 }
 
 impl Model for AnyGame {
@@ -56,6 +57,16 @@ impl AnyGame {
         })
     }
 
+    /// Pig.
+    pub fn pig(alloc: Global) -> Result<Self, NoMemory>
+        ensures { IfOk result (λ game. game ≡ IsPig) }
+    {
+        let game = Pig::new(alloc)?;
+        Ok(AnyGame {
+            game: Picked::Pig(Lifted { game }),
+        })
+    }
+
     /// The same game.
     pub fn copy_game(&self, alloc: Global) -> Result<Self, NoMemory>
         ensures { IfOk result (λ game. game ≡ self.now) }
@@ -63,6 +74,7 @@ impl AnyGame {
         match self.game {
             Picked::TicTacToe(_) => AnyGame::tic_tac_toe(alloc),
             Picked::Countdown(_) => AnyGame::countdown(alloc),
+            Picked::Pig(_) => AnyGame::pig(alloc),
         }
     }
 }
@@ -75,13 +87,15 @@ pub fn by_name(alloc: Global, name: &str) -> Result<Option<AnyGame>, NoMemory>
         Ok(Some(AnyGame::tic_tac_toe(alloc)?))
     } else if name == "countdown" {
         Ok(Some(AnyGame::countdown(alloc)?))
+    } else if name == "pig" {
+        Ok(Some(AnyGame::pig(alloc)?))
     } else {
         Ok(None)
     }
 }
 
 impl Game for AnyGame {
-    ghost use Rattle.any_game.specs.AnyRules.{any_in_sheet, any_rules};
+    ghost use Rattle.any_game.specs.AnyRules.{any_in_sheet, any_lawful, any_rules};
 
     type G = AnyG;
 
@@ -89,10 +103,13 @@ impl Game for AnyGame {
 
     ghost in_sheet = { any_in_sheet };
 
+    ghost lawful = { any_lawful };
+
     fn sheet(&self) -> &Sheet {
         match &self.game {
             Picked::TicTacToe(game) => game.sheet(),
             Picked::Countdown(game) => game.sheet(),
+            Picked::Pig(game) => game.sheet(),
         }
     }
 
@@ -100,6 +117,7 @@ impl Game for AnyGame {
         match &self.game {
             Picked::TicTacToe(game) => game.setup(alloc, seats, tape),
             Picked::Countdown(game) => game.setup(alloc, seats, tape),
+            Picked::Pig(game) => game.setup(alloc, seats, tape),
         }
     }
 
@@ -117,6 +135,7 @@ impl Game for AnyGame {
         match &self.game {
             Picked::TicTacToe(game) => game.play(alloc, g, ctx, seat, id, args, tape, events),
             Picked::Countdown(game) => game.play(alloc, g, ctx, seat, id, args, tape, events),
+            Picked::Pig(game) => game.play(alloc, g, ctx, seat, id, args, tape, events),
         }
     }
 
@@ -132,6 +151,7 @@ impl Game for AnyGame {
         match &self.game {
             Picked::TicTacToe(game) => game.on_move(alloc, g, ctx, seat, tape, events),
             Picked::Countdown(game) => game.on_move(alloc, g, ctx, seat, tape, events),
+            Picked::Pig(game) => game.on_move(alloc, g, ctx, seat, tape, events),
         }
     }
 
@@ -146,6 +166,7 @@ impl Game for AnyGame {
         match &self.game {
             Picked::TicTacToe(game) => game.turn_begin(alloc, g, ctx, tape, events),
             Picked::Countdown(game) => game.turn_begin(alloc, g, ctx, tape, events),
+            Picked::Pig(game) => game.turn_begin(alloc, g, ctx, tape, events),
         }
     }
 
@@ -160,6 +181,7 @@ impl Game for AnyGame {
         match &self.game {
             Picked::TicTacToe(game) => game.turn_end(alloc, g, ctx, tape, events),
             Picked::Countdown(game) => game.turn_end(alloc, g, ctx, tape, events),
+            Picked::Pig(game) => game.turn_end(alloc, g, ctx, tape, events),
         }
     }
 
@@ -175,6 +197,7 @@ impl Game for AnyGame {
         match &self.game {
             Picked::TicTacToe(game) => game.phase_begin(alloc, g, ctx, phase, tape, events),
             Picked::Countdown(game) => game.phase_begin(alloc, g, ctx, phase, tape, events),
+            Picked::Pig(game) => game.phase_begin(alloc, g, ctx, phase, tape, events),
         }
     }
 
@@ -190,6 +213,7 @@ impl Game for AnyGame {
         match &self.game {
             Picked::TicTacToe(game) => game.phase_end(alloc, g, ctx, phase, tape, events),
             Picked::Countdown(game) => game.phase_end(alloc, g, ctx, phase, tape, events),
+            Picked::Pig(game) => game.phase_end(alloc, g, ctx, phase, tape, events),
         }
     }
 
@@ -204,6 +228,7 @@ impl Game for AnyGame {
         match &self.game {
             Picked::TicTacToe(game) => game.game_end(alloc, g, ctx, tape, events),
             Picked::Countdown(game) => game.game_end(alloc, g, ctx, tape, events),
+            Picked::Pig(game) => game.game_end(alloc, g, ctx, tape, events),
         }
     }
 
@@ -211,6 +236,7 @@ impl Game for AnyGame {
         match &self.game {
             Picked::TicTacToe(game) => game.end_if(g, ctx),
             Picked::Countdown(game) => game.end_if(g, ctx),
+            Picked::Pig(game) => game.end_if(g, ctx),
         }
     }
 
@@ -218,6 +244,7 @@ impl Game for AnyGame {
         match &self.game {
             Picked::TicTacToe(game) => game.turn_end_if(g, ctx),
             Picked::Countdown(game) => game.turn_end_if(g, ctx),
+            Picked::Pig(game) => game.turn_end_if(g, ctx),
         }
     }
 
@@ -225,6 +252,7 @@ impl Game for AnyGame {
         match &self.game {
             Picked::TicTacToe(game) => game.phase_end_if(g, ctx),
             Picked::Countdown(game) => game.phase_end_if(g, ctx),
+            Picked::Pig(game) => game.phase_end_if(g, ctx),
         }
     }
 
@@ -232,14 +260,67 @@ impl Game for AnyGame {
         match &self.game {
             Picked::TicTacToe(game) => game.play_order(alloc, g, ctx),
             Picked::Countdown(game) => game.play_order(alloc, g, ctx),
+            Picked::Pig(game) => game.play_order(alloc, g, ctx),
+        }
+    }
+
+    fn view(
+        &self,
+        alloc: Global,
+        g: &AnyG,
+        ctx: &Ctx,
+        viewer: Option<Seat>,
+    ) -> Result<AnyG, NoMemory> {
+        match &self.game {
+            Picked::TicTacToe(game) => game.view(alloc, g, ctx, viewer),
+            Picked::Countdown(game) => game.view(alloc, g, ctx, viewer),
+            Picked::Pig(game) => game.view(alloc, g, ctx, viewer),
+        }
+    }
+
+    fn undoable(&self, g: &AnyG, ctx: &Ctx, id: MoveId) -> bool {
+        match &self.game {
+            Picked::TicTacToe(game) => game.undoable(g, ctx, id),
+            Picked::Countdown(game) => game.undoable(g, ctx, id),
+            Picked::Pig(game) => game.undoable(g, ctx, id),
+        }
+    }
+
+    fn options(
+        &self,
+        alloc: Global,
+        g: &AnyG,
+        ctx: &Ctx,
+        seat: Seat,
+    ) -> Result<List<(MoveId, Args)>, NoMemory> {
+        match &self.game {
+            Picked::TicTacToe(game) => game.options(alloc, g, ctx, seat),
+            Picked::Countdown(game) => game.options(alloc, g, ctx, seat),
+            Picked::Pig(game) => game.options(alloc, g, ctx, seat),
         }
     }
 
     fn to_value(&self, alloc: Global, g: &AnyG) -> Result<Value, NoMemory> {
-        g.to_value(alloc)
+        match &self.game {
+            Picked::TicTacToe(game) => game.to_value(alloc, g),
+            Picked::Countdown(game) => game.to_value(alloc, g),
+            Picked::Pig(game) => game.to_value(alloc, g),
+        }
+    }
+
+    fn from_value(&self, alloc: Global, v: &Value) -> Result<Option<AnyG>, NoMemory> {
+        match &self.game {
+            Picked::TicTacToe(game) => game.from_value(alloc, v),
+            Picked::Countdown(game) => game.from_value(alloc, v),
+            Picked::Pig(game) => game.from_value(alloc, v),
+        }
+    }
+
+    fn same(&self, a: &AnyG, b: &AnyG) -> bool {
+        a.same(b)
     }
 
     fn copy(&self, alloc: Global, g: &AnyG) -> Result<AnyG, NoMemory> {
-        Ok(g.copy())
+        g.copy(alloc)
     }
 }

@@ -45,12 +45,15 @@ where
     X::G: OwnState,
 {
     ghost use Rattle.any_game.specs.InSheet.{lifted_keeps};
+    ghost use Rattle.any_game.specs.LiftedLaws.{lifted_lawful};
 
     type G = AnyG;
 
     ghost rules = { λ l. lifted X.G.inject X.G.project (X.rules l.game) };
 
     ghost in_sheet = { λ l. lifted_keeps X.G.inject X.G.project (X.rules l.game) (X.in_sheet l.game) };
+
+    ghost lawful = { λ l. lifted_lawful X.G.inject X.G.project X.G.finds X.G.tells (X.rules l.game) (X.lawful l.game) };
 
     fn sheet(&self) -> &Sheet {
         self.game.sheet()
@@ -198,11 +201,58 @@ where
         }
     }
 
+    fn view(
+        &self,
+        alloc: Global,
+        g: &AnyG,
+        ctx: &Ctx,
+        viewer: Option<Seat>,
+    ) -> Result<AnyG, NoMemory> {
+        match X::G::of_any(g) {
+            Some(own) => Ok(self.game.view(alloc, own, ctx, viewer)?.into_any()),
+            None => g.copy(alloc),
+        }
+    }
+
+    fn undoable(&self, g: &AnyG, ctx: &Ctx, id: MoveId) -> bool {
+        match X::G::of_any(g) {
+            Some(own) => self.game.undoable(own, ctx, id),
+            None => false,
+        }
+    }
+
+    fn options(
+        &self,
+        alloc: Global,
+        g: &AnyG,
+        ctx: &Ctx,
+        seat: Seat,
+    ) -> Result<List<(MoveId, Args)>, NoMemory> {
+        match X::G::of_any(g) {
+            Some(own) => self.game.options(alloc, own, ctx, seat),
+            None => Ok(List::new(alloc)),
+        }
+    }
+
     fn to_value(&self, alloc: Global, g: &AnyG) -> Result<Value, NoMemory> {
-        g.to_value(alloc)
+        match X::G::of_any(g) {
+            Some(own) => self.game.to_value(alloc, own),
+            None => g.to_value(alloc),
+        }
+    }
+
+    fn from_value(&self, alloc: Global, v: &Value) -> Result<Option<AnyG>, NoMemory> {
+        match self.game.from_value(alloc, v)? {
+            Some(own) => Ok(Some(own.into_any())),
+            None => Ok(None),
+        }
+    }
+
+    fn same(&self, a: &AnyG, b: &AnyG) -> bool {
+        a.same(b)
     }
 
     fn copy(&self, alloc: Global, g: &AnyG) -> Result<AnyG, NoMemory> {
-        Ok(g.copy())
+        g.copy(alloc)
     }
 }

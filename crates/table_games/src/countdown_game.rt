@@ -172,7 +172,7 @@ impl Game for Countdown {
         ctx: &Ctx,
         viewer: Option<Seat>,
     ) -> Result<Heap, NoMemory> {
-        Ok(g.copy())
+        self.copy(alloc, g)
     }
 
     fn undoable(&self, g: &Heap, ctx: &Ctx, id: MoveId) -> bool {

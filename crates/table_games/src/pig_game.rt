@@ -173,7 +173,7 @@ impl Game for Pig {
         ctx: &Ctx,
         viewer: Option<Seat>,
     ) -> Result<Scores, NoMemory> {
-        g.copy(alloc)
+        self.copy(alloc, g)
     }
 
     fn undoable(&self, g: &Scores, ctx: &Ctx, id: MoveId) -> bool {

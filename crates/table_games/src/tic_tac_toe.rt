@@ -167,7 +167,7 @@ impl Game for TicTacToe {
         ctx: &Ctx,
         viewer: Option<Seat>,
     ) -> Result<Board, NoMemory> {
-        Ok(g.copy())
+        self.copy(alloc, g)
     }
 
     fn undoable(&self, g: &Board, ctx: &Ctx, id: MoveId) -> bool {
