@@ -1,14 +1,7 @@
-<<<<<<< HEAD
--- Which lines are in form, by what the lines before them have come to. A script opens one match of a known game, for a number of seats
--- that the game allows. The session of each seat's number syncs once, with the seat's key; from then on it moves in that match, asks
--- for events, and takes what waits for it.
-use Rattle.std.specs.Prelude.{ℕ, ◌==◌, Bool, true, false, not, ◌&&◌, if◌then◌else◌, nat_lt, is_none, bytes_eq, replicate, slice_get, slice_set, List, [], ◌∷◌, ◌++◌, Option, Some, None, option_and_then, unwrap_or, Result, Ok, Err}
-=======
 -- Which lines are in form, by what the lines before them have come to. A script opens one match, of tic-tac-toe or countdown, for a number
--- of seats that the game allows. The session of each seat's number syncs once, with the seat's key; from then on it moves in that match, ends
--- turns, and takes what waits for it.
+-- of seats that the game allows. The session of each seat's number syncs once, with the seat's key; from then on it moves in that match, asks
+-- for events, and takes what waits for it.
 use Rattle.std.specs.Prelude.{ℕ, ◌==◌, Bool, true, false, not, ◌&&◌, if◌then◌else◌, nat_lt, is_none, bytes_eq, codes, replicate, slice_get, slice_set, List, [], ◌∷◌, ◌++◌, Option, Some, None, option_and_then, unwrap_or, Result, Ok, Err}
->>>>>>> b662f7c2b9d8a06749550c95dd496ff5eaf2f5f4
 use Rattle.game_sheet.specs.MatchName.{Name}
 use Rattle.any_game.specs.AnyRules.{any_rules, named}
 use Rattle.any_game.specs.GameKind.{GameKind}
