@@ -60,9 +60,10 @@ module _ {G : Type 0} (inject : G → AnyG) (project : AnyG → Option G) (finds
 
   injected_read : (v : Data) (own : Option G) → rules.read v ≡ own → IfSome (option_map inject own) (IsReadFrom v)
   injected_read v None is = tt
-  injected_read v (Some own) is =
-      ( injected_own own (laws.read_own v own is)
-      , λ c. ap (λ o. on_own o (any_value (inject own)) rules.value) (finds own) ∙ laws.read_only v own c is )
+  injected_read v (Some own) is = (
+    injected_own own (laws.read_own v own is),
+    λ c. ap (λ o. on_own o (any_value (inject own)) rules.value) (finds own) ∙ laws.read_only v own c is,
+  )
 
   read_from : (v : Data) (g : AnyG) → option_map inject (rules.read v) ≡ Some g → IsReadFrom v g
   read_from v g is = subst (λ o. IfSome o (IsReadFrom v)) is (injected_read v (rules.read v) refl)

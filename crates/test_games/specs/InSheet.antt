@@ -1,11 +1,11 @@
 -- Which events name rows of a sheet, as a test; and that a small game whose cues pass it keeps to its sheet.
-use Rattle.std.specs.Prelude.{◌≡◌, ◌<◌, ℕ, ◌&&◌, Bool, true, false, if◌then◌else◌, nat_lt, List, [], ◌∷◌, length, filter, map}
+use Rattle.std.specs.Prelude.{◌≡◌, ℕ, Bool, true, false, if◌then◌else◌, nat_lt, List, [], ◌∷◌, length, filter, map}
 use Rattle.std.specs.List.{list_all}
 use Rattle.std.proofs.lemmas.Bool.{ltb-true, and_parts}
 use Rattle.game_sheet.specs.declared.act.Event.{Event}
 use Rattle.game_sheet.specs.declared.act.Event.TheVariants.{EndTurn, EndPhase, SetPhase, EndStage, SetStage, SetActive, EndGame}
 use Rattle.game_sheet.specs.declared.sheet.Sheet.{Sheet}
-use Rattle.game_trait.specs.Deed.{Deed, Done, GaveUp}
+use Rattle.game_trait.specs.Deed.{Done, GaveUp}
 use Rattle.game_trait.specs.InSheet.{EventInSheet}
 use Rattle.game_trait.specs.Queues.{AllInSheet, KeepsToSheet, QueuesInSheet}
 use Rattle.test_games.specs.Moment.{cued, is_at}

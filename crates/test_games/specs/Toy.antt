@@ -13,7 +13,6 @@ use Rattle.serde_json.specs.Data.{Data, number, unsigned, object, member, no_mem
 use Rattle.serde_json.specs.Find.{get}
 use Rattle.test_games.specs.Moment.{cued}
 use Rattle.test_games.specs.declared.cue.Cue.{Cue}
-use Rattle.test_games.specs.declared.cue.Moment.{Moment}
 use Rattle.test_games.specs.declared.cue.Moment.TheVariants.{Move, AfterMove, TurnBegin, TurnEnd, PhaseBegin, PhaseEnd, MatchEnd}
 use Rattle.test_games.specs.declared.toy.Ends.{Ends}
 

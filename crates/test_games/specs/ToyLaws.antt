@@ -1,12 +1,12 @@
 -- The small game keeps the laws of games.
-use Rattle.std.specs.Prelude.{◌≡◌, ◌<◌, ℕ, zero, ◌+◌, ◌%◌, ◌^◌, if◌then◌else◌, nat_le, nat_lt, IsTrue, Bool, true, false, List, [], ◌∷◌, length, codes, Option, Some, None, IfSome, Result, Ok, Err, IfOk, refl}
+use Rattle.std.specs.Prelude.{◌≡◌, ℕ, ◌+◌, ◌%◌, ◌^◌, if◌then◌else◌, nat_le, nat_lt, IsTrue, Bool, true, false, List, [], ◌∷◌, length, codes, Some, None, IfSome, Result, Ok, Err, IfOk, refl}
 use Rattle.std.specs.Result.{result_ok}
 use Rattle.std.proofs.Common.{ap, subst, sym, lit<}
 use Rattle.std.proofs.Math.Nat.{le-pred_of_lt, mod-lt}
 use Rattle.std.proofs.lemmas.Bool.{le-leb}
 use Rattle.game_sheet.specs.declared.act.Event.{Event}
 use Rattle.game_sheet.specs.declared.sheet.Sheet.{Sheet}
-use Rattle.game_trait.specs.Deed.{Deed, Done, GaveUp}
+use Rattle.game_trait.specs.Deed.{Done, GaveUp}
 use Rattle.game_trait.specs.Lawful.{GivesOwn, Lawful}
 use Rattle.json_tree.specs.Canonical.{IsCanonical}
 use Rattle.json_tree.specs.Fields.{natural_in}
@@ -17,7 +17,6 @@ use Rattle.json_tree.proofs.FieldLaws.{natural_reads}
 use Rattle.json_tree.proofs.Rows.{row_is}
 use Rattle.serde_json.specs.Data.{Data, null, boolean, number, string, array, object, unsigned, Members, no_members, member}
 use Rattle.serde_json.specs.Find.{get_member}
-use Rattle.test_games.specs.Moment.{cued}
 use Rattle.test_games.specs.Toy.{count_read, count_value, is_count, queueing, toy_rules}
 use Rattle.test_games.specs.declared.cue.Cue.{Cue}
 use Rattle.test_games.specs.declared.toy.Ends.{Ends}
