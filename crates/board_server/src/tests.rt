@@ -120,20 +120,23 @@ fn an_undo_and_an_event_in_another_form_are_bad_lines(rt: HostRuntime) -> Result
 #[test]
 fn a_game_is_opened_by_its_name_for_seats_that_it_allows(rt: HostRuntime) -> Result<(), Fail> {
     let alloc = rt.alloc();
-    let opens: [&[u8]; 4] = [
+    let opens: [&[u8]; 6] = [
         b"open tic-tac-toe 2",
         b"open countdown 2",
         b"open countdown 3",
         b"open countdown 4",
+        b"open pig 2",
+        b"open pig 4",
     ];
     for script in opens {
         let (exit, printed) = played(alloc, script, &[], &[])?;
         assert_eq!(rt; exit, Exit::Done);
         assert_eq!(rt; printed.as_slice(), b"open 0-1\n".as_slice());
     }
-    let others: [&[u8]; 6] = [
+    let others: [&[u8]; 7] = [
         b"open countdown 1",
         b"open countdown 5",
+        b"open pig 5",
         b"open tic-tac-toe 3",
         b"open Countdown 2",
         b"open count 2",

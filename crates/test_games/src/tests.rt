@@ -1,14 +1,17 @@
 //! The reducer at small games, whose contexts are told row by row.
 
+mod cards;
 mod events;
 mod games;
 mod matches;
 mod orders;
 mod phases;
+mod rolls;
 mod stages;
 
 use crate::{Cue, Moment, Toy};
 use game_sheet::{Event, GameRule, MoveId, Outcome, PhaseId, Seat, StageId};
+use game_trait::Game;
 use matches::{Action, Fault, Map, Match, View};
 use std::alloc::Global;
 use std::process::Abort;
@@ -44,20 +47,38 @@ const END_STAGE: Action = Action::Event(Event::EndStage);
 /// An action of a seat, and what comes of it.
 type Row = (Seat, Action, Result<View, Fault>);
 
-/// Plays a match from its first view, an action after the other.
+/// Plays a match on, an action after the other.
+fn goes_on<X: Game + Drop>(rt: &impl Abort, alloc: Global, match_: &mut Match<X>, rows: &[Row]) {
+    for (seat, action, then) in rows {
+        assert_eq!(rt; match_.act(alloc, *seat, *action), *then);
+    }
+}
+
+/// Plays a match of so many seats from its first view.
+fn seated<X: Game + Drop>(
+    rt: &impl Abort,
+    alloc: Global,
+    game: X,
+    seats: u8,
+    first: View,
+    rows: &[Row],
+) -> Result<Match<X>, Fault> {
+    let mut match_ = Match::begin(alloc, game, seats)?;
+    assert_eq!(rt; match_.view(), first);
+    goes_on(rt, alloc, &mut match_, rows);
+    Ok(match_)
+}
+
+/// The same for a game made of data, of the least count of seats that its sheet allows.
 fn plays(
     rt: &impl Abort,
     alloc: Global,
     game: Toy,
     first: View,
     rows: &[Row],
-) -> Result<Match, Fault> {
-    let mut match_ = Match::begin(alloc, game)?;
-    assert_eq!(rt; match_.view(), first);
-    for (seat, action, then) in rows {
-        assert_eq!(rt; match_.act(alloc, *seat, *action), *then);
-    }
-    Ok(match_)
+) -> Result<Match<Toy>, Fault> {
+    let seats = game.sheet.min_seats;
+    seated(rt, alloc, game, seats, first, rows)
 }
 
 /// The view at the beginning of a turn of the seat at a place of the play order, without a phase or a map.

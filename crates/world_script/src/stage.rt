@@ -1,10 +1,12 @@
 //! Which lines of a script are in form, and what they ask for.
 
 ghost use Rattle.std.specs.Prelude.{◌≡◌, IfOk, bytes_eq, slice_set, true, Some, Ok};
+ghost use Rattle.any_game.specs.AnyRules.{any_rules};
+ghost use Rattle.match_master.specs.Calls.{seats_fit};
 ghost use Rattle.wire_json.specs.ClientReading.{client_read};
 ghost use Rattle.wire_json.specs.declared.client.ClientMsg.TheVariants.{Sync, Act};
 ghost use Rattle.world_script.specs.Commands.{Open, Take};
-ghost use Rattle.world_script.specs.Forms.{seat_key, is_the_match, has_synced, is_opened, is_seat, is_own_seat, may_sync, is_move_or_event, step_of_message, step_of_command, step_of, stage_after};
+ghost use Rattle.world_script.specs.Forms.{seat_key, is_the_match, has_synced, is_seat, is_own_seat, may_sync, is_move_or_event, step_of_message, step_of_command, step_of, stage_after};
 
 use crate::command::{Command, command_of};
 use any_game::{AnyGame, by_name};
@@ -90,12 +92,12 @@ fn opens(alloc: Global, stage: Stage, name: &[u8], seats: u8) -> Result<Option<S
     }
 }
 
-/// Whether a script opens a match of a game for this number of seats.
+/// Whether a game is for this number of seats.
 fn allows(game: &AnyGame, seats: u8) -> bool
-    ensures { result ≡ is_opened game.now seats }
+    ensures { result ≡ seats_fit (any_rules game.now).sheet seats }
 {
     let sheet = game.sheet();
-    !sheet.name.is("pig") && sheet.min_seats <= seats && seats <= sheet.max_seats
+    sheet.min_seats <= seats && seats <= sheet.max_seats
 }
 
 fn takes(stage: Stage, session: u8) -> Option<Step>

@@ -1,12 +1,12 @@
 //! High Hand: draws and cards laid at their edges, points, the end, and the text of a state.
 
-ghost use Rattle.std.specs.Prelude.{◌<◌, ◌≡◌, IfOk};
+ghost use Rattle.std.specs.Prelude.{◌<◌, ◌≡◌, IfOk, IsPermutation};
 ghost use Rattle.card_games.specs.Pack.{pack};
 
 use super::{
     count_of_options, ending, is_same, is_seen, is_state, is_written, one, opening, play, turn_in,
 };
-use crate::high_hand::Cards;
+use crate::high_hand::{Cards, PACK};
 use crate::{CardTable, Deck, Hand, HighHand};
 use dice_words::Tape;
 use game_sheet::{Args, EventQueue, List, NoMemory, Outcome, PhaseId, Seat};
@@ -182,6 +182,23 @@ fn a_shuffled_deck_takes_51_words(rt: HostRuntime) -> Result<(), Fail> {
     let first = opening(&game, rt.alloc(), &mut tape)?;
     assert_eq!(rt; tape.used(), 51);
     assert_eq!(rt; first.common.left, 52);
+    Ok(())
+}
+
+/// The pack in order.
+#[tactic(auto, using(crate::proofs::PackLemmas::as_it_is))]
+fn in_order(alloc: Global) -> Result<Vec<u8>, NoMemory>
+    ensures { IfOk result (λ deck. IsPermutation pack deck.items) }
+{
+    Ok(Vec::from_array(alloc, PACK)?)
+}
+
+#[test]
+fn a_dealt_deck_keeps_its_order_and_takes_no_word(rt: HostRuntime) -> Result<(), Fail> {
+    let game = HighHand::dealt(rt.alloc(), in_order(rt.alloc())?)?;
+    let first = opening(&game, rt.alloc(), &mut Tape::blank())?;
+    let deck = first.secret.ok_or("deck")?;
+    assert!(rt; deck.cards.as_slice() == PACK.as_slice());
     Ok(())
 }
 

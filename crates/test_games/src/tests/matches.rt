@@ -3,12 +3,10 @@
 ghost use Rattle.std.specs.Prelude.{◌≡◌, ◌<◌, ◌≤◌, IfOk, IsTrue, true};
 ghost use Rattle.game_trait.specs.InSheet.{ActInSheet, EventInSheet};
 ghost use Rattle.reducer.specs.Sound.{IsSound};
-ghost use Rattle.test_games.specs.Toy.{toy_rules};
 
 use crate::cue::in_sheet;
-use crate::toy::Toy;
 use game_sheet::{
-    Act, Args, Ctx, Event, GameNo, GameRule, MoveId, NoMemory, Outcome, Seat, StageId,
+    Act, Args, Ctx, Event, GameNo, GameRule, MoveId, NoMemory, Outcome, Seat, Sheet, StageId,
 };
 use game_trait::Game;
 use reducer::{StartNo, State, start, step};
@@ -21,6 +19,8 @@ use std::marker::Model;
 pub(crate) enum Action {
     /// The move at this place of the sheet, without arguments.
     Move(u8),
+    /// The move at this place of the sheet, with one argument.
+    Told(u8, i32),
     /// An event.
     Event(Event),
 }
@@ -71,28 +71,25 @@ pub(crate) struct View {
 
 /// A match of a game.
 #[derive(Drop)]
-pub(crate) struct Match {
-    game: Toy,
-    state: State<u32>,
+pub(crate) struct Match<X: Game + Drop> {
+    game: X,
+    state: State<X::G>,
 }
 
-impl Model for Match {
+impl<X: Game + Drop> Model for Match<X> {
     ghost use Rattle.reducer.specs.Sound.{IsSound};
     ghost use Rattle.reducer.specs.Standing.{Standing};
-    ghost use Rattle.std.specs.Prelude.{ℕ};
-    ghost use Rattle.test_games.specs.Toy.{toy_rules};
 
-    ghost Value = { Standing ℕ };
+    ghost Value = { Standing X.G };
 
     ghost view = { λ m. m.state };
 
-    ghost invariant = { λ m. IsSound (toy_rules m.game.sheet m.game.cues m.game.ends) m.state };
+    ghost invariant = { λ m. IsSound (X.rules m.game) m.state };
 }
 
-impl Match {
-    /// A match with the least count of seats that the game's sheet allows.
-    pub(crate) fn begin(alloc: Global, game: Toy) -> Result<Match, Fault> {
-        let seats = game.sheet().min_seats;
+impl<X: Game + Drop> Match<X> {
+    /// A match of so many seats, whose words are those of the seed of zeros.
+    pub(crate) fn begin(alloc: Global, game: X, seats: u8) -> Result<Self, Fault> {
         match start(alloc, &game, seats, &[0; 32]) {
             Ok(state) => Ok(Match { game, state }),
             Err(why) => Err(Fault::NoStart(why)),
@@ -126,24 +123,24 @@ impl Match {
     }
 
     /// The state.
-    pub(crate) fn state(&self) -> &State<u32> {
+    pub(crate) fn state(&self) -> &State<X::G> {
         &self.state
     }
 }
 
 /// The state after an action of a seat.
-fn acted(
+fn acted<X: Game>(
     alloc: Global,
-    game: &Toy,
-    state: &State<u32>,
+    game: &X,
+    state: &State<X::G>,
     seat: Seat,
     action: Action,
-) -> Result<State<u32>, Fault>
-    requires sound { IsSound (toy_rules game.now.sheet game.now.cues game.now.ends) state.now }
-    ensures sound { IfOk result (IsSound (toy_rules game.now.sheet game.now.cues game.now.ends)) }
+) -> Result<State<X::G>, Fault>
+    requires sound { IsSound (X.rules game.now) state.now }
+    ensures sound { IfOk result (IsSound (X.rules game.now)) }
 {
     let act = act_of(action);
-    if state.number() >= 4096 || !is_active(state.ctx(), seat) || !is_there(game, &act) {
+    if state.number() >= 4096 || !is_active(state.ctx(), seat) || !is_there(game.sheet(), &act) {
         return Err(Fault::NotNow);
     }
     match step(alloc, game, state, seat, &act) {
@@ -160,27 +157,38 @@ fn act_of(action: Action) -> Act {
             id: MoveId::at(place),
             args: Args::new(),
         },
+        Action::Told(place, argument) => told(place, argument),
         Action::Event(event) => Act::Event(event),
     }
 }
 
-/// Whether what an action names is in the game's sheet.
-fn is_there(game: &Toy, act: &Act) -> bool
-    ensures { result ≡ true → ActInSheet game.now.sheet act.now }
+/// A move with one argument.
+fn told(place: u8, argument: i32) -> Act {
+    let mut args = Args::new();
+    args.push(argument);
+    Act::Move {
+        id: MoveId::at(place),
+        args,
+    }
+}
+
+/// Whether what an action names is in a sheet.
+fn is_there(sheet: &Sheet, act: &Act) -> bool
+    ensures { result ≡ true → ActInSheet sheet.now act.now }
 {
     match act {
-        Act::Move { id, .. } => (id.place() as usize) < game.sheet.moves.len(),
-        Act::Event(event) => is_event_there(game, event),
+        Act::Move { id, .. } => (id.place() as usize) < sheet.moves.len(),
+        Act::Event(event) => is_event_there(sheet, event),
         _ => false,
     }
 }
 
-/// Whether what an event names is in the game's sheet.
+/// Whether what an event names is in a sheet.
 #[tactic(auto, using(crate::specs::InSheet::event_in_sheet))]
-fn is_event_there(game: &Toy, event: &Event) -> bool
-    ensures { result ≡ true → EventInSheet game.now.sheet event.now }
+fn is_event_there(sheet: &Sheet, event: &Event) -> bool
+    ensures { result ≡ true → EventInSheet sheet.now event.now }
 {
-    in_sheet(&game.sheet, event)
+    in_sheet(sheet, event)
 }
 
 /// What the context shows of the map.
