@@ -30,6 +30,7 @@ use Rattle.match_master.specs.declared.kept.Kept.{Kept}
 use Rattle.match_master.specs.Held.{kept_of}
 use Rattle.match_master.specs.Judged.{IsAccepted}
 use Rattle.match_master.specs.Match.{Match, number_of, table_of, entry_on}
+use Rattle.match_master.specs.Viewer.{Viewer, seat_of}
 use Rattle.match_master.specs.Verdict.{broken, public_broken, game_broken, with_act, answered, or_else, reason_of}
 
 chosen : (b : Bool) (n i : ℕ) → (if b then Some n else None) ≡ Some i → (b ≡ true) × (n ≡ i)
@@ -113,36 +114,36 @@ module _ {X G : Type 0} (rules : X → Rules G) (room : ℕ) where
   answered_is : (m : Match X G) (viewer : Option ℕ) (o : Option Act) (seat : ℕ) (act : Act) → viewer ≡ Some seat → o ≡ Some act → answered rules m viewer o ≡ refusal (once (rules m.game) (table_of rules m) seat act)
   answered_is m viewer o seat act p q = rw (p, q) refl
 
-  game_is : (m : Match X G) (viewer : Option ℕ) (s : Submission) (seat : ℕ) (act : Act) (r : Option GameRule) → viewer ≡ Some seat → act_of (rules m.game).sheet s.asked ≡ Some act
+  game_is : (m : Match X G) (viewer : Viewer) (s : Submission) (seat : ℕ) (act : Act) (r : Option GameRule) → seat_of viewer ≡ Some seat → act_of (rules m.game).sheet s.asked ≡ Some act
       → refusal (once (rules m.game) (table_of rules m) seat act) ≡ r → public_broken rules room m viewer s ≡ None → broken rules room m viewer s ≡ option_map reason_of r
   game_is m viewer s seat act r p q h n =
-      ap (λ b. or_else b (game_broken rules m viewer s)) n ∙ ap (option_map reason_of) (answered_is m viewer (act_of (rules m.game).sheet s.asked) seat act p q ∙ h)
+      ap (λ b. or_else b (game_broken rules m viewer s)) n ∙ ap (option_map reason_of) (answered_is m (seat_of viewer) (act_of (rules m.game).sheet s.asked) seat act p q ∙ h)
 
-  pub accepted_is : (m : Match X G) (viewer : Option ℕ) (s : Submission) (seat : ℕ) (act : Act) (next : Standing G) (entry : Entry) → viewer ≡ Some seat → act_of (rules m.game).sheet s.asked ≡ Some act
+  pub accepted_is : (m : Match X G) (viewer : Viewer) (s : Submission) (seat : ℕ) (act : Act) (next : Standing G) (entry : Entry) → seat_of viewer ≡ Some seat → act_of (rules m.game).sheet s.asked ≡ Some act
       → public_broken rules room m viewer s ≡ None → once (rules m.game) (table_of rules m) seat act ≡ Ok next.table
       → next ≡ standing_at (rules m.game) m.first (record { seat = seat; act = act } ∷ m.accepted) → IsSound (rules m.game) next → entry ≡ entry_on (table_of rules m) (number_of m) (record { seat = seat; act = act })
       → IsAccepted rules room m viewer s next entry
   accepted_is m viewer s seat act next entry p q n o st sound e = record {
     deed = record { seat = seat; act = act };
     unbroken = game_is m viewer s seat act None p q (ok_refusal (once (rules m.game) (table_of rules m) seat act) next.table o) n;
-    match_is = with_deed m viewer (act_of (rules m.game).sheet s.asked) seat act p q;
+    match_is = with_deed m (seat_of viewer) (act_of (rules m.game).sheet s.asked) seat act p q;
     state_is = st;
     sound = sound;
     entry_is = e;
   }
 
-  pub refused_is : (m : Match X G) (viewer : Option ℕ) (s : Submission) (seat : ℕ) (act : Act) (rule : GameRule) → viewer ≡ Some seat → act_of (rules m.game).sheet s.asked ≡ Some act
+  pub refused_is : (m : Match X G) (viewer : Viewer) (s : Submission) (seat : ℕ) (act : Act) (rule : GameRule) → seat_of viewer ≡ Some seat → act_of (rules m.game).sheet s.asked ≡ Some act
       → public_broken rules room m viewer s ≡ None → once (rules m.game) (table_of rules m) seat act ≡ Err rule → broken rules room m viewer s ≡ Some (reason_of rule)
   refused_is m viewer s seat act rule p q n o = game_is m viewer s seat act (Some rule) p q (err_refusal (once (rules m.game) (table_of rules m) seat act) rule o) n
 
   -- the same, of what is kept of the match
-  pub accepted_at : (m : Match X G) (kept : Kept X G) → kept_of rules m ≡ kept → (viewer : Option ℕ) (s : Submission) (seat : ℕ) (act : Act) (next : Standing G) (entry : Entry) → viewer ≡ Some seat
+  pub accepted_at : (m : Match X G) (kept : Kept X G) → kept_of rules m ≡ kept → (viewer : Viewer) (s : Submission) (seat : ℕ) (act : Act) (next : Standing G) (entry : Entry) → seat_of viewer ≡ Some seat
       → act_of (rules kept.game).sheet s.asked ≡ Some act → once (rules kept.game) kept.state.table seat act ≡ Ok next.table
       → ((first : Reached G) (accepted : List Accepted) → kept.state ≡ standing_at (rules kept.game) first accepted → next ≡ standing_at (rules kept.game) first (record { seat = seat; act = act } ∷ accepted))
       → IsSound (rules kept.game) next → entry ≡ entry_on kept.state.table kept.state.number (record { seat = seat; act = act }) → public_broken rules room m viewer s ≡ None
       → IsAccepted rules room m viewer s next entry
   accepted_at m kept e =
-      subst (λ (k : Kept X G). (viewer : Option ℕ) (s : Submission) (seat : ℕ) (act : Act) (next : Standing G) (entry : Entry) → viewer ≡ Some seat
+      subst (λ (k : Kept X G). (viewer : Viewer) (s : Submission) (seat : ℕ) (act : Act) (next : Standing G) (entry : Entry) → seat_of viewer ≡ Some seat
       → act_of (rules k.game).sheet s.asked ≡ Some act → once (rules k.game) k.state.table seat act ≡ Ok next.table
       → ((first : Reached G) (accepted : List Accepted) → k.state ≡ standing_at (rules k.game) first accepted → next ≡ standing_at (rules k.game) first (record { seat = seat; act = act } ∷ accepted))
       → IsSound (rules k.game) next → entry ≡ entry_on k.state.table k.state.number (record { seat = seat; act = act }) → public_broken rules room m viewer s ≡ None

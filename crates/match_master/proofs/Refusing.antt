@@ -8,10 +8,12 @@ use Rattle.room_desk.specs.Entry.{Entry}
 use Rattle.wire_json.specs.declared.reason.Reason.{Reason}
 use Rattle.wire_json.specs.declared.verdict.Verdict.TheVariants as verdict
 use Rattle.match_master.specs.declared.call.RoomCall.{RoomCall}
-use Rattle.match_master.specs.declared.call.RoomCall.TheVariants.{Create, Attach, Submit, Take}
+use Rattle.match_master.specs.declared.call.RoomCall.TheVariants.{Create, Join, Attach, Submit, Take, Detach}
 use Rattle.match_master.specs.declared.reply.RoomReply.{RoomReply}
 use Rattle.match_master.specs.declared.reply.RoomReply.TheVariants as answer
 use Rattle.match_master.specs.declared.submission.Submission.{Submission}
+use Rattle.match_master.specs.Attachment.{Attachment}
+use Rattle.match_master.specs.Viewer.{seat_of}
 use Rattle.match_master.specs.Calls.{verdict_reply, submit_reply, submitted, accepted_unless}
 use Rattle.match_master.specs.Held.{is_starved, bytes_waiting}
 use Rattle.match_master.specs.History.{standing, attached}
@@ -37,36 +39,36 @@ same_either false x = refl
 
 module _ {X G : Type 0} (rules : X → Rules G) (room : ℕ) where
   -- the match and the viewer whose action was refused
-  record RefusedAt (standing : Option (Match X G)) (at : Option (Option ℕ)) (s : Submission) (number : ℕ) (reason : Reason) : Type 0 where
+  record RefusedAt (standing : Option (Match X G)) (at : Option Attachment) (s : Submission) (number : ℕ) (reason : Reason) : Type 0 where
     pub m : Match X G
-    pub viewer : Option ℕ
+    pub a : Attachment
     pub stands : standing ≡ Some m
-    pub looks : at ≡ Some viewer
-    pub broke : broken rules room m viewer s ≡ Some reason
+    pub looks : at ≡ Some a
+    pub broke : broken rules room m a.viewer s ≡ Some reason
     pub number_is : number ≡ number_of m
 
-  refused_at : (standing : Option (Match X G)) (at : Option (Option ℕ)) (s : Submission) (number : ℕ) (reason : Reason) → answer.Verdict (verdict.No number reason) ≡ submit_reply rules room standing at s
+  refused_at : (standing : Option (Match X G)) (at : Option Attachment) (s : Submission) (number : ℕ) (reason : Reason) → answer.Verdict (verdict.No number reason) ≡ submit_reply rules room standing at s
       → RefusedAt standing at s number reason
   refused_at None at s number reason h = cc
   refused_at (Some m) None s number reason h = cc
-  refused_at (Some m) (Some viewer) s number reason h =
-      let v = verdict_is (broken rules room m viewer s) (number_of m) number reason h in
-      record { m = m; viewer = viewer; stands = refl; looks = refl; broke = v.0; number_is = v.1 }
+  refused_at (Some m) (Some a) s number reason h =
+      let v = verdict_is (broken rules room m a.viewer s) (number_of m) number reason h in
+      record { m = m; a = a; stands = refl; looks = refl; broke = v.0; number_is = v.1 }
 
-  module _ (st : Option (Match X G)) (at : Option (Option ℕ)) (s : Submission) (number : ℕ) (reason : Reason) (r : RefusedAt st at s number reason) where
+  module _ (st : Option (Match X G)) (at : Option Attachment) (s : Submission) (number : ℕ) (reason : Reason) (r : RefusedAt st at s number reason) where
     match_stays : submitted rules room st at s ≡ st
     match_stays =
-        ap (λ x. submitted rules room x at s) r.stands ∙ ap (λ x. submitted rules room (Some r.m) x s) r.looks ∙ ap (λ o. Some (accepted_unless rules room r.m r.viewer s o)) r.broke ∙ sym r.stands
+        ap (λ x. submitted rules room x at s) r.stands ∙ ap (λ x. submitted rules room (Some r.m) x s) r.looks ∙ ap (λ o. Some (accepted_unless rules room r.m r.a.viewer s o)) r.broke ∙ sym r.stands
 
-    told_is : (own : Bool) (viewer : Option (Option ℕ)) (ps : List Piece) → told_where rules room st at s own viewer ps ≡ told_where rules room (Some r.m) (Some r.viewer) s own viewer ps
+    told_is : (own : Bool) (viewer : Option Attachment) (ps : List Piece) → told_where rules room st at s own viewer ps ≡ told_where rules room (Some r.m) (Some r.a) s own viewer ps
     told_is own viewer ps = ap (λ x. told_where rules room x at s own viewer ps) r.stands ∙ ap (λ x. told_where rules room (Some r.m) x s own viewer ps) r.looks
 
-    others_told : (viewer : Option (Option ℕ)) (ps : List Piece) → told_where rules room (Some r.m) (Some r.viewer) s false viewer ps ≡ ps
+    others_told : (viewer : Option Attachment) (ps : List Piece) → told_where rules room (Some r.m) (Some r.a) s false viewer ps ≡ ps
     others_told None ps = refl
-    others_told (Some viewer) ps = ap (λ o. told rules room r.m r.viewer s o false viewer ps) r.broke
+    others_told (Some a) ps = ap (λ o. told rules room r.m r.a.viewer s o false (seat_of a.viewer) ps) r.broke
 
-    own_told : (ps : List Piece) → told_where rules room (Some r.m) (Some r.viewer) s true (Some r.viewer) ps ≡ Line (no_line number reason s.ticket) ∷ ps
-    own_told ps = ap (λ o. told rules room r.m r.viewer s o true r.viewer ps) r.broke ∙ ap (λ n. Line (no_line n reason s.ticket) ∷ ps) (sym r.number_is)
+    own_told : (ps : List Piece) → told_where rules room (Some r.m) (Some r.a) s true (Some r.a) ps ≡ Line (no_line number reason s.ticket) ∷ ps
+    own_told ps = ap (λ o. told rules room r.m r.a.viewer s o true (seat_of r.a.viewer) ps) r.broke ∙ ap (λ n. Line (no_line n reason s.ticket) ∷ ps) (sym r.number_is)
 
   -- the entry of a submission that was not refused for want of memory
   abbrev entry_of : ℕ → Submission → Entry (RoomCall X)
@@ -92,7 +94,7 @@ module _ {X G : Type 0} (rules : X → Rules G) (room : ℕ) where
     own_waits = waits_as pass true (eq-eqb pass pass refl)
         ∙ ap (λ a. bytes_waiting rules a (waiting (told_where rules room (standing rules room h) (attached rules room h pass) s true a (pieces rules room h pass)))) r.looks
         ∙ ap (λ ps. Some (waiting ps))
-        (told_is (standing rules room h) (attached rules room h pass) s number reason r true (Some r.viewer) (pieces rules room h pass)
+        (told_is (standing rules room h) (attached rules room h pass) s number reason r true (Some r.a) (pieces rules room h pass)
         ∙ own_told (standing rules room h) (attached rules room h pass) s number reason r (pieces rules room h pass))
 
     is_refused : IsRefused rules room h (entry_of pass s) number reason s.ticket
@@ -113,5 +115,7 @@ module _ {X G : Type 0} (rules : X → Rules G) (room : ℕ) where
   refuses h pass (Submit name key number ticket asked) (answer.Verdict (verdict.Ok n)) e = tt
   refuses h pass (Submit name key number ticket asked) other e = tt
   refuses h pass (Create game seats seed) result e = tt
-  refuses h pass (Attach serial claim) result e = tt
+  refuses h pass (Join serial seat name key) result e = tt
+  refuses h pass (Attach serial viewer) result e = tt
   refuses h pass Take result e = tt
+  refuses h pass Detach result e = tt

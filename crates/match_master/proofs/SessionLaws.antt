@@ -1,12 +1,14 @@
 -- What a write at one place makes of the attachments, and what a walk over all places makes of them.
-use Rattle.std.proofs.Common.{◌≡◌, ◌≤◌, ℕ, zero, suc, ◌+◌, ◌==◌, Bool, List, [], ◌∷◌, length, Option, Some, None, option_map, is_some, nat_eq, true, false, if◌then◌else◌, position, slice_get, vec_len, vec_capacity, refl, sym, ap, ◌∙◌, subst, arith}
+use Rattle.std.proofs.Common.{◌≡◌, ◌≤◌, ℕ, zero, suc, ◌==◌, Bool, List, [], ◌∷◌, ◌++◌, length, Option, Some, None, option_map, is_some, nat_eq, true, false, if◌then◌else◌, position, slice_get, refl, sym, ap, ◌∙◌, subst, arith}
 use Rattle.indexmap.specs.IndexMap.{set_value_at, insert_entry}
 use Rattle.indexmap.proofs.MapLemmas.{Found-position, insert_entry-first}
 use Rattle.std.specs.Map.{values_of, keys_of, lookup}
 use Rattle.std.proofs.lemmas.Bool.Decides.{nat_tests}
 use Rattle.std.proofs.lemmas.Bool.{true≢false}
 use Rattle.match_master.specs.declared.session.Session.{Session}
-use Rattle.match_master.specs.Shown.{Shown, shown_of, shown_entry, all_shown, with_told, tell, tell_all, tell_at, tell_to, needs, HaveRoomTo, HaveRoomFrom, TakesOut}
+use Rattle.match_master.specs.Attachment.{Attachment}
+use Rattle.match_master.specs.Shown.{Shown, shown_of, shown_entry, all_shown, attachment_of, gained, with_gained, tell, tell_all, tell_at, tell_to, AreReadyTo, AreReadyFrom, Removes, TakesOut, say, say_at}
+use Rattle.match_master.specs.Viewer.{seat_of}
 
 -- a place holds an attachment, and this says whether it is the pass's own
 pub record IsAt (es : List (ℕ × Session)) (i : ℕ) (v : Session) (pass : ℕ) (own : Bool) : Type 0 where
@@ -24,60 +26,67 @@ shown_same [] i v w h e = refl
 shown_same (x ∷ es) zero v w h e = ap (λ s. (x.0, s) ∷ all_shown es) (e ∙ sym (ap shown_of (some_is x.1 v h)))
 shown_same (x ∷ es) (suc i) v w h e = ap (λ l. shown_entry x ∷ l) (shown_same es i v w h e)
 
-pub room_to : (es : List (ℕ × Session)) (i pass said all : ℕ) (v w : Session) (own : Bool) → IsAt es i v pass own → vec_len w.waiting + needs own said all ≤ vec_capacity w.waiting
-    → HaveRoomTo i pass said all es → HaveRoomTo (suc i) pass said all (set_value_at es i w)
-room_to [] i pass said all v w own at h r = absurd (none_is v at.held)
-room_to (x ∷ es) zero pass said all v w own at h r =
-    (subst (λ b. vec_len w.waiting + needs b said all ≤ vec_capacity w.waiting) (at.owned x refl) h, tt)
-room_to (x ∷ es) (suc i) pass said all v w own at h r = (r.0, room_to es i pass said all v w own (record { held = at.held; owned = at.owned }) h r.1)
+abbrev Lines : Type 0
+Lines = Option ℕ → List ℕ
 
-pub room_at : (es : List (ℕ × Session)) (i pass said all : ℕ) (v : Session) (own : Bool) → IsAt es i v pass own → HaveRoomFrom i pass said all es → vec_len v.waiting + needs own said all ≤ vec_capacity v.waiting
-room_at [] i pass said all v own at r = absurd (none_is v at.held)
-room_at (x ∷ es) zero pass said all v own at r =
-    subst (λ b. vec_len v.waiting + needs b said all ≤ vec_capacity v.waiting) (sym (at.owned x refl))
-    (subst (λ (s : Session). vec_len s.waiting + needs (x.0 == pass) said all ≤ vec_capacity s.waiting) (some_is x.1 v at.held) r.0)
-room_at (x ∷ es) (suc i) pass said all v own at r = room_at es i pass said all v own (record { held = at.held; owned = at.owned }) r
+-- the write at a place makes ready what the attachment there gains
+pub ready_to : (es : List (ℕ × Session)) (i pass : ℕ) (said : List ℕ) (lines : Lines) (v w : Session) (own : Bool) → IsAt es i v pass own → w.viewer ≡ v.viewer → (w.lines).ready ≡ gained own said (lines (seat_of v.viewer))
+    → AreReadyTo i pass said lines es → AreReadyTo (suc i) pass said lines (set_value_at es i w)
+ready_to [] i pass said lines v w own at e h r = absurd (none_is v at.held)
+ready_to (x ∷ es) zero pass said lines v w own at e h r =
+    (h ∙ ap (λ b. gained b said (lines (seat_of v.viewer))) (at.owned x refl) ∙ ap (λ u. gained (x.0 == pass) said (lines (seat_of u))) (sym e), tt)
+ready_to (x ∷ es) (suc i) pass said lines v w own at e h r = (r.0, ready_to es i pass said lines v w own (record { held = at.held; owned = at.owned }) e h r.1)
 
-pub told_at : (es : List (ℕ × Session)) (i pass : ℕ) (said all : List ℕ) (v w : Session) (own : Bool) → IsAt es i v pass own → shown_of w ≡ record { viewer = v.viewer; bytes = with_told own said all v.waiting.items }
-    → all_shown (set_value_at es i w) ≡ tell_at i pass said all (all_shown es)
-told_at [] i pass said all v w own at h = refl
-told_at (x ∷ es) zero pass said all v w own at h =
-    ap (λ s. (x.0, s) ∷ all_shown es)
-    (h ∙ ap (λ b. let s : Shown = record { viewer = v.viewer; bytes = with_told b said all v.waiting.items } in s) (at.owned x refl)
-    ∙ ap (λ (u : Session). let s : Shown = record { viewer = u.viewer; bytes = with_told (x.0 == pass) said all u.waiting.items } in s) (sym (some_is x.1 v at.held)))
-told_at (x ∷ es) (suc i) pass said all v w own at h = ap (λ l. shown_entry x ∷ l) (told_at es i pass said all v w own (record { held = at.held; owned = at.owned }) h)
+-- the write at a place sends what stands ready there
+pub told_at : (es : List (ℕ × Session)) (i pass : ℕ) (said : List ℕ) (lines : Lines) (v w : Session) → slice_get (values_of es) i ≡ Some v → attachment_of w ≡ attachment_of v → (w.lines).waiting ≡ (v.lines).waiting ++ (v.lines).ready
+    → AreReadyFrom i pass said lines es → all_shown (set_value_at es i w) ≡ tell_at i pass said lines (all_shown es)
+told_at [] i pass said lines v w held a h r = refl
+told_at (x ∷ es) zero pass said lines v w held a h r =
+    let sent : (w.lines).waiting ≡ (x.1.lines).waiting ++ gained (x.0 == pass) said (lines (seat_of x.1.viewer))
+    = h ∙ ap (λ (u : Session). (u.lines).waiting ++ (u.lines).ready) (sym (some_is x.1 v held)) ∙ ap (λ l. (x.1.lines).waiting ++ l) r.0 in
+    let same : attachment_of w ≡ attachment_of x.1 = a ∙ ap attachment_of (sym (some_is x.1 v held)) in
+    ap (λ b. let s : Shown = record { attachment = attachment_of w; bytes = b } in (x.0, s) ∷ all_shown es) sent
+    ∙ ap (λ t. let s : Shown = record { attachment = t; bytes = (x.1.lines).waiting ++ gained (x.0 == pass) said (lines (seat_of x.1.viewer)) } in (x.0, s) ∷ all_shown es) same
+told_at (x ∷ es) (suc i) pass said lines v w held a h r = ap (λ l. shown_entry x ∷ l) (told_at es i pass said lines v w held a h r)
 
-pub room_after : (es : List (ℕ × Session)) (i pass said all : ℕ) (w : Session) → HaveRoomFrom i pass said all es → HaveRoomFrom (suc i) pass said all (set_value_at es i w)
-room_after [] i pass said all w r = tt
-room_after (x ∷ es) zero pass said all w r = r.1
-room_after (x ∷ es) (suc i) pass said all w r = room_after es i pass said all w r
+pub ready_after : (es : List (ℕ × Session)) (i pass : ℕ) (said : List ℕ) (lines : Lines) (w : Session) → AreReadyFrom i pass said lines es → AreReadyFrom (suc i) pass said lines (set_value_at es i w)
+ready_after [] i pass said lines w r = tt
+ready_after (x ∷ es) zero pass said lines w r = r.1
+ready_after (x ∷ es) (suc i) pass said lines w r = ready_after es i pass said lines w r
 
-pub tell_more : (es : List (ℕ × Shown)) (i pass : ℕ) (said all : List ℕ) → tell_at i pass said all (tell_to i pass said all es) ≡ tell_to (suc i) pass said all es
-tell_more [] zero pass said all = refl
-tell_more [] (suc i) pass said all = refl
-tell_more (x ∷ es) zero pass said all = refl
-tell_more (x ∷ es) (suc i) pass said all = ap (λ l. tell pass said all x ∷ l) (tell_more es i pass said all)
+pub tell_more : (es : List (ℕ × Shown)) (i pass : ℕ) (said : List ℕ) (lines : Lines) → tell_at i pass said lines (tell_to i pass said lines es) ≡ tell_to (suc i) pass said lines es
+tell_more [] zero pass said lines = refl
+tell_more [] (suc i) pass said lines = refl
+tell_more (x ∷ es) zero pass said lines = refl
+tell_more (x ∷ es) (suc i) pass said lines = ap (λ l. tell pass said lines x ∷ l) (tell_more es i pass said lines)
 
-pub tell_done : (es : List (ℕ × Shown)) (i pass : ℕ) (said all : List ℕ) → length es ≤ i → tell_to i pass said all es ≡ tell_all pass said all es
-tell_done [] zero pass said all h = refl
-tell_done [] (suc i) pass said all h = refl
-tell_done (x ∷ es) zero pass said all h = absurd (omega arith)
-tell_done (x ∷ es) (suc i) pass said all h = ap (λ l. tell pass said all x ∷ l) (tell_done es i pass said all (omega arith))
+pub tell_done : (es : List (ℕ × Shown)) (i pass : ℕ) (said : List ℕ) (lines : Lines) → length es ≤ i → tell_to i pass said lines es ≡ tell_all pass said lines es
+tell_done [] zero pass said lines h = refl
+tell_done [] (suc i) pass said lines h = refl
+tell_done (x ∷ es) zero pass said lines h = absurd (omega arith)
+tell_done (x ∷ es) (suc i) pass said lines h = ap (λ l. tell pass said lines x ∷ l) (tell_done es i pass said lines (omega arith))
 
-pub room_done : (es : List (ℕ × Session)) (i pass said all : ℕ) → length es ≤ i → HaveRoomTo i pass said all es → HaveRoomFrom 0 pass said all es
-room_done [] i pass said all h r = tt
-room_done (x ∷ es) zero pass said all h r = absurd (omega arith)
-room_done (x ∷ es) (suc i) pass said all h r = (r.0, room_done es i pass said all (omega arith) r.1)
+pub ready_done : (es : List (ℕ × Session)) (i pass : ℕ) (said : List ℕ) (lines : Lines) → length es ≤ i → AreReadyTo i pass said lines es → AreReadyFrom 0 pass said lines es
+ready_done [] i pass said lines h r = tt
+ready_done (x ∷ es) zero pass said lines h r = absurd (omega arith)
+ready_done (x ∷ es) (suc i) pass said lines h r = (r.0, ready_done es i pass said lines (omega arith) r.1)
+
+-- each attachment is told the same by lines that are the same for each viewer
+pub tell_same : (es : List (ℕ × Shown)) (pass : ℕ) (said : List ℕ) (f g : Lines) → ((seat : Option ℕ) → f seat ≡ g seat) → tell_all pass said f es ≡ tell_all pass said g es
+tell_same [] pass said f g h = refl
+tell_same (x ∷ es) pass said f g h =
+    ap (λ l. let s : Shown = record (x.1) { bytes = (x.1).bytes ++ gained (x.0 == pass) said l } in (x.0, s) ∷ tell_all pass said f es) (h (seat_of ((x.1).attachment).viewer))
+    ∙ ap (λ l. tell pass said g x ∷ l) (tell_same es pass said f g h)
 
 -- as many attachments are shown as there are
 pub length-all_shown : (es : List (ℕ × Session)) → length (all_shown es) ≡ length es
 length-all_shown [] = refl
 length-all_shown (x ∷ es) = ap suc (length-all_shown es)
 
-pub length-tell_to : (es : List (ℕ × Shown)) (i pass : ℕ) (said all : List ℕ) → length (tell_to i pass said all es) ≡ length es
-length-tell_to es zero pass said all = refl
-length-tell_to [] (suc i) pass said all = refl
-length-tell_to (x ∷ es) (suc i) pass said all = ap suc (length-tell_to es i pass said all)
+pub length-tell_to : (es : List (ℕ × Shown)) (i pass : ℕ) (said : List ℕ) (lines : Lines) → length (tell_to i pass said lines es) ≡ length es
+length-tell_to es zero pass said lines = refl
+length-tell_to [] (suc i) pass said lines = refl
+length-tell_to (x ∷ es) (suc i) pass said lines = ap suc (length-tell_to es i pass said lines)
 
 -- where a map is written at a key, its attachments are shown so
 pub shown_put : (es : List (ℕ × Session)) (pass : ℕ) (w : Session) → all_shown (insert_entry nat_eq es pass w) ≡ insert_entry nat_eq (all_shown es) pass (shown_of w)
@@ -133,14 +142,14 @@ lookup-put {V} (x ∷ es) k q v = by (lookup-put es k q v) (nat_eq k x.0) refl
     by ih false e = past_key (nat_eq q x.0) (nat_eq k q) v (Some x.1) (lookup (nat_eq q) (insert_entry nat_eq es k v)) (lookup (nat_eq q) es) (key_apart k q x.0 e) ih
 
 -- after all were told, each has what it gained
-pub lookup-tell_all : (es : List (ℕ × Shown)) (pass q : ℕ) (said all : List ℕ) → lookup (nat_eq q) (tell_all pass said all es) ≡ option_map (λ (s : Shown). let t : Shown = record { viewer = s.viewer; bytes = with_told (q == pass) said all s.bytes } in t) (lookup (nat_eq q) es)
-lookup-tell_all [] pass q said all = refl
-lookup-tell_all (x ∷ es) pass q said all = by (lookup-tell_all es pass q said all) (nat_eq q x.0) refl
+pub lookup-tell_all : (es : List (ℕ × Shown)) (pass q : ℕ) (said : List ℕ) (lines : Lines) → lookup (nat_eq q) (tell_all pass said lines es) ≡ option_map (with_gained (q == pass) said lines) (lookup (nat_eq q) es)
+lookup-tell_all [] pass q said lines = refl
+lookup-tell_all (x ∷ es) pass q said lines = by (lookup-tell_all es pass q said lines) (nat_eq q x.0) refl
   where
-    by : lookup (nat_eq q) (tell_all pass said all es) ≡ option_map (λ (s : Shown). let t : Shown = record { viewer = s.viewer; bytes = with_told (q == pass) said all s.bytes } in t) (lookup (nat_eq q) es)
-        → (b : Bool) → nat_eq q x.0 ≡ b → (if b then Some (tell pass said all x).1 else lookup (nat_eq q) (tell_all pass said all es))
-        ≡ option_map (λ (s : Shown). let t : Shown = record { viewer = s.viewer; bytes = with_told (q == pass) said all s.bytes } in t) (if b then Some x.1 else lookup (nat_eq q) es)
-    by ih true e = ap (λ k. let t : Shown = record { viewer = (x.1).viewer; bytes = with_told (k == pass) said all (x.1).bytes } in Some t) (sym (eqb_is q x.0 e))
+    by : lookup (nat_eq q) (tell_all pass said lines es) ≡ option_map (with_gained (q == pass) said lines) (lookup (nat_eq q) es)
+        → (b : Bool) → nat_eq q x.0 ≡ b → (if b then Some (tell pass said lines x).1 else lookup (nat_eq q) (tell_all pass said lines es))
+        ≡ option_map (with_gained (q == pass) said lines) (if b then Some x.1 else lookup (nat_eq q) es)
+    by ih true e = ap (λ k. Some (with_gained (k == pass) said lines x.1)) (sym (eqb_is q x.0 e))
     by ih false e = ih
 
 pub none_of : {V : Type 0} (o : Option V) → false ≡ is_some o → o ≡ None
@@ -148,8 +157,34 @@ none_of None h = refl
 none_of (Some v) h = absurd (true≢false (sym h))
 
 -- what a Take does, where the key stands at a place
-pub taken_out : (es : List (ℕ × Session)) (pass i : ℕ) (v w : Session) → lookup (nat_eq pass) es ≡ Some v → position (nat_eq pass) (keys_of es) ≡ Some i → shown_of w ≡ record { viewer = v.viewer; bytes = [] }
-    → TakesOut pass v.waiting.items (lookup (nat_eq pass) (all_shown es)) (all_shown es) (all_shown (set_value_at es i w))
+pub taken_out : (es : List (ℕ × Session)) (pass i : ℕ) (v w : Session) → lookup (nat_eq pass) es ≡ Some v → position (nat_eq pass) (keys_of es) ≡ Some i → shown_of w ≡ record { attachment = attachment_of v; bytes = [] }
+    → TakesOut pass (v.lines).waiting (attachment_of v) (lookup (nat_eq pass) (all_shown es)) (all_shown es) (all_shown (set_value_at es i w))
 taken_out es pass i v w found at emptied =
-    subst (λ o. TakesOut pass v.waiting.items o (all_shown es) (all_shown (set_value_at es i w))) (sym (lookup_shown es pass ∙ ap (option_map shown_of) found))
-    (refl, ap all_shown (put_at es pass i w at) ∙ shown_put es pass w ∙ ap (insert_entry nat_eq (all_shown es) pass) emptied)
+    subst (λ o. TakesOut pass (v.lines).waiting (attachment_of v) o (all_shown es) (all_shown (set_value_at es i w))) (sym (lookup_shown es pass ∙ ap (option_map shown_of) found))
+    (refl, refl, ap all_shown (put_at es pass i w at) ∙ shown_put es pass w ∙ ap (insert_entry nat_eq (all_shown es) pass) emptied)
+
+-- what saying something to a pass alone does, where the key stands at a place
+pub said_own : (es : List (ℕ × Session)) (pass i : ℕ) (said : List ℕ) (v w : Session) → lookup (nat_eq pass) es ≡ Some v → position (nat_eq pass) (keys_of es) ≡ Some i
+    → shown_of w ≡ record { attachment = attachment_of v; bytes = (v.lines).waiting ++ said } → all_shown (set_value_at es i w) ≡ say pass said (all_shown es)
+said_own es pass i said v w found at told =
+    ap all_shown (put_at es pass i w at) ∙ shown_put es pass w ∙ ap (insert_entry nat_eq (all_shown es) pass) told
+    ∙ sym (ap (λ o. say_at pass said o (all_shown es)) (lookup_shown es pass ∙ ap (option_map shown_of) found))
+
+pub said_nobody : (es : List (ℕ × Session)) (pass : ℕ) (said : List ℕ) → lookup (nat_eq pass) es ≡ None → all_shown es ≡ say pass said (all_shown es)
+said_nobody es pass said none = sym (ap (λ o. say_at pass said o (all_shown es)) (lookup_shown es pass ∙ ap (option_map shown_of) none))
+
+-- whether a key is there
+pub is_some_shown : (es : List (ℕ × Session)) (pass : ℕ) → is_some (lookup (nat_eq pass) (all_shown es)) ≡ is_some (lookup (nat_eq pass) es)
+is_some_shown es pass = ap is_some (lookup_shown es pass) ∙ by (lookup (nat_eq pass) es)
+  where
+    by : (o : Option Session) → is_some (option_map shown_of o) ≡ is_some o
+    by None = refl
+    by (Some v) = refl
+
+shown_none : (b : Bool) (o : Option Session) → option_map shown_of (if b then None else o) ≡ (if b then None else option_map shown_of o)
+shown_none true o = refl
+shown_none false o = refl
+
+-- where a key was taken out of a map, it isn't shown any more
+pub removed : (es fs : List (ℕ × Session)) (pass : ℕ) → ((q : ℕ) → lookup (nat_eq q) fs ≡ (if pass == q then None else lookup (nat_eq q) es)) → Removes pass (all_shown es) (all_shown fs)
+removed es fs pass h q = lookup_shown fs q ∙ ap (option_map shown_of) (h q) ∙ shown_none (pass == q) (lookup (nat_eq q) es) ∙ ap (λ o. if pass == q then None else o) (sym (lookup_shown es q))

@@ -5,7 +5,7 @@ use Rattle.std.specs.Map.{lookup}
 use Rattle.room_desk.specs.Entry.{Entry}
 use Rattle.game_trait.specs.Rules.{Rules}
 use Rattle.match_master.specs.declared.call.RoomCall.{RoomCall}
-use Rattle.match_master.specs.declared.call.RoomCall.TheVariants.{Create, Attach, Submit, Take}
+use Rattle.match_master.specs.declared.call.RoomCall.TheVariants.{Create, Join, Attach, Submit, Take, Detach}
 use Rattle.match_master.specs.declared.reply.RoomReply.{RoomReply}
 use Rattle.match_master.specs.declared.reply.RoomReply.TheVariants as answer
 use Rattle.match_master.specs.Held.{Held, Holds, Advances, StandsFor, stored, stored_bytes, is_starved, answer_to, bytes_waiting, kept_of}
@@ -16,30 +16,37 @@ use Rattle.match_master.specs.Reply.{waits, reply, reply_to, taken}
 use Rattle.match_master.specs.Steps.{pieces, pieces_after}
 use Rattle.match_master.specs.Stream.{waiting}
 use Rattle.match_master.specs.declared.submission.Submission.{Submission}
-use Rattle.match_master.specs.Calls.{create, create_reply, attach, attach_reply}
-use Rattle.match_master.specs.Does.{Does, SubmitDoes, viewer_in, after_create, after_attach, after_take, taken_of}
-use Rattle.match_master.proofs.Advance.{create_advances, attach_advances, submit_advances, take_advances}
+use Rattle.match_master.specs.Attachment.{Attachment}
+use Rattle.match_master.specs.Viewer.{Viewer}
+use Rattle.match_master.specs.Calls.{create, create_reply, joined, join_reply, attach, attach_reply, detach_reply}
+use Rattle.match_master.specs.Does.{Does, Detaches, SubmitDoes, attached_in, viewer_in, after_create, after_join, after_attach, after_take, taken_of}
+use Rattle.match_master.proofs.Advance.{create_advances, join_advances, attach_advances, submit_advances, take_advances, detach_advances}
 use Rattle.match_master.proofs.Refusing.{refuses}
 use Rattle.match_master.proofs.Waiting.{waits_is}
 
 starved_is : (r : RoomReply) → is_starved r ≡ true → r ≡ answer.NoMemory
 starved_is answer.NoMemory h = refl
 starved_is (answer.Created serial) h = absurd (true≢false (sym h))
+starved_is answer.Joined h = absurd (true≢false (sym h))
 starved_is answer.Attached h = absurd (true≢false (sym h))
 starved_is (answer.Verdict verdict) h = absurd (true≢false (sym h))
 starved_is (answer.Taken bytes end) h = absurd (true≢false (sym h))
+starved_is answer.Detached h = absurd (true≢false (sym h))
 starved_is answer.Busy h = absurd (true≢false (sym h))
 starved_is answer.BadSeats h = absurd (true≢false (sym h))
 starved_is answer.NoStart h = absurd (true≢false (sym h))
 starved_is answer.NoMatch h = absurd (true≢false (sym h))
+starved_is answer.NoSeat h = absurd (true≢false (sym h))
+starved_is answer.SeatTaken h = absurd (true≢false (sym h))
+starved_is answer.BadName h = absurd (true≢false (sym h))
 starved_is answer.AlreadyAttached h = absurd (true≢false (sym h))
 starved_is answer.Unauthorized h = absurd (true≢false (sym h))
 starved_is answer.NotAttached h = absurd (true≢false (sym h))
 
 module _ {X G : Type 0} (rules : X → Rules G) (room : ℕ) where
-  stored_is : (a : Option (Option ℕ)) (bytes : List ℕ) → stored_bytes a (bytes_waiting rules a bytes) ≡ stored a bytes
+  stored_is : (a : Option Attachment) (bytes : List ℕ) → stored_bytes a (bytes_waiting rules a bytes) ≡ stored a bytes
   stored_is None bytes = refl
-  stored_is (Some viewer) bytes = refl
+  stored_is (Some a) bytes = refl
 
   pub kept_is : (h : List (Entry (RoomCall X))) (pass : ℕ) → stored_bytes (attached rules room h pass) (waits rules room h pass) ≡ stored (attached rules room h pass) (waiting (pieces rules room h pass))
   kept_is h pass = ap (stored_bytes (attached rules room h pass)) (waits_is rules room h pass) ∙ stored_is (attached rules room h pass) (waiting (pieces rules room h pass))
@@ -47,9 +54,11 @@ module _ {X G : Type 0} (rules : X → Rules G) (room : ℕ) where
   answer_is : (h : List (Entry (RoomCall X))) (pass : ℕ) (call : RoomCall X)
       → answer_to rules room (serials rules room h) (standing rules room h) (attached rules room h pass) (pieces rules room h pass) call ≡ reply_to rules room h pass call
   answer_is h pass (Create game seats seed) = refl
-  answer_is h pass (Attach serial claim) = refl
+  answer_is h pass (Join serial seat name key) = refl
+  answer_is h pass (Attach serial viewer) = refl
   answer_is h pass (Submit name key number ticket asked) = refl
-  answer_is h pass Take = ap taken (sym (waits_is rules room h pass))
+  answer_is h pass Take = ap (taken (attached rules room h pass)) (sym (waits_is rules room h pass))
+  answer_is h pass Detach = refl
 
   pub holds_of : (held : Held X G) (h : List (Entry (RoomCall X))) → held.room ≡ room → held.serials ≡ serials rules room h → held.kept ≡ option_map (kept_of rules) (standing rules room h)
       → ((pass : ℕ) → lookup (nat_eq pass) held.sessions ≡ stored_bytes (attached rules room h pass) (waits rules room h pass))
@@ -101,12 +110,19 @@ module _ {X G : Type 0} (rules : X → Rules G) where
       done_as old new h pass call (Create game seats seed) result e (finish old new h pass (Create game seats seed) result r
       (create_advances rules old (serials rules old.room h) (standing rules old.room h) (attached rules old.room h) (pieces rules old.room h) (holds_at old h s) pass game seats seed result new (d (standing rules old.room h) s.match_held)))
 
-  pub attach_done : (old new : Held X G) (h : List (Entry (RoomCall X))) → StandsFor rules old h → (pass serial : ℕ) (claim : Option (ℕ × List ℕ)) (call : RoomCall X) (result : RoomReply) → call ≡ Attach serial claim → new.room ≡ old.room
-      → ((st : Option (Match X G)) → old.kept ≡ option_map (kept_of rules) st → Does old result new (attach_reply (attach st (viewer_in old pass) serial claim)) (after_attach rules old pass st (attach st (viewer_in old pass) serial claim)))
+  pub join_done : (old new : Held X G) (h : List (Entry (RoomCall X))) → StandsFor rules old h → (pass serial seat : ℕ) (name key : List ℕ) (call : RoomCall X) (result : RoomReply) → call ≡ Join serial seat name key → new.room ≡ old.room
+      → ((st : Option (Match X G)) → old.kept ≡ option_map (kept_of rules) st → Does old result new (join_reply (joined st serial seat name key)) (after_join rules old (joined st serial seat name key)))
       → IsDone old new h pass call result
-  attach_done old new h s pass serial claim call result e r d =
-      done_as old new h pass call (Attach serial claim) result e (finish old new h pass (Attach serial claim) result r
-      (attach_advances rules old (serials rules old.room h) (standing rules old.room h) (attached rules old.room h) (pieces rules old.room h) (holds_at old h s) pass serial claim result new (d (standing rules old.room h) s.match_held)))
+  join_done old new h s pass serial seat name key call result e r d =
+      done_as old new h pass call (Join serial seat name key) result e (finish old new h pass (Join serial seat name key) result r
+      (join_advances rules old (serials rules old.room h) (standing rules old.room h) (attached rules old.room h) (pieces rules old.room h) (holds_at old h s) pass serial seat name key result new (d (standing rules old.room h) s.match_held)))
+
+  pub attach_done : (old new : Held X G) (h : List (Entry (RoomCall X))) → StandsFor rules old h → (pass serial : ℕ) (viewer : Viewer) (call : RoomCall X) (result : RoomReply) → call ≡ Attach serial viewer → new.room ≡ old.room
+      → ((st : Option (Match X G)) → old.kept ≡ option_map (kept_of rules) st → Does old result new (attach_reply (attach st (attached_in old pass) serial viewer)) (after_attach rules old pass serial st (attach st (attached_in old pass) serial viewer)))
+      → IsDone old new h pass call result
+  attach_done old new h s pass serial viewer call result e r d =
+      done_as old new h pass call (Attach serial viewer) result e (finish old new h pass (Attach serial viewer) result r
+      (attach_advances rules old (serials rules old.room h) (standing rules old.room h) (attached rules old.room h) (pieces rules old.room h) (holds_at old h s) pass serial viewer result new (d (standing rules old.room h) s.match_held)))
 
   pub submit_done : (old new : Held X G) (h : List (Entry (RoomCall X))) → StandsFor rules old h → (pass : ℕ) (sub : Submission) (call : RoomCall X) (result : RoomReply) → call ≡ Submit sub.name sub.key sub.number sub.ticket sub.asked → new.room ≡ old.room
       → ((st : Option (Match X G)) → old.kept ≡ option_map (kept_of rules) st → SubmitDoes rules old pass sub result new (viewer_in old pass) st)
@@ -120,3 +136,9 @@ module _ {X G : Type 0} (rules : X → Rules G) where
   take_done old new h s pass call result e r t n f =
       done_as old new h pass call Take result e (finish old new h pass Take result r
       (take_advances rules old (serials rules old.room h) (standing rules old.room h) (attached rules old.room h) (pieces rules old.room h) (holds_at old h s) pass result new t n f))
+
+  pub detach_done : (old new : Held X G) (h : List (Entry (RoomCall X))) → StandsFor rules old h → (pass : ℕ) (call : RoomCall X) (result : RoomReply) → call ≡ Detach → new.room ≡ old.room
+      → result ≡ detach_reply (attached_in old pass) → Detaches pass old new → IsDone old new h pass call result
+  detach_done old new h s pass call result e r t d =
+      done_as old new h pass call Detach result e (finish old new h pass Detach result r
+      (detach_advances rules old (serials rules old.room h) (standing rules old.room h) (attached rules old.room h) (pieces rules old.room h) (holds_at old h s) pass result new t d))

@@ -6,6 +6,7 @@ use Rattle.game_sheet.specs.declared.sheet.Sheet.{Sheet}
 use Rattle.player_sight.specs.SnapshotData.{Snap}
 use Rattle.match_master.specs.Lines.{update_line, ok_line}
 use Rattle.match_master.specs.Stream.{GameAnswer, Unasked, Accepted, Refused, Item, Submitted, Took, Piece, Line, number_at, number_after, number_when, oldest, at_number, updates, later_updates, up_to_items, says, says_verdict, says_game, broken_on, reached, start_of}
+use Rattle.match_master.specs.Viewer.{Viewer}
 use Rattle.wire_json.specs.declared.reason.Reason.{Reason}
 
 -- all snapshots have numbers up to n
@@ -90,7 +91,7 @@ at_newer n s sight h =
 pub oldest_newer : (s t : Snap) (sight : List Snap) → oldest (s ∷ t ∷ sight) ≡ oldest (t ∷ sight)
 oldest_newer s t sight = refl
 
-module _ (name : Name) (sheet : Sheet) (viewer : Option ℕ) where
+module _ (name : Name) (sheet : Sheet) (viewer : Viewer) where
   game-newer : (n ticket : ℕ) (answer : GameAnswer) (s : Snap) (sight : List Snap) → number_when answer n < s.number
       → says_game name sheet viewer n ticket answer (s ∷ sight) ≡ says_game name sheet viewer n ticket answer sight
   game-newer n ticket Unasked s sight h = refl

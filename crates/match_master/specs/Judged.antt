@@ -11,9 +11,10 @@ use Rattle.match_master.specs.declared.judge.Judged.TheVariants.{Refused, Accept
 use Rattle.match_master.specs.declared.submission.Submission.{Submission}
 use Rattle.match_master.specs.Match.{Match, number_of, table_of, entry_on}
 use Rattle.match_master.specs.Verdict.{broken, accept}
+use Rattle.match_master.specs.Viewer.{Viewer}
 
 module _ {X G : Type 0} (rules : X → Rules G) (room : ℕ) where
-  pub record IsAccepted (m : Match X G) (viewer : Option ℕ) (s : Submission) (state : Standing G) (entry : Entry) : Type 0 where
+  pub record IsAccepted (m : Match X G) (viewer : Viewer) (s : Submission) (state : Standing G) (entry : Entry) : Type 0 where
     pub deed : Accepted
     pub unbroken : broken rules room m viewer s ≡ None
     pub match_is : accept rules m viewer s ≡ record m { accepted = deed ∷ m.accepted }
@@ -21,7 +22,7 @@ module _ {X G : Type 0} (rules : X → Rules G) (room : ℕ) where
     pub sound : IsSound (rules m.game) state
     pub entry_is : entry ≡ entry_on (table_of rules m) (number_of m) deed
 
-  abbrev pub IsJudged : Match X G → Option ℕ → Submission → Judged G → Type 0
+  abbrev pub IsJudged : Match X G → Viewer → Submission → Judged G → Type 0
   IsJudged m viewer s (Refused reason) = broken rules room m viewer s ≡ Some reason
   IsJudged m viewer s (Accepts state entry) = IsAccepted m viewer s state entry
 

@@ -1,10 +1,11 @@
 -- What a viewer is shown of a match, and the lines that say it.
-use Rattle.std.specs.Prelude.{ℕ, List, [], ◌∷◌, Option}
+use Rattle.std.specs.Prelude.{ℕ, List, [], ◌∷◌, map, Option}
 use Rattle.serde_json.specs.Data.{Data, null}
 use Rattle.game_sheet.specs.MatchName.{Name}
 use Rattle.game_sheet.specs.declared.sheet.Sheet.{Sheet}
 use Rattle.game_trait.specs.Rules.{Rules}
 use Rattle.move_log.specs.declared.entry.Entry.{Entry}
+use Rattle.move_log.specs.Redact.{redact}
 use Rattle.player_sight.specs.SnapshotData.{Snap, snapshot_data}
 use Rattle.player_sight.specs.CtxData.{ctx_data}
 use Rattle.player_sight.specs.EntryData.{entry_data}
@@ -14,9 +15,15 @@ use Rattle.wire_json.specs.declared.server.ServerMsg.TheVariants as message
 use Rattle.match_master.specs.Match.{Match, table_of, number_of, log_of}
 
 module _ {X G : Type 0} (rules : X → Rules G) where
-  -- the snapshot of a match, which is the same for each viewer
+  -- the snapshot of a match that the player of a seat sees, or a spectator: the number, the context, the view of the state, and the log
+  -- as it may be shown
   abbrev pub snap : Match X G → Option ℕ → Snap
-  snap m viewer = record { number = number_of m; ctx = (table_of rules m).ctx; g = (rules m.game).value (table_of rules m).g; log = log_of rules m }
+  snap m seat = record {
+    number = number_of m;
+    ctx = (table_of rules m).ctx;
+    g = (rules m.game).value ((rules m.game).view (table_of rules m).g (table_of rules m).ctx seat);
+    log = map (redact (rules m.game).sheet seat) (log_of rules m);
+  }
 
 -- the newest entry of a log
 abbrev pub newest : Sheet → List Entry → Data
@@ -26,7 +33,7 @@ newest sheet (entry ∷ next ∷ log) = newest sheet (next ∷ log)
 
 -- the line that begins a session
 abbrev pub sync_line : Sheet → Name → Option ℕ → Snap → List ℕ
-sync_line sheet name viewer s = text (message.Sync name viewer (snapshot_data sheet s))
+sync_line sheet name seat s = text (message.Sync name seat (snapshot_data sheet s))
 
 -- the line of the action that led to a snapshot
 abbrev pub update_line : Sheet → Snap → List ℕ

@@ -1,9 +1,10 @@
--- A match: its game, seats, seed and serial, what it began with, and its accepted actions, the latest first.
+-- A match: its game, seats, seed and serial, what it began with, its accepted actions, the latest first, and who sits at its seats.
 use Rattle.std.specs.Prelude.{ℕ, List, [], ◌∷◌, ◌++◌, length, false}
 use Rattle.game_trait.specs.Rules.{Rules}
 use Rattle.move_log.specs.declared.entry.Entry.{Entry}
 use Rattle.phase_flow.specs.Reached.{Reached}
 use Rattle.reducer.specs.Accepted.{Accepted}
+use Rattle.seat_roster.specs.Player.{Seats}
 use Rattle.reducer.specs.Fold.{fold}
 
 pub record Match (X G : Type 0) : Type 0 where
@@ -13,6 +14,7 @@ pub record Match (X G : Type 0) : Type 0 where
   pub serial : ℕ
   pub first : Reached G
   pub accepted : List Accepted
+  pub roster : Seats
 
 module _ {X G : Type 0} (rules : X → Rules G) where
   -- the table that the match has come to

@@ -1,14 +1,16 @@
 -- What a pass did since it attached: its submissions and Takes with the state number at which each fell, the latest first.
--- A submission carries the game's answer where it broke no public rule.
+-- A submission carries the game's answer where it broke no public rule. With a Detach the session is over.
 use Rattle.std.specs.Prelude.{ℕ, ◌==◌, List, [], ◌∷◌, Bool, if◌then◌else◌, Option, Some, None}
 use Rattle.game_trait.specs.Rules.{Rules}
 use Rattle.room_desk.specs.Entry.{Entry}
 use Rattle.wire_json.specs.declared.reason.Reason.{Reason}
 use Rattle.match_master.specs.declared.call.RoomCall.{RoomCall}
-use Rattle.match_master.specs.declared.call.RoomCall.TheVariants.{Create, Attach, Submit, Take}
+use Rattle.match_master.specs.declared.call.RoomCall.TheVariants.{Create, Join, Attach, Submit, Take, Detach}
+use Rattle.match_master.specs.Attachment.{Attachment}
 use Rattle.match_master.specs.Match.{Match, number_of}
 use Rattle.match_master.specs.declared.submission.Submission.{Submission}
 use Rattle.match_master.specs.Verdict.{public_broken, game_broken}
+use Rattle.match_master.specs.Viewer.{Viewer}
 use Rattle.match_master.specs.Stream.{GameAnswer, Unasked, Accepted, Refused, Item, Submitted, Took}
 use Rattle.match_master.specs.History.{standing, attached}
 
@@ -22,21 +24,23 @@ answer_unless None game = answer_of game
 answer_unless (Some reason) game = Unasked
 
 module _ {X G : Type 0} (rules : X → Rules G) (room : ℕ) where
-  abbrev pub game_answer : Match X G → Option ℕ → Submission → Bool → GameAnswer
+  abbrev pub game_answer : Match X G → Viewer → Submission → Bool → GameAnswer
   game_answer m viewer s starved = if starved then Unasked else answer_unless (public_broken rules room m viewer s) (game_broken rules m viewer s)
 
-  abbrev pub did : Match X G → Option ℕ → RoomCall X → Bool → List Item → List Item
+  abbrev pub did : Match X G → Viewer → RoomCall X → Bool → List Item → List Item
   did m viewer (Create game seats seed) starved own = own
+  did m viewer (Join serial seat name key) starved own = own
   did m viewer (Attach serial claim) starved own = own
   did m viewer (Submit name key number ticket asked) starved own =
       let s : Submission = record { name = name; key = key; number = number; ticket = ticket; asked = asked } in
       Submitted (number_of m) s starved (game_answer m viewer s starved) ∷ own
   did m viewer Take starved own = if starved then own else Took (number_of m) ∷ own
+  did m viewer Detach starved own = if starved then own else []
 
-  abbrev pub did_where : Option (Match X G) → Option (Option ℕ) → RoomCall X → Bool → List Item → List Item
+  abbrev pub did_where : Option (Match X G) → Option Attachment → RoomCall X → Bool → List Item → List Item
   did_where None attached call starved own = own
   did_where (Some m) None call starved own = own
-  did_where (Some m) (Some viewer) call starved own = did m viewer call starved own
+  did_where (Some m) (Some a) call starved own = did m a.viewer call starved own
 
   abbrev pub own : List (Entry (RoomCall X)) → ℕ → List Item
   own [] pass = []

@@ -7,7 +7,7 @@ use Rattle.wire_json.specs.declared.reason.Reason.{Reason}
 use Rattle.wire_json.specs.declared.verdict.Verdict.{Verdict}
 use Rattle.wire_json.specs.declared.verdict.Verdict.TheVariants as verdict
 use Rattle.match_master.specs.declared.call.RoomCall.{RoomCall}
-use Rattle.match_master.specs.declared.call.RoomCall.TheVariants.{Create, Attach, Submit, Take}
+use Rattle.match_master.specs.declared.call.RoomCall.TheVariants.{Create, Join, Attach, Submit, Take, Detach}
 use Rattle.match_master.specs.declared.reply.RoomReply.{RoomReply}
 use Rattle.match_master.specs.declared.reply.RoomReply.TheVariants as answer
 use Rattle.match_master.specs.History.{standing}
@@ -34,6 +34,8 @@ module _ {X G : Type 0} (rules : X → Rules G) (room : ℕ) where
   -- what a reply to an entry's call says of a refusal: something where the call is a submission and the reply a refusing verdict
   abbrev pub Refuses : List (Entry (RoomCall X)) → Entry (RoomCall X) → RoomCall X → RoomReply → Type 0
   Refuses h e (Create game seats seed) reply = Unit {0}
-  Refuses h e (Attach serial claim) reply = Unit {0}
+  Refuses h e (Join serial seat name key) reply = Unit {0}
+  Refuses h e (Attach serial viewer) reply = Unit {0}
   Refuses h e (Submit name key number ticket asked) reply = RefusedWhere h e ticket reply
   Refuses h e Take reply = Unit {0}
+  Refuses h e Detach reply = Unit {0}

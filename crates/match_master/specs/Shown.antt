@@ -1,14 +1,20 @@
--- What is kept of an attachment: who looks, and the bytes that wait.
-use Rattle.std.specs.Prelude.{◌≡◌, ◌≤◌, ◌+◌, ◌==◌, ℕ, zero, suc, Bool, if◌then◌else◌, List, [], ◌∷◌, ◌++◌, map, Option, Some, None, nat_eq, vec_len, vec_capacity}
+-- What is kept of an attachment: who looks at which match, and the bytes that wait.
+use Rattle.std.specs.Prelude.{◌≡◌, ◌==◌, ℕ, zero, suc, Bool, if◌then◌else◌, List, [], ◌∷◌, ◌++◌, map, Option, Some, None, nat_eq}
+use Rattle.std.specs.Map.{lookup}
 use Rattle.indexmap.specs.IndexMap.{insert_entry}
+use Rattle.match_master.specs.Attachment.{Attachment}
+use Rattle.match_master.specs.Viewer.{seat_of}
 use Rattle.match_master.specs.declared.session.Session.{Session}
 
 pub record Shown : Type 0 where
-  pub viewer : Option ℕ
+  pub attachment : Attachment
   pub bytes : List ℕ
 
+abbrev pub attachment_of : Session → Attachment
+attachment_of s = record { viewer = s.viewer; serial = s.serial; protocol = s.protocol; end = s.end }
+
 abbrev pub shown_of : Session → Shown
-shown_of s = record { viewer = s.viewer; bytes = s.waiting.items }
+shown_of s = record { attachment = attachment_of s; bytes = (s.lines).waiting }
 
 abbrev pub shown_entry : ℕ × Session → ℕ × Shown
 shown_entry e = (e.0, shown_of e.1)
@@ -16,48 +22,60 @@ shown_entry e = (e.0, shown_of e.1)
 abbrev pub all_shown : List (ℕ × Session) → List (ℕ × Shown)
 all_shown entries = map shown_entry entries
 
--- a pass's own bytes come after those for all
-abbrev pub with_told : Bool → List ℕ → List ℕ → List ℕ → List ℕ
-with_told own said all bytes = if own then (bytes ++ all) ++ said else bytes ++ all
+-- what an attachment gains: the line for its viewer and, where it is the pass's own, what is said to it alone
+abbrev pub gained : Bool → List ℕ → List ℕ → List ℕ
+gained own said line = if own then line ++ said else line
 
-abbrev pub tell : ℕ → List ℕ → List ℕ → ℕ × Shown → ℕ × Shown
-tell pass said all e = (e.0, record { viewer = (e.1).viewer; bytes = with_told (e.0 == pass) said all (e.1).bytes })
+abbrev pub with_gained : Bool → List ℕ → (Option ℕ → List ℕ) → Shown → Shown
+with_gained own said line s = record s { bytes = s.bytes ++ gained own said (line (seat_of s.attachment.viewer)) }
 
-abbrev pub tell_all : ℕ → List ℕ → List ℕ → List (ℕ × Shown) → List (ℕ × Shown)
-tell_all pass said all entries = map (tell pass said all) entries
+abbrev pub tell : ℕ → List ℕ → (Option ℕ → List ℕ) → ℕ × Shown → ℕ × Shown
+tell pass said line e = (e.0, with_gained (e.0 == pass) said line e.1)
 
--- how many bytes an attachment gains
-abbrev pub needs : Bool → ℕ → ℕ → ℕ
-needs own said all = if own then all + said else all
+abbrev pub tell_all : ℕ → List ℕ → (Option ℕ → List ℕ) → List (ℕ × Shown) → List (ℕ × Shown)
+tell_all pass said line entries = map (tell pass said line) entries
 
-abbrev pub HasRoomAt : ℕ → ℕ → ℕ → ℕ × Session → Type 0
-HasRoomAt pass said all e = vec_len (e.1).waiting + needs (e.0 == pass) said all ≤ vec_capacity (e.1).waiting
+-- what an attachment gains stands ready
+abbrev pub IsReady : ℕ → List ℕ → (Option ℕ → List ℕ) → ℕ × Session → Type 0
+IsReady pass said line e = (e.1).lines.ready ≡ gained (e.0 == pass) said (line (seat_of (e.1).viewer))
 
--- the attachments before a place have room for what they gain
-abbrev pub HaveRoomTo : ℕ → ℕ → ℕ → ℕ → List (ℕ × Session) → Type 0
-HaveRoomTo zero pass said all entries = Unit {0}
-HaveRoomTo (suc place) pass said all [] = Unit {0}
-HaveRoomTo (suc place) pass said all (e ∷ entries) = HasRoomAt pass said all e × HaveRoomTo place pass said all entries
+-- so it is at the attachments before a place
+abbrev pub AreReadyTo : ℕ → ℕ → List ℕ → (Option ℕ → List ℕ) → List (ℕ × Session) → Type 0
+AreReadyTo zero pass said line entries = Unit {0}
+AreReadyTo (suc place) pass said line [] = Unit {0}
+AreReadyTo (suc place) pass said line (e ∷ entries) = IsReady pass said line e × AreReadyTo place pass said line entries
 
--- and those from a place on
-abbrev pub HaveRoomFrom : ℕ → ℕ → ℕ → ℕ → List (ℕ × Session) → Type 0
-HaveRoomFrom place pass said all [] = Unit {0}
-HaveRoomFrom zero pass said all (e ∷ entries) = HasRoomAt pass said all e × HaveRoomFrom zero pass said all entries
-HaveRoomFrom (suc place) pass said all (e ∷ entries) = HaveRoomFrom place pass said all entries
+-- and at those from a place on
+abbrev pub AreReadyFrom : ℕ → ℕ → List ℕ → (Option ℕ → List ℕ) → List (ℕ × Session) → Type 0
+AreReadyFrom place pass said line [] = Unit {0}
+AreReadyFrom zero pass said line (e ∷ entries) = IsReady pass said line e × AreReadyFrom zero pass said line entries
+AreReadyFrom (suc place) pass said line (e ∷ entries) = AreReadyFrom place pass said line entries
 
 -- one attachment is told
-abbrev pub tell_at : ℕ → ℕ → List ℕ → List ℕ → List (ℕ × Shown) → List (ℕ × Shown)
-tell_at place pass said all [] = []
-tell_at zero pass said all (e ∷ entries) = tell pass said all e ∷ entries
-tell_at (suc place) pass said all (e ∷ entries) = e ∷ tell_at place pass said all entries
+abbrev pub tell_at : ℕ → ℕ → List ℕ → (Option ℕ → List ℕ) → List (ℕ × Shown) → List (ℕ × Shown)
+tell_at place pass said line [] = []
+tell_at zero pass said line (e ∷ entries) = tell pass said line e ∷ entries
+tell_at (suc place) pass said line (e ∷ entries) = e ∷ tell_at place pass said line entries
 
 -- the attachments before a place are told
-abbrev pub tell_to : ℕ → ℕ → List ℕ → List ℕ → List (ℕ × Shown) → List (ℕ × Shown)
-tell_to zero pass said all entries = entries
-tell_to (suc place) pass said all [] = []
-tell_to (suc place) pass said all (e ∷ entries) = tell pass said all e ∷ tell_to place pass said all entries
+abbrev pub tell_to : ℕ → ℕ → List ℕ → (Option ℕ → List ℕ) → List (ℕ × Shown) → List (ℕ × Shown)
+tell_to zero pass said line entries = entries
+tell_to (suc place) pass said line [] = []
+tell_to (suc place) pass said line (e ∷ entries) = tell pass said line e ∷ tell_to place pass said line entries
 
--- what waited is handed out, and nothing waits any more; without an attachment there is nothing to take
-abbrev pub TakesOut : ℕ → List ℕ → Option Shown → List (ℕ × Shown) → List (ℕ × Shown) → Type 0
-TakesOut pass bytes None before after = ⊥
-TakesOut pass bytes (Some shown) before after = (bytes ≡ shown.bytes) × (after ≡ insert_entry nat_eq before pass (record shown { bytes = [] }))
+-- a pass's own attachment, where there is one, is told something alone
+abbrev pub say_at : ℕ → List ℕ → Option Shown → List (ℕ × Shown) → List (ℕ × Shown)
+say_at pass said None entries = entries
+say_at pass said (Some shown) entries = insert_entry nat_eq entries pass (record shown { bytes = shown.bytes ++ said })
+
+abbrev pub say : ℕ → List ℕ → List (ℕ × Shown) → List (ℕ × Shown)
+say pass said entries = say_at pass said (lookup (nat_eq pass) entries) entries
+
+-- what waited is handed out with the end of the stream, and nothing waits any more; without an attachment there is nothing to take
+abbrev pub TakesOut : ℕ → List ℕ → Attachment → Option Shown → List (ℕ × Shown) → List (ℕ × Shown) → Type 0
+TakesOut pass bytes a None before after = ⊥
+TakesOut pass bytes a (Some shown) before after = (bytes ≡ shown.bytes) × (a ≡ shown.attachment) × (after ≡ insert_entry nat_eq before pass (record shown { bytes = [] }))
+
+-- a pass is attached no more, and every other one as it was
+abbrev pub Removes : ℕ → List (ℕ × Shown) → List (ℕ × Shown) → Type 0
+Removes pass before after = (q : ℕ) → lookup (nat_eq q) after ≡ (if pass == q then None else lookup (nat_eq q) before)

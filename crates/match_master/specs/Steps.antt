@@ -4,9 +4,11 @@ use Rattle.game_trait.specs.Rules.{Rules}
 use Rattle.room_desk.specs.Entry.{Entry}
 use Rattle.wire_json.specs.declared.reason.Reason.{Reason}
 use Rattle.match_master.specs.declared.call.RoomCall.{RoomCall}
-use Rattle.match_master.specs.declared.call.RoomCall.TheVariants.{Create, Attach, Submit, Take}
+use Rattle.match_master.specs.declared.call.RoomCall.TheVariants.{Create, Join, Attach, Submit, Take, Detach}
 use Rattle.match_master.specs.declared.reply.RoomReply.{RoomReply}
+use Rattle.match_master.specs.Attachment.{Attachment}
 use Rattle.match_master.specs.Match.{Match, number_of}
+use Rattle.match_master.specs.Viewer.{Viewer, seat_of}
 use Rattle.match_master.specs.declared.submission.Submission.{Submission}
 use Rattle.match_master.specs.Verdict.{broken, accept}
 use Rattle.match_master.specs.Lines.{snap, sync_line, update_line, ok_line, no_line}
@@ -21,46 +23,48 @@ and_own true line pieces = Line line ∷ pieces
 and_own false line pieces = pieces
 
 module _ {X G : Type 0} (rules : X → Rules G) (room : ℕ) where
-  -- the line that tells a viewer of the action that led to a match
+  -- the line that tells the player of a seat, or a spectator, of the action that led to a match
   abbrev pub update_of : Match X G → Option ℕ → List ℕ
-  update_of m viewer = update_line (rules m.game).sheet (snap rules m viewer)
+  update_of m seat = update_line (rules m.game).sheet (snap rules m seat)
 
   abbrev pub sync_of : Match X G → Option ℕ → List ℕ
-  sync_of m viewer = sync_line (rules m.game).sheet (name_of rules room m) viewer (snap rules m viewer)
+  sync_of m seat = sync_line (rules m.game).sheet (name_of rules room m) seat (snap rules m seat)
 
-  abbrev pub begun : Option (Match X G) → Result (Option ℕ) RoomReply → List Piece → List Piece
+  abbrev pub begun : Option (Match X G) → Result Viewer RoomReply → List Piece → List Piece
   begun None viewer pieces = pieces
   begun (Some m) (Err why) pieces = pieces
-  begun (Some m) (Ok viewer) pieces = Line (sync_of m viewer) ∷ []
+  begun (Some m) (Ok viewer) pieces = Line (sync_of m (seat_of viewer)) ∷ []
 
   -- what a verdict adds: the update for each viewer, and the verdict for the session's own
-  abbrev pub told : Match X G → Option ℕ → Submission → Option Reason → Bool → Option ℕ → List Piece → List Piece
-  told m caller s (Some reason) own viewer pieces = and_own own (no_line (number_of m) reason s.ticket) pieces
-  told m caller s None own viewer pieces =
-      and_own own (ok_line (number_of m + 1) s.ticket) (Line (update_of (accept rules m caller s) viewer) ∷ pieces)
+  abbrev pub told : Match X G → Viewer → Submission → Option Reason → Bool → Option ℕ → List Piece → List Piece
+  told m caller s (Some reason) own seat pieces = and_own own (no_line (number_of m) reason s.ticket) pieces
+  told m caller s None own seat pieces =
+      and_own own (ok_line (number_of m + 1) s.ticket) (Line (update_of (accept rules m caller s) seat) ∷ pieces)
 
-  abbrev pub told_where : Option (Match X G) → Option (Option ℕ) → Submission → Bool → Option (Option ℕ) → List Piece → List Piece
-  told_where None caller s own viewer pieces = pieces
-  told_where (Some m) None s own viewer pieces = pieces
-  told_where (Some m) (Some seat) s own None pieces = pieces
-  told_where (Some m) (Some seat) s own (Some viewer) pieces = told m seat s (broken rules room m seat s) own viewer pieces
+  abbrev pub told_where : Option (Match X G) → Option Attachment → Submission → Bool → Option Attachment → List Piece → List Piece
+  told_where None caller s own at pieces = pieces
+  told_where (Some m) None s own at pieces = pieces
+  told_where (Some m) (Some c) s own None pieces = pieces
+  told_where (Some m) (Some c) s own (Some a) pieces = told m c.viewer s (broken rules room m c.viewer s) own (seat_of a.viewer) pieces
 
-  abbrev pub marked : Bool → Option (Option ℕ) → List Piece → List Piece
-  marked false viewer pieces = pieces
+  abbrev pub marked : Bool → Option Attachment → List Piece → List Piece
+  marked false at pieces = pieces
   marked true None pieces = pieces
-  marked true (Some viewer) pieces = Mark ∷ pieces
+  marked true (Some a) pieces = Mark ∷ pieces
 
-  abbrev pub begun_where : Bool → Option (Match X G) → Option (Option ℕ) → ℕ → Option (ℕ × List ℕ) → List Piece → List Piece
-  begun_where false standing viewer serial claim pieces = pieces
-  begun_where true standing viewer serial claim pieces = begun standing (attach standing viewer serial claim) pieces
+  abbrev pub begun_where : Bool → Option (Match X G) → Option Attachment → ℕ → Viewer → List Piece → List Piece
+  begun_where false standing at serial viewer pieces = pieces
+  begun_where true standing at serial viewer pieces = begun standing (attach standing at serial viewer) pieces
 
   -- what a call makes of the pieces of an attachment: `own` says that the call is its own
-  abbrev pub pieces_after : Option (Match X G) → Option (Option ℕ) → Bool → Option (Option ℕ) → List Piece → RoomCall X → List Piece
-  pieces_after standing caller own viewer pieces (Create game seats seed) = pieces
-  pieces_after standing caller own viewer pieces (Attach serial claim) = begun_where own standing viewer serial claim pieces
-  pieces_after standing caller own viewer pieces (Submit name key number ticket asked) =
-      told_where standing caller (record { name = name; key = key; number = number; ticket = ticket; asked = asked }) own viewer pieces
-  pieces_after standing caller own viewer pieces Take = marked own viewer pieces
+  abbrev pub pieces_after : Option (Match X G) → Option Attachment → Bool → Option Attachment → List Piece → RoomCall X → List Piece
+  pieces_after standing caller own at pieces (Create game seats seed) = pieces
+  pieces_after standing caller own at pieces (Join serial seat name key) = pieces
+  pieces_after standing caller own at pieces (Attach serial viewer) = begun_where own standing at serial viewer pieces
+  pieces_after standing caller own at pieces (Submit name key number ticket asked) =
+      told_where standing caller (record { name = name; key = key; number = number; ticket = ticket; asked = asked }) own at pieces
+  pieces_after standing caller own at pieces Take = marked own at pieces
+  pieces_after standing caller own at pieces Detach = pieces
 
   abbrev pub pieces : List (Entry (RoomCall X)) → ℕ → List Piece
   pieces [] pass = []

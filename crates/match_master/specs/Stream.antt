@@ -1,4 +1,5 @@
--- The stream of a session, made of what its viewer was shown and what the session did, and of nothing else.
+-- The stream of a session, made of the match's name, the sheet, who looks with which key, what that viewer was shown and what the
+-- session did, and of nothing else.
 -- Lists have the latest first: snapshots, items and pieces.
 use Rattle.std.specs.Prelude.{ℕ, ◌+◌, ◌==◌, List, [], ◌∷◌, ◌++◌, Bool, true, ◌&&◌, if◌then◌else◌, nat_lt, nat_le, filter, map, Option, Some, None}
 use Rattle.game_sheet.specs.MatchName.{Name}
@@ -7,6 +8,7 @@ use Rattle.player_sight.specs.SnapshotData.{Snap}
 use Rattle.wire_json.specs.declared.reason.Reason.{Reason}
 use Rattle.match_master.specs.Lines.{sync_line, update_line, ok_line, no_line}
 use Rattle.match_master.specs.Rule.{public}
+use Rattle.match_master.specs.Viewer.{Viewer, seat_of, fits}
 use Rattle.match_master.specs.declared.submission.Submission.{Submission}
 
 -- what the game answered to a submission that broke no public rule
@@ -57,14 +59,14 @@ updates sheet low high sight = map (λ s. Line (update_line sheet s)) (filter (�
 abbrev pub later_updates : Sheet → ℕ → List Snap → List Piece
 later_updates sheet low sight = map (λ s. Line (update_line sheet s)) (filter (λ (s : Snap). nat_lt low s.number) sight)
 
-module _ (name : Name) (sheet : Sheet) (viewer : Option ℕ) where
+module _ (name : Name) (sheet : Sheet) (viewer : Viewer) where
   abbrev pub is_same : Name → Bool
   is_same other = (other.room == name.room) && (other.serial == name.serial)
 
   -- the public rule that a submission breaks on a snapshot
   abbrev pub broken_on : Option Snap → Submission → Option Reason
   broken_on None s = None
-  broken_on (Some shown) s = public sheet shown.ctx shown.number (is_same s.name) viewer true s.asked s.number
+  broken_on (Some shown) s = public sheet shown.ctx shown.number (is_same s.name) (seat_of viewer) (fits viewer s.key) s.asked s.number
 
   abbrev pub says_game : ℕ → ℕ → GameAnswer → List Snap → List Piece
   says_game n ticket Unasked sight = []
@@ -88,7 +90,7 @@ module _ (name : Name) (sheet : Sheet) (viewer : Option ℕ) where
 
   abbrev pub first_piece : Option Snap → List Piece
   first_piece None = []
-  first_piece (Some s) = Line (sync_line sheet name viewer s) ∷ []
+  first_piece (Some s) = Line (sync_line sheet name (seat_of viewer) s) ∷ []
 
   abbrev pub start_of : Option Snap → ℕ
   start_of None = 0

@@ -15,6 +15,7 @@ use Rattle.wire_json.specs.declared.reason.Reason.TheVariants.{NothingToUndo, No
 use Rattle.match_master.specs.declared.submission.Submission.{Submission}
 use Rattle.match_master.specs.Match.{Match, table_of, number_of}
 use Rattle.match_master.specs.Rule.{public}
+use Rattle.match_master.specs.Viewer.{Viewer, seat_of, fits}
 
 abbrev pub reason_of : GameRule → Reason
 reason_of rule.NothingToUndo = NothingToUndo
@@ -35,10 +36,10 @@ or_else None later = later
 or_else (Some reason) later = Some reason
 
 module _ {X G : Type 0} (rules : X → Rules G) where
-  -- the public rule that a viewer's submission breaks
-  abbrev pub public_broken : ℕ → Match X G → Option ℕ → Submission → Option Reason
+  -- the public rule that a viewer's submission breaks; the key is to be that of the viewer's seat
+  abbrev pub public_broken : ℕ → Match X G → Viewer → Submission → Option Reason
   public_broken room m viewer s =
-      public (rules m.game).sheet (table_of rules m).ctx (number_of m) (is_named room m.serial s.name) viewer true s.asked s.number
+      public (rules m.game).sheet (table_of rules m).ctx (number_of m) (is_named room m.serial s.name) (seat_of viewer) (fits viewer s.key) s.asked s.number
 
   abbrev pub answered : Match X G → Option ℕ → Option Act → Option GameRule
   answered m None act = None
@@ -46,11 +47,11 @@ module _ {X G : Type 0} (rules : X → Rules G) where
   answered m (Some seat) (Some act) = answer (rules m.game) m.first m.accepted seat act
 
   -- the game's own refusal
-  abbrev pub game_broken : Match X G → Option ℕ → Submission → Option Reason
-  game_broken m viewer s = option_map reason_of (answered m viewer (act_of (rules m.game).sheet s.asked))
+  abbrev pub game_broken : Match X G → Viewer → Submission → Option Reason
+  game_broken m viewer s = option_map reason_of (answered m (seat_of viewer) (act_of (rules m.game).sheet s.asked))
 
   -- the first rule that a submission breaks
-  abbrev pub broken : ℕ → Match X G → Option ℕ → Submission → Option Reason
+  abbrev pub broken : ℕ → Match X G → Viewer → Submission → Option Reason
   broken room m viewer s = or_else (public_broken room m viewer s) (game_broken m viewer s)
 
   abbrev pub with_act : Match X G → Option ℕ → Option Act → Match X G
@@ -59,5 +60,5 @@ module _ {X G : Type 0} (rules : X → Rules G) where
   with_act m (Some seat) (Some act) = record m { accepted = record { seat = seat; act = act } ∷ m.accepted }
 
   -- the match after an accepted submission
-  abbrev pub accept : Match X G → Option ℕ → Submission → Match X G
-  accept m viewer s = with_act m viewer (act_of (rules m.game).sheet s.asked)
+  abbrev pub accept : Match X G → Viewer → Submission → Match X G
+  accept m viewer s = with_act m (seat_of viewer) (act_of (rules m.game).sheet s.asked)

@@ -1,20 +1,23 @@
-//! A room's book: its one match, who is attached, and what waits for each.
+//! A room's book: its one match, who sits there and who is attached, and what waits for each.
 
-ghost use Rattle.std.specs.Prelude.{◌≡◌, ◌≤◌, ◌<◌, ◌∷◌, ℕ, List, [], Option, None, Some, IfOk, true, false, MatchBool, MatchOption, IsSome, IfSome, nat_lt, if◌then◌else◌, option_map, nat_eq};
+ghost use Rattle.std.specs.Prelude.{◌≡◌, ◌≤◌, ◌<◌, ◌∷◌, ℕ, List, [], Option, None, Some, IfOk, true, false, MatchBool, MatchOption, IsSome, IfSome, nat_lt, if◌then◌else◌, option_map, is_some, result_map, nat_eq};
 ghost use Rattle.std.specs.Map.{lookup};
 ghost use Rattle.indexmap.specs.IndexMap.{insert_entry};
 ghost use Rattle.reducer.specs.Sound.{IsSound};
 ghost use Rattle.match_master.specs.declared.kept.Kept.{Kept as Keeps};
 ghost use Rattle.match_master.specs.declared.reply.RoomReply.TheVariants as answer;
 ghost use Rattle.wire_json.specs.declared.verdict.Verdict.TheVariants as verdict;
-ghost use Rattle.match_master.specs.Calls.{create, create_reply, attach, attach_at, attach_reply};
+ghost use Rattle.match_master.specs.Attachment.{Attachment, begun_by};
+ghost use Rattle.match_master.specs.Calls.{create, create_reply, joined, join_reply, refused_as, attach, attach_at, attach_reply, detach_reply};
 ghost use Rattle.match_master.specs.Match.{Match};
 ghost use Rattle.room_desk.specs.Entry.{Entry as Made};
 ghost use Rattle.match_master.specs.declared.call.RoomCall.{RoomCall as Asks};
 ghost use Rattle.match_master.specs.Refusal.{Refuses};
 ghost use Rattle.match_master.specs.Reply.{reply};
 ghost use Rattle.match_master.specs.Held.{Held, StandsFor, kept_of, is_starved, may_starve};
-ghost use Rattle.match_master.specs.Does.{Does, SubmitDoes, viewer_in, with_refused, with_accepted, after_create, after_attach, after_take, taken_of, sync_text};
+ghost use Rattle.match_master.specs.Does.{Does, Detaches, SubmitDoes, attached_in, viewer_in, with_refused, with_accepted, after_create, after_join, after_attach, after_take, taken_of, sync_text};
+ghost use Rattle.match_master.specs.Viewer.{seat_of};
+ghost use Rattle.seat_roster.specs.Roster.{free_seats};
 
 use crate::call::RoomCall;
 use crate::judge::{Judged, judge};
@@ -23,11 +26,13 @@ use crate::line;
 use crate::reply::RoomReply;
 use crate::session::{self, Sessions};
 use crate::submission::Submission;
-use game_sheet::{Bytes, Key, List, MatchName, NoMemory, Number, Seat};
+use crate::telling::prepare_updates;
+use game_sheet::{Bytes, Key, List, MatchName, NoMemory, Number, Seat, Text};
 use game_trait::Game;
 use indexmap::IndexMap;
 use move_log::Entry;
 use reducer::{StartNo, State, start};
+use seat_roster::{Roster, RosterNo};
 use std::alloc::Global;
 use std::marker::Model;
 use wire_json::{Reason, Verdict};
@@ -74,7 +79,7 @@ impl<X: Game + Drop> Book<X> {
     ///
     /// A book that stands for a history of its room answers the reply to the entry of this call after it, and then stands
     /// for the history with the entry. A refused action leaves the match and every other pass's lines as they were. After
-    /// `NoMemory` nothing has changed; a Take takes no memory.
+    /// `NoMemory` nothing has changed; a Take and a Detach take no memory.
     pub fn apply(&mut self, pass: u32, call: RoomCall<X>) -> RoomReply
         ensures room { self.new.room ≡ self.old.room }
         ensures answered { (h : List (Made (Asks X))) → StandsFor X.rules self.old h → result ≡ reply X.rules self.old.room h (record { pass = pass; call = call; starved = is_starved result }) }
@@ -84,6 +89,12 @@ impl<X: Game + Drop> Book<X> {
     {
         match call {
             RoomCall::Create { game, seats, seed } => self.create(game, seats, &seed),
+            RoomCall::Join {
+                serial,
+                seat,
+                name,
+                key,
+            } => self.join(serial, seat, name, key),
             RoomCall::Attach { serial, viewer } => self.attach(pass, serial, viewer),
             RoomCall::Submit {
                 name,
@@ -102,6 +113,7 @@ impl<X: Game + Drop> Book<X> {
                 },
             ),
             RoomCall::Take => self.take(pass),
+            RoomCall::Detach => self.detach(pass),
         }
     }
 
@@ -118,18 +130,49 @@ impl<X: Game + Drop> Book<X> {
             Err(StartNo::BadSeats) => RoomReply::BadSeats,
             Err(StartNo::NoStart(_)) => RoomReply::NoStart,
             Err(StartNo::NoMemory) => RoomReply::NoMemory,
-            Ok(state) => {
-                let serial = self.serials + 1;
-                self.serials = serial;
-                self.kept = Some(Kept {
-                    game,
-                    seats,
-                    serial,
-                    state,
-                    log: List::new(self.alloc),
-                });
-                RoomReply::Created { serial }
-            }
+            Ok(state) => self.keep(game, seats, state),
+        }
+    }
+
+    /// Keeps a match that has just begun, with all its seats free.
+    fn keep(&mut self, game: X, seats: u8, state: State<X::G>) -> RoomReply
+        requires room { self.old.serials < 18446744073709551615 }
+        requires sound { IsSound (X.rules game) state }
+        ensures room { self.new.room ≡ self.old.room }
+        ensures does { Does self.old result self.new (answer.Created (self.old.serials + 1))
+            (record self.old { serials = self.old.serials + 1; kept = Some (record { game = game; seats = seats; serial = self.old.serials + 1; state = state; log = []; roster = free_seats seats }) }) }
+    {
+        let Ok(roster) = Roster::new(self.alloc, seats) else {
+            return RoomReply::NoMemory;
+        };
+        let serial = self.serials + 1;
+        self.serials = serial;
+        self.kept = Some(Kept {
+            game,
+            seats,
+            serial,
+            state,
+            log: List::new(self.alloc),
+            roster,
+        });
+        RoomReply::Created { serial }
+    }
+
+    /// Seats a player at a free seat of the match that stands.
+    fn join(&mut self, serial: u64, seat: Seat, name: Text, key: Key) -> RoomReply
+        ensures room { self.new.room ≡ self.old.room }
+        ensures does { (standing : Option (Match X X.G)) → self.old.kept ≡ option_map (kept_of X.rules) standing
+            → Does self.old result self.new (join_reply (joined standing serial seat name key)) (after_join X.rules self.old (joined standing serial seat name key)) }
+    {
+        let Some(kept) = &mut self.kept else {
+            return RoomReply::NoMatch;
+        };
+        if kept.serial != serial {
+            return RoomReply::NoMatch;
+        }
+        match kept.join(seat, name, key) {
+            Ok(()) => RoomReply::Joined,
+            Err(why) => refused_as(why),
         }
     }
 
@@ -142,10 +185,23 @@ impl<X: Game + Drop> Book<X> {
     {
         match session::take(self.alloc, &mut self.sessions, pass) {
             None => RoomReply::NotAttached,
-            Some(bytes) => RoomReply::Taken {
+            Some((bytes, end)) => RoomReply::Taken {
                 bytes: Bytes::from_vec(bytes),
-                end: None,
+                end,
             },
+        }
+    }
+
+    /// Ends the attachment of a pass.
+    fn detach(&mut self, pass: u32) -> RoomReply
+        ensures room { self.new.room ≡ self.old.room }
+        ensures reply { result ≡ detach_reply (attached_in self.old pass) }
+        ensures detaches { Detaches pass self.old self.new }
+    {
+        if session::detach(&mut self.sessions, pass) {
+            RoomReply::Detached
+        } else {
+            RoomReply::NotAttached
         }
     }
 
@@ -157,12 +213,9 @@ impl<X: Game + Drop> Book<X> {
         let Ok(said) = line::no(self.alloc, number, reason, ticket) else {
             return RoomReply::NoMemory;
         };
-        match session::reserve(&mut self.sessions, pass, said.len(), 0) {
+        match session::tell_own(&mut self.sessions, pass, said.as_slice()) {
             Err(_) => RoomReply::NoMemory,
-            Ok(()) => {
-                session::deliver(&mut self.sessions, pass, said.as_slice(), &[]);
-                RoomReply::Verdict(Verdict::No { number, reason })
-            }
+            Ok(()) => RoomReply::Verdict(Verdict::No { number, reason }),
         }
     }
 
@@ -177,13 +230,18 @@ impl<X: Game + Drop> Book<X> {
             unreachable!();
         };
         let number = state.number();
-        let Ok(update) = line::update(self.alloc, &kept.game, &state, &entry) else {
-            return RoomReply::NoMemory;
-        };
         let Ok(said) = line::ok(self.alloc, number, ticket) else {
             return RoomReply::NoMemory;
         };
-        let Ok(()) = session::reserve(&mut self.sessions, pass, said.len(), update.len()) else {
+        let Ok(()) = prepare_updates(
+            self.alloc,
+            &kept.game,
+            &state,
+            &entry,
+            &mut self.sessions,
+            pass,
+            said.as_slice(),
+        ) else {
             return RoomReply::NoMemory;
         };
         let Some(kept) = &mut self.kept else {
@@ -192,7 +250,7 @@ impl<X: Game + Drop> Book<X> {
         let Ok(()) = kept.advance(state, entry) else {
             return RoomReply::NoMemory;
         };
-        session::deliver(&mut self.sessions, pass, said.as_slice(), update.as_slice());
+        session::send_all(&mut self.sessions, pass, said.as_slice());
         RoomReply::Verdict(Verdict::Ok { number })
     }
 
@@ -222,79 +280,86 @@ impl<X: Game + Drop> Book<X> {
     }
 
     /// Attaches a pass to the match that stands.
-    fn attach(&mut self, pass: u32, serial: u64, claim: Option<(Seat, Key)>) -> RoomReply
+    fn attach(&mut self, pass: u32, serial: u64, viewer: Option<(Seat, Key)>) -> RoomReply
         ensures room { self.new.room ≡ self.old.room }
         ensures does { (standing : Option (Match X X.G)) → self.old.kept ≡ option_map (kept_of X.rules) standing
-            → Does self.old result self.new (attach_reply (attach standing (viewer_in self.old pass) serial claim)) (after_attach X.rules self.old pass standing (attach standing (viewer_in self.old pass) serial claim)) }
+            → Does self.old result self.new (attach_reply (attach standing (attached_in self.old pass) serial viewer)) (after_attach X.rules self.old pass serial standing (attach standing (attached_in self.old pass) serial viewer)) }
     {
-        let before = session::viewer_of(&self.sessions, pass);
-        match admit(place_of(&self.kept), before, serial, &claim) {
+        let before = session::is_attached(&self.sessions, pass);
+        match admitted(&self.kept, before, serial, &viewer) {
             Err(why) => why,
-            Ok(viewer) => self.begin(pass, viewer),
+            Ok(()) => self.begin(pass, viewer),
         }
     }
 
     /// Attaches a viewer to the match that stands.
-    fn begin(&mut self, pass: u32, viewer: Option<Seat>) -> RoomReply
+    fn begin(&mut self, pass: u32, viewer: Option<(Seat, Key)>) -> RoomReply
         requires { IsSome self.old.kept }
         ensures room { self.new.room ≡ self.old.room }
         ensures does { IfSome self.old.kept (λ k. Does self.old result self.new answer.Attached
-            (record self.old { sessions = insert_entry nat_eq self.old.sessions pass (record { viewer = viewer; bytes = sync_text X.rules self.old.room k viewer }) })) }
+            (record self.old { sessions = insert_entry nat_eq self.old.sessions pass (record { attachment = begun_by viewer k.serial; bytes = sync_text X.rules self.old.room k (seat_of viewer) }) })) }
     {
         let Some(kept) = &self.kept else {
             unreachable!();
         };
-        let name = MatchName::new(self.room, kept.serial);
+        let serial = kept.serial;
+        let name = MatchName::new(self.room, serial);
+        let seat = match &viewer {
+            None => None,
+            Some((seat, _)) => Some(*seat),
+        };
         let Ok(line) = line::sync(
             self.alloc,
             &kept.game,
             name,
-            viewer,
+            seat,
             &kept.state,
             kept.log.as_slice(),
         ) else {
             return RoomReply::NoMemory;
         };
-        match session::attach(&mut self.sessions, pass, viewer, line) {
+        match session::attach(&mut self.sessions, pass, viewer, serial, line) {
             Ok(()) => RoomReply::Attached,
             Err(_) => RoomReply::NoMemory,
         }
     }
 }
 
-/// The serial and the seats of the match that is kept.
-fn place_of<X, G>(kept: &Option<Kept<X, G>>) -> Option<(u64, u8)>
-    ensures { result ≡ option_map (λ k. (k.serial, k.seats)) kept.now }
+/// The word for a rule of the seats that is broken.
+fn refused_as(why: RosterNo) -> RoomReply
+    ensures { result ≡ refused_as why }
 {
-    match kept {
-        None => None,
-        Some(kept) => Some((kept.serial, kept.seats)),
+    match why {
+        RosterNo::NoSeat => RoomReply::NoSeat,
+        RosterNo::SeatTaken => RoomReply::SeatTaken,
+        RosterNo::BadName => RoomReply::BadName,
+        RosterNo::Unauthorized => RoomReply::Unauthorized,
     }
 }
 
-/// Who an Attach lets look, or why it lets nobody in.
-fn admit(
-    at: Option<(u64, u8)>,
-    before: Option<Option<Seat>>,
+/// Whether an Attach lets a viewer look at the match that is kept, or why it doesn't.
+fn admitted<X, G>(
+    kept: &Option<Kept<X, G>>,
+    before: bool,
     serial: u64,
-    claim: &Option<(Seat, Key)>,
-) -> Result<Option<Seat>, RoomReply>
-    ensures { result ≡ attach_at at before serial claim.now }
+    viewer: &Option<(Seat, Key)>,
+) -> Result<(), RoomReply>
+    ensures { (attached : Option Attachment) → before ≡ is_some attached → result_map (λ _. viewer.now) result ≡ attach_at (option_map (λ k. (k.serial, k.roster)) kept.now) attached serial viewer.now }
 {
-    if before.is_some() {
+    if before {
         return Err(RoomReply::AlreadyAttached);
     }
-    let Some((standing, seats)) = at else {
+    let Some(kept) = kept else {
         return Err(RoomReply::NoMatch);
     };
-    if standing != serial {
+    if kept.serial != serial {
         return Err(RoomReply::NoMatch);
     }
-    match claim {
-        None => Ok(None),
-        Some((seat, _)) => {
-            if *seat < seats {
-                Ok(Some(*seat))
+    match viewer {
+        None => Ok(()),
+        Some((seat, key)) => {
+            if kept.roster.key_fits(*seat, key) {
+                Ok(())
             } else {
                 Err(RoomReply::Unauthorized)
             }

@@ -1,6 +1,6 @@
 //! What a room is asked.
 
-use game_sheet::{Key, MatchName, Number, Seat};
+use game_sheet::{Key, MatchName, Number, Seat, Text};
 use wire_json::Asked;
 
 /// One call on a room, made by a pass.
@@ -14,6 +14,17 @@ pub enum RoomCall<X> {
         seats: u8,
         /// The seed of its random words.
         seed: [u8; 32],
+    },
+    /// Seats a player at a free seat of the match that stands.
+    Join {
+        /// The match's serial.
+        serial: u64,
+        /// The seat.
+        seat: Seat,
+        /// The player's name.
+        name: Text,
+        /// The key that the seat's sessions show from now on.
+        key: Key,
     },
     /// Attaches the pass to the match that stands.
     Attach {
@@ -37,4 +48,6 @@ pub enum RoomCall<X> {
     },
     /// Takes what waits for the attached session.
     Take,
+    /// Ends the pass's attachment. What waits is lost.
+    Detach,
 }

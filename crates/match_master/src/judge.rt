@@ -8,11 +8,12 @@ ghost use Rattle.match_master.specs.Held.{kept_of};
 ghost use Rattle.match_master.specs.Rule.{public};
 ghost use Rattle.match_master.specs.Judged.{IsJudged, JudgedInOrder};
 ghost use Rattle.match_master.specs.Verdict.{reason_of, is_named, public_broken};
+ghost use Rattle.match_master.specs.Viewer.{seat_of, fits};
 
 use crate::kept::Kept;
 use crate::rule::public_rule;
 use crate::submission::Submission;
-use game_sheet::{Act, GameNo, GameRule, MatchName, NoMemory, Seat};
+use game_sheet::{Act, GameNo, GameRule, Key, MatchName, NoMemory, Seat};
 use game_trait::Game;
 use move_log::Entry;
 use reducer::{State, step};
@@ -38,7 +39,7 @@ pub fn judge<X: Game>(
     alloc: Global,
     room: u8,
     kept: &Kept<X, X::G>,
-    viewer: Option<Seat>,
+    viewer: Option<(Seat, Key)>,
     submission: &Submission,
 ) -> Result<Judged<X::G>, NoMemory>
     requires { IsSound (X.rules kept.now.game) kept.now.state }
@@ -55,10 +56,10 @@ pub fn judge<X: Game>(
 fn check<X: Game>(
     room: u8,
     kept: &Kept<X, X::G>,
-    viewer: Option<Seat>,
+    viewer: Option<(Seat, Key)>,
     submission: &Submission,
 ) -> Option<Reason>
-    ensures { result ≡ public (X.rules kept.now.game).sheet kept.now.state.table.ctx kept.now.state.number (is_named room kept.now.serial submission.now.name) viewer true submission.now.asked submission.now.number }
+    ensures { result ≡ public (X.rules kept.now.game).sheet kept.now.state.table.ctx kept.now.state.number (is_named room kept.now.serial submission.now.name) (seat_of viewer) (fits viewer submission.now.key) submission.now.asked submission.now.number }
 {
     let state = &kept.state;
     public_rule(
@@ -66,8 +67,8 @@ fn check<X: Game>(
         state.ctx(),
         state.number(),
         names(room, kept.serial, &submission.name),
-        viewer,
-        true,
+        seat_of(&viewer),
+        fits(&viewer, &submission.key),
         &submission.asked,
         submission.number,
     )
@@ -80,21 +81,41 @@ fn names(room: u8, serial: u64, name: &MatchName) -> bool
     name.room() == room && name.serial() == serial
 }
 
+/// The seat that looks; none for a spectator.
+fn seat_of(viewer: &Option<(Seat, Key)>) -> Option<Seat>
+    ensures { result ≡ seat_of viewer.now }
+{
+    match viewer {
+        None => None,
+        Some((seat, _)) => Some(*seat),
+    }
+}
+
+/// Whether a key is that of the viewer's seat; a spectator has none.
+fn fits(viewer: &Option<(Seat, Key)>, key: &Key) -> bool
+    ensures { result ≡ fits viewer.now key.now }
+{
+    match viewer {
+        None => false,
+        Some((_, own)) => own.is(key),
+    }
+}
+
 /// What the game makes of a submission that breaks no public rule.
 fn play<X: Game>(
     alloc: Global,
     room: u8,
     kept: &Kept<X, X::G>,
-    viewer: Option<Seat>,
+    viewer: Option<(Seat, Key)>,
     submission: &Submission,
 ) -> Result<Judged<X::G>, NoMemory>
     requires sound { IsSound (X.rules kept.now.game) kept.now.state }
-    requires admitted { IsAdmitted (X.rules kept.now.game).sheet kept.now.state.table.ctx kept.now.state.number viewer submission.now.asked }
+    requires admitted { IsAdmitted (X.rules kept.now.game).sheet kept.now.state.table.ctx kept.now.state.number (seat_of viewer) submission.now.asked }
     ensures sound { IfOk result (JudgedInOrder (X.rules kept.now.game)) }
     ensures judged { IfOk result (λ judged. (m : Match X X.G) → kept.now ≡ kept_of X.rules m → public_broken X.rules room m viewer submission.now ≡ None → IsJudged X.rules room m viewer submission.now judged) }
 {
     let _room = room;
-    let Some(seat) = viewer else {
+    let Some(seat) = seat_of(&viewer) else {
         unreachable!();
     };
     let Some(act) = resolve(kept.game.sheet(), &submission.asked) else {

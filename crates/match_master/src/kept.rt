@@ -1,12 +1,14 @@
 //! What a room keeps of the match that stands.
 
-ghost use Rattle.std.specs.Prelude.{◌≡◌, ◌∷◌, ◌++◌, [], OnOk, OnErr};
+ghost use Rattle.std.specs.Prelude.{◌≡◌, ◌∷◌, ◌++◌, [], OnOk, OnErr, IfErr, Ok, Err};
+ghost use Rattle.seat_roster.specs.Roster.{join};
 
-use game_sheet::{List, NoMemory};
+use game_sheet::{Key, List, NoMemory, Seat, Text};
 use move_log::Entry;
 use reducer::State;
+use seat_roster::{Roster, RosterNo};
 
-/// The match that stands: its game, its state, and its log.
+/// The match that stands: its game, its state, its log, and who sits at its seats.
 #[derive(Drop)]
 pub struct Kept<X, G> {
     /// The game.
@@ -19,6 +21,8 @@ pub struct Kept<X, G> {
     pub state: State<G>,
     /// The accepted actions, the oldest first.
     pub log: List<Entry>,
+    /// Who sits at its seats.
+    pub roster: Roster,
 }
 
 impl<X, G: Drop> Kept<X, G> {
@@ -34,5 +38,14 @@ impl<X, G: Drop> Kept<X, G> {
             }
             Err(_) => Err(NoMemory),
         }
+    }
+
+    /// Seats a player at a free seat. It takes no memory.
+    pub fn join(&mut self, seat: Seat, name: Text, key: Key) -> Result<(), RosterNo>
+        ensures ok { OnOk result ((join self.old.roster seat name key ≡ Ok self.new.roster) × (self.new ≡ record self.old { roster = self.new.roster })) }
+        ensures refused { IfErr result (λ why. join self.old.roster seat name key ≡ Err why) }
+        ensures unchanged { OnErr result (self.new ≡ self.old) }
+    {
+        self.roster.join(seat, name, key)
     }
 }

@@ -7,10 +7,12 @@ mod judge;
 mod kept;
 mod line;
 mod object;
+mod outbox;
 mod reply;
 mod rule;
 mod session;
 mod submission;
+mod telling;
 
 pub use book::Book;
 pub use call::RoomCall;

@@ -1,15 +1,11 @@
 //! The lines of a session, made of the state of the match.
 
-ghost use Rattle.std.specs.Prelude.{◌≡◌, IfOk, codes};
-ghost use Rattle.game_sheet.specs.SheetFits.{SheetFits};
-ghost use Rattle.player_sight.specs.SnapshotData.{Snap};
-ghost use Rattle.player_sight.specs.CtxData.{ctx_data};
-ghost use Rattle.player_sight.specs.EntryData.{entry_data};
-ghost use Rattle.wire_json.specs.ServerText.{text};
-ghost use Rattle.wire_json.specs.declared.server.ServerMsg.TheVariants.{Update};
+ghost use Rattle.std.specs.Prelude.{◌≡◌, IfOk, map};
+ghost use Rattle.move_log.specs.Redact.{redact};
+ghost use Rattle.match_master.specs.Does.{seen, update_text};
 ghost use Rattle.match_master.specs.Lines.{sync_line, ok_line, no_line};
 
-use game_sheet::{MatchName, NoMemory, Number, Seat};
+use game_sheet::{List, MatchName, NoMemory, Number, Seat, Sheet};
 use game_trait::Game;
 use json_tree::Tree;
 use move_log::Entry;
@@ -18,41 +14,57 @@ use reducer::State;
 use std::alloc::Global;
 use wire_json::{Reason, ServerMsg, write_server};
 
-/// The line that begins a session: the whole state, and the log.
+/// The line that begins a session: the whole state as its viewer sees it, and the log.
 pub fn sync<X: Game>(
     alloc: Global,
     game: &X,
     name: MatchName,
-    viewer: Option<Seat>,
+    seat: Option<Seat>,
     state: &State<X::G>,
     log: &[Entry],
 ) -> Result<Vec<u8>, NoMemory>
-    ensures { IfOk result (λ line. line.items ≡ sync_line (X.rules game.now).sheet name viewer
-        (record { number = state.now.number; ctx = state.now.table.ctx; g = (X.rules game.now).value state.now.table.g; log = log.now })) }
+    ensures { IfOk result (λ line. line.items ≡ sync_line (X.rules game.now).sheet name seat (seen (X.rules game.now) state.now log.now seat)) }
 {
-    let g = game.to_value(alloc, state.g())?;
-    let value = snapshot_value(alloc, game.sheet(), state.number(), state.ctx(), g, log)?;
+    let sheet = game.sheet();
+    let seen = game.view(alloc, state.g(), state.ctx(), seat)?;
+    let g = game.to_value(alloc, &seen)?;
+    let log = redacted(alloc, sheet, log, seat)?;
+    let value = snapshot_value(alloc, sheet, state.number(), state.ctx(), g, log.as_slice())?;
     let message = ServerMsg::Sync {
         name,
-        seat: viewer,
+        seat,
         snapshot: Tree::new(value),
     };
     write_server(alloc, &message)
 }
 
-/// The line of an accepted action: its entry of the log, and the state after it.
+/// The log as a viewer sees it.
+fn redacted(alloc: Global, sheet: &Sheet, log: &[Entry], seat: Option<Seat>) -> Result<List<Entry>, NoMemory>
+    ensures { IfOk result (λ entries. entries ≡ map (redact sheet.now seat) log.now) }
+{
+    let mut entries = List::new(alloc);
+    for entry in log {
+        entries.push(entry.redacted(alloc, sheet, seat)?)?;
+    }
+    Ok(entries)
+}
+
+/// The line of an accepted action as a viewer sees it: its entry of the log, and the state after it.
 pub fn update<X: Game>(
     alloc: Global,
     game: &X,
     state: &State<X::G>,
     entry: &Entry,
+    seat: Option<Seat>,
 ) -> Result<Vec<u8>, NoMemory>
-    ensures { IfOk result (λ line. line.items ≡ text (Update (ctx_data (X.rules game.now).sheet state.now.table.ctx) (entry_data (X.rules game.now).sheet entry.now)
-        ((X.rules game.now).value state.now.table.g) state.now.number)) }
+    ensures { IfOk result (λ line. line.items ≡ update_text (X.rules game.now) state.now entry.now seat) }
 {
-    let g = game.to_value(alloc, state.g())?;
-    let ctx = ctx_value(alloc, game.sheet(), state.ctx())?;
-    let entry = entry_value(alloc, game.sheet(), entry)?;
+    let sheet = game.sheet();
+    let seen = game.view(alloc, state.g(), state.ctx(), seat)?;
+    let g = game.to_value(alloc, &seen)?;
+    let ctx = ctx_value(alloc, sheet, state.ctx())?;
+    let entry = entry.redacted(alloc, sheet, seat)?;
+    let entry = entry_value(alloc, sheet, &entry)?;
     let message = ServerMsg::Update {
         ctx: Tree::new(ctx),
         entry: Tree::new(entry),

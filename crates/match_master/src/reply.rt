@@ -11,6 +11,8 @@ pub enum RoomReply {
         /// Its serial, from 1.
         serial: u64,
     },
+    /// The player sits at the seat.
+    Joined,
     /// The pass is attached.
     Attached,
     /// What became of the action.
@@ -22,6 +24,8 @@ pub enum RoomReply {
         /// How the session ended, if it has.
         end: Option<Bye>,
     },
+    /// The pass is attached no more.
+    Detached,
     /// A match stands already, or the room has used up its serials.
     Busy,
     /// The game isn't played by that many seats.
@@ -30,9 +34,15 @@ pub enum RoomReply {
     NoStart,
     /// No such match stands.
     NoMatch,
+    /// The match has no such seat.
+    NoSeat,
+    /// Somebody sits at the seat.
+    SeatTaken,
+    /// The name hasn't 1 to 32 bytes, or one of them is below 32.
+    BadName,
     /// The pass is attached already.
     AlreadyAttached,
-    /// The match has no such seat.
+    /// The key isn't that of a player at the seat.
     Unauthorized,
     /// The pass isn't attached.
     NotAttached,

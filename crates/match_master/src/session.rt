@@ -1,32 +1,73 @@
-//! The attachments of a room: who looks, and the lines that wait for each.
+//! The attachments of a room: who looks, and the lines of each.
 
-ghost use Rattle.std.specs.Prelude.{◌≡◌, ◌+◌, ◌<◌, ◌≤◌, ◌^◌, ◌==◌, ◌∷◌, ◌++◌, [], ℕ, map, option_map, length, OnOk, OnErr, IfSome, MatchOption, None, Some, vec_len, vec_capacity, slice_get, if◌then◌else◌, nat_eq};
-ghost use Rattle.match_master.specs.declared.session.Session.{Session};
-ghost use Rattle.indexmap.specs.IndexMap.{insert_entry};
+ghost use Rattle.std.specs.Prelude.{◌≡◌, ◌+◌, ◌<◌, ◌==◌, ◌∷◌, ◌++◌, [], ℕ, List, Option, option_map, length, is_some, OnOk, OnErr, IsSome, MatchOption, MatchBool, None, Some, slice_get, nat_eq};
 ghost use Rattle.std.specs.Map.{lookup};
-ghost use Rattle.match_master.specs.Shown.{Shown, shown_of, all_shown, TakesOut, with_told, tell_all, tell_at, needs, HaveRoomTo, HaveRoomFrom};
+ghost use Rattle.indexmap.specs.IndexMap.{insert_entry};
+ghost use Rattle.match_master.specs.Attachment.{begun_by};
+ghost use Rattle.match_master.specs.Shown.{Shown, all_shown, attachment_of, AreReadyTo, AreReadyFrom, Removes, TakesOut, gained, say, tell_all, tell_at};
+ghost use Rattle.match_master.specs.Viewer.{seat_of};
+ghost use Rattle.match_master.specs.declared.session.Session.{Session as Attached};
 
-use game_sheet::{NoMemory, Seat};
+use crate::outbox::Outbox;
+use game_sheet::{Bye, Key, NoMemory, Seat};
 use indexmap::IndexMap;
 use std::alloc::Global;
-use std::mem;
+use wire_json::Protocol;
 
 /// One attachment.
 #[derive(Drop)]
 pub struct Session {
+    /// The seat that looks, with its key; none for a spectator.
+    pub viewer: Option<(Seat, Key)>,
+    /// The serial of the match that it looks at.
+    pub serial: u64,
+    /// How it is told of accepted actions.
+    pub protocol: Protocol,
+    /// How its stream has ended, if it has.
+    pub end: Option<Bye>,
+    /// Its lines.
+    pub lines: Outbox,
+}
+
+impl Session {
+    /// The attachment of a viewer to the match of a serial, for which these lines wait.
+    fn begun(viewer: Option<(Seat, Key)>, serial: u64, lines: Vec<u8>) -> Self
+        ensures attachment { attachment_of result ≡ begun_by viewer serial }
+        ensures lines { (result.lines).waiting ≡ lines.items }
+    {
+        Session {
+            viewer,
+            serial,
+            protocol: Protocol::One,
+            end: None,
+            lines: Outbox::with(lines),
+        }
+    }
+
     /// The seat that looks; none for a spectator.
-    pub viewer: Option<Seat>,
-    /// The bytes of the lines that wait.
-    pub waiting: Vec<u8>,
+    fn seat(&self) -> Option<Seat>
+        ensures { result ≡ seat_of self.now.viewer }
+    {
+        match &self.viewer {
+            None => None,
+            Some((seat, _)) => Some(*seat),
+        }
+    }
 }
 
 /// The attachments by pass.
 pub type Sessions = IndexMap<u32, Session>;
 
+/// Whether a pass is attached.
+pub fn is_attached(sessions: &Sessions, pass: u32) -> bool
+    ensures { result ≡ is_some (lookup (nat_eq pass) (all_shown sessions.now.entries)) }
+{
+    sessions.get(&pass).is_some()
+}
+
 /// Who looks by a pass, if it is attached.
-#[tactic(auto, using(crate::proofs::SessionLaws::lookup_shown))]
-pub fn viewer_of(sessions: &Sessions, pass: u32) -> Option<Option<Seat>>
-    ensures { result ≡ option_map (λ s. s.viewer) (lookup (nat_eq pass) (all_shown sessions.now.entries)) }
+pub fn viewer_of(sessions: &Sessions, pass: u32) -> Option<Option<(Seat, Key)>>
+    ensures { result ≡ option_map (λ s. s.attachment.viewer) (lookup (nat_eq pass) (all_shown sessions.now.entries)) }
 {
     match sessions.get(&pass) {
         None => None,
@@ -38,22 +79,23 @@ pub fn viewer_of(sessions: &Sessions, pass: u32) -> Option<Option<Seat>>
 pub fn attach(
     sessions: &mut Sessions,
     pass: u32,
-    viewer: Option<Seat>,
-    waiting: Vec<u8>,
+    viewer: Option<(Seat, Key)>,
+    serial: u64,
+    lines: Vec<u8>,
 ) -> Result<(), NoMemory>
-    ensures ok { OnOk result (all_shown sessions.new.entries ≡ insert_entry nat_eq (all_shown sessions.old.entries) pass (record { viewer = viewer; bytes = waiting.items })) }
+    ensures ok { OnOk result (all_shown sessions.new.entries ≡ insert_entry nat_eq (all_shown sessions.old.entries) pass (record { attachment = begun_by viewer serial; bytes = lines.items })) }
     ensures err { OnErr result (all_shown sessions.new.entries ≡ all_shown sessions.old.entries) }
 {
-    match sessions.insert(pass, Session { viewer, waiting }) {
+    match sessions.insert(pass, Session::begun(viewer, serial, lines)) {
         Ok(_) => Ok(()),
         Err(_) => Err(NoMemory),
     }
 }
 
-/// Takes out the bytes that wait for a pass; none where it isn't attached. It takes no memory.
-pub fn take(alloc: Global, sessions: &mut Sessions, pass: u32) -> Option<Vec<u8>>
+/// Takes out the bytes that wait for a pass, with the end of its stream; none where it isn't attached. It takes no memory.
+pub fn take(alloc: Global, sessions: &mut Sessions, pass: u32) -> Option<(Vec<u8>, Option<Bye>)>
     ensures { MatchOption result ((lookup (nat_eq pass) (all_shown sessions.old.entries) ≡ None) × (all_shown sessions.new.entries ≡ all_shown sessions.old.entries))
-        (λ bytes. TakesOut pass bytes.items (lookup (nat_eq pass) (all_shown sessions.old.entries)) (all_shown sessions.old.entries) (all_shown sessions.new.entries)) }
+        (λ taken. TakesOut pass (taken.0).items taken.1 (lookup (nat_eq pass) (all_shown sessions.old.entries)) (all_shown sessions.old.entries) (all_shown sessions.new.entries)) }
 {
     let Some(place) = sessions.get_index_of(&pass) else {
         return None;
@@ -61,109 +103,109 @@ pub fn take(alloc: Global, sessions: &mut Sessions, pass: u32) -> Option<Vec<u8>
     let Some(session) = sessions.get_index_mut(place) else {
         unreachable!();
     };
-    Some(mem::replace(&mut session.waiting, Vec::new(alloc)))
+    let bytes = session.lines.take(alloc);
+    Some((bytes, session.end))
 }
 
-/// Makes room for what each attachment gains: `all` bytes, and `said` more for the pass's own. No attachment changes.
-pub fn reserve(sessions: &mut Sessions, pass: u32, said: usize, all: usize) -> Result<(), NoMemory>
-    requires { all + said < 2 ^ 64 }
-    ensures same { all_shown sessions.new.entries ≡ all_shown sessions.old.entries }
-    ensures room { OnOk result (HaveRoomFrom 0 pass said all sessions.new.entries) }
+/// Ends a pass's attachment; false where it has none. It takes no memory.
+pub fn detach(sessions: &mut Sessions, pass: u32) -> bool
+    ensures was { result ≡ is_some (lookup (nat_eq pass) (all_shown sessions.old.entries)) }
+    ensures gone { Removes pass (all_shown sessions.old.entries) (all_shown sessions.new.entries) }
 {
-    let count = sessions.len();
-    for place in 0..count {
-        reserve_at(sessions, place, pass, said, all)?;
-    }
+    sessions.shift_remove(&pass).is_some()
+}
+
+/// Tells a pass that is attached something alone.
+pub fn tell_own(sessions: &mut Sessions, pass: u32, said: &[u8]) -> Result<(), NoMemory>
+    ensures ok { OnOk result (all_shown sessions.new.entries ≡ say pass said.now (all_shown sessions.old.entries)) }
+    ensures err { OnErr result (all_shown sessions.new.entries ≡ all_shown sessions.old.entries) }
+{
+    let Some(place) = sessions.get_index_of(&pass) else {
+        return Ok(());
+    };
+    let Some(session) = sessions.get_index_mut(place) else {
+        unreachable!();
+    };
+    session.lines.prepare(said, &[])?;
+    session.lines.send();
     Ok(())
 }
 
-/// Tells each attachment `all`, and then the pass's own what is `said` to it alone.
-pub fn deliver(sessions: &mut Sessions, pass: u32, said: &[u8], all: &[u8])
-    requires { HaveRoomFrom 0 pass (length said.now) (length all.now) sessions.old.entries }
-    ensures { all_shown sessions.new.entries ≡ tell_all pass said.now all.now (all_shown sessions.old.entries) }
+/// Which seat looks by the attachment at a place; none for a spectator.
+pub fn seat_at(sessions: &Sessions, place: usize) -> Option<Seat>
+    requires { place < length sessions.now.entries }
+    ensures { (e : ℕ × Attached) → slice_get sessions.now.entries place ≡ Some e → result ≡ seat_of (e.1).viewer }
 {
-    let count = sessions.len();
-    for place in 0..count {
-        deliver_at(sessions, place, pass, said, all);
+    match sessions.get_index(place) {
+        Some((_, session)) => session.seat(),
+        None => unreachable!(),
     }
 }
 
-/// Makes room for what the attachment at one place gains.
-fn reserve_at(
+/// Makes ready what the attachment at one place gains: the line for its viewer and, where it is the pass's own, what is said to it
+/// alone. Nothing waits that didn't.
+pub fn prepare_at(
     sessions: &mut Sessions,
     place: usize,
     pass: u32,
-    said: usize,
-    all: usize,
+    said: &[u8],
+    line: &[u8],
 ) -> Result<(), NoMemory>
     requires within { place < length sessions.old.entries }
-    requires fits { all + said < 2 ^ 64 }
+    ensures many { length sessions.new.entries ≡ length sessions.old.entries }
     ensures same { all_shown sessions.new.entries ≡ all_shown sessions.old.entries }
-    ensures room { OnOk result (HaveRoomTo place pass said all sessions.old.entries → HaveRoomTo (place + 1) pass said all sessions.new.entries) }
+    ensures ready { OnOk result ((lines : Option ℕ → List ℕ) → ((e : ℕ × Attached) → slice_get sessions.old.entries place ≡ Some e → line.now ≡ lines (seat_of (e.1).viewer))
+        → AreReadyTo place pass said.now lines sessions.old.entries → AreReadyTo (place + 1) pass said.now lines sessions.new.entries) }
 {
     let own = is_own(sessions, place, pass);
     let Some(session) = sessions.get_index_mut(place) else {
         unreachable!();
     };
-    match session.waiting.reserve(gain(own, said, all)) {
-        Ok(()) => Ok(()),
-        Err(_) => Err(NoMemory),
+    prepare(session, own, said, line)
+}
+
+/// Makes ready what one attachment gains.
+fn prepare(session: &mut Session, own: bool, said: &[u8], line: &[u8]) -> Result<(), NoMemory>
+    ensures attachment { attachment_of session.new ≡ attachment_of session.old }
+    ensures waiting { (session.new.lines).waiting ≡ (session.old.lines).waiting }
+    ensures ready { OnOk result ((session.new.lines).ready ≡ gained own said.now line.now) }
+{
+    session.lines.prepare(line, if own { said } else { &[] })
+}
+
+/// Lets wait, at each attachment, what it was made ready to gain. It takes no memory.
+pub fn send_all(sessions: &mut Sessions, pass: u32, said: &[u8])
+    ensures { (lines : Option ℕ → List ℕ) → AreReadyFrom 0 pass said.now lines sessions.old.entries → all_shown sessions.new.entries ≡ tell_all pass said.now lines (all_shown sessions.old.entries) }
+{
+    let _said = said;
+    let count = sessions.len();
+    for place in 0..count {
+        send_at(sessions, place, pass, said);
     }
 }
 
-/// How many bytes an attachment gains.
-fn gain(own: bool, said: usize, all: usize) -> usize
-    requires { all + said < 2 ^ 64 }
-    ensures { result ≡ needs own said all }
-{
-    if own { all + said } else { all }
-}
-
-/// Tells the attachment at one place what it gains.
-fn deliver_at(sessions: &mut Sessions, place: usize, pass: u32, said: &[u8], all: &[u8])
+/// Lets wait, at the attachment at one place, what it was made ready to gain.
+fn send_at(sessions: &mut Sessions, place: usize, pass: u32, said: &[u8])
     requires within { place < length sessions.old.entries }
-    requires room { HaveRoomFrom place pass (length said.now) (length all.now) sessions.old.entries }
-    ensures told { all_shown sessions.new.entries ≡ tell_at place pass said.now all.now (all_shown sessions.old.entries) }
-    ensures room { HaveRoomFrom (place + 1) pass (length said.now) (length all.now) sessions.new.entries }
+    ensures many { length sessions.new.entries ≡ length sessions.old.entries }
+    ensures told { (lines : Option ℕ → List ℕ) → AreReadyFrom place pass said.now lines sessions.old.entries → all_shown sessions.new.entries ≡ tell_at place pass said.now lines (all_shown sessions.old.entries) }
+    ensures ready { (lines : Option ℕ → List ℕ) → AreReadyFrom place pass said.now lines sessions.old.entries → AreReadyFrom (place + 1) pass said.now lines sessions.new.entries }
 {
-    let own = is_own(sessions, place, pass);
+    let _pass = pass;
+    let _said = said;
     let Some(session) = sessions.get_index_mut(place) else {
         unreachable!();
     };
-    tell(session, own, said, all);
+    session.lines.send();
 }
 
 /// Whether the attachment at a place is the pass's own.
 fn is_own(sessions: &Sessions, place: usize, pass: u32) -> bool
     requires { place < length sessions.now.entries }
-    ensures { (e : ℕ × Session) → slice_get sessions.now.entries place ≡ Some e → result ≡ (e.0 == pass) }
+    ensures { (e : ℕ × Attached) → slice_get sessions.now.entries place ≡ Some e → result ≡ (e.0 == pass) }
 {
     match sessions.get_index(place) {
         Some((key, _)) => *key == pass,
         None => unreachable!(),
-    }
-}
-
-/// Adds what one attachment gains.
-fn tell(session: &mut Session, own: bool, said: &[u8], all: &[u8])
-    requires { vec_len session.old.waiting + needs own (length said.now) (length all.now) ≤ vec_capacity session.old.waiting }
-    ensures { shown_of session.new ≡ record { viewer = session.old.viewer; bytes = with_told own said.now all.now session.old.waiting.items } }
-{
-    append(&mut session.waiting, all);
-    if own {
-        append(&mut session.waiting, said);
-    }
-}
-
-/// Adds bytes for which there is room.
-fn append(waiting: &mut Vec<u8>, bytes: &[u8])
-    requires { vec_len waiting.old + length bytes.now ≤ vec_capacity waiting.old }
-    ensures items { waiting.new.items ≡ waiting.old.items ++ bytes.now }
-    ensures len { vec_len waiting.new ≡ vec_len waiting.old + length bytes.now }
-    ensures capacity { vec_capacity waiting.old ≤ vec_capacity waiting.new }
-{
-    match waiting.extend_from_slice(bytes) {
-        Ok(()) => {}
-        Err(_) => unreachable!(),
     }
 }

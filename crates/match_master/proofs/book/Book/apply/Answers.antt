@@ -1,5 +1,5 @@
 use Rattle.match_master.specs.declared.submission.Submission.{Submission}
-use Rattle.match_master.proofs.Stands.{create_done, attach_done, submit_done, take_done}
+use Rattle.match_master.proofs.Stands.{create_done, join_done, attach_done, submit_done, take_done, detach_done}
 use Rattle.match_master.proofs.book.Book.apply.Goals as goal
 
 pub returns-in-Create-clause-answered : goal.returns-in-Create-clause-answered
@@ -13,6 +13,18 @@ returns-in-Create-clause-stands g c = λ h s.
 pub returns-in-Create-clause-refused : goal.returns-in-Create-clause-refused
 returns-in-Create-clause-refused g c = λ h s.
     (create_done g.X.Game.rules c.args.self.now c.create.new.self h s c.args.pass c.in-Create.game c.in-Create.seats c.in-Create.seed c.args.call c.create.result c.in-Create.is c.create.ensures.room c.create.ensures.does).2
+
+pub returns-in-Join-clause-answered : goal.returns-in-Join-clause-answered
+returns-in-Join-clause-answered g c = λ h s.
+    (join_done g.X.Game.rules c.args.self.now c.join.new.self h s c.args.pass c.in-Join.serial c.in-Join.seat c.in-Join.name c.in-Join.key c.args.call c.join.result c.in-Join.is c.join.ensures.room c.join.ensures.does).0
+
+pub returns-in-Join-clause-stands : goal.returns-in-Join-clause-stands
+returns-in-Join-clause-stands g c = λ h s.
+    (join_done g.X.Game.rules c.args.self.now c.join.new.self h s c.args.pass c.in-Join.serial c.in-Join.seat c.in-Join.name c.in-Join.key c.args.call c.join.result c.in-Join.is c.join.ensures.room c.join.ensures.does).1
+
+pub returns-in-Join-clause-refused : goal.returns-in-Join-clause-refused
+returns-in-Join-clause-refused g c = λ h s.
+    (join_done g.X.Game.rules c.args.self.now c.join.new.self h s c.args.pass c.in-Join.serial c.in-Join.seat c.in-Join.name c.in-Join.key c.args.call c.join.result c.in-Join.is c.join.ensures.room c.join.ensures.does).2
 
 pub returns-in-Attach-clause-answered : goal.returns-in-Attach-clause-answered
 returns-in-Attach-clause-answered g c = λ h s.
@@ -52,3 +64,15 @@ returns-in-Take-clause-stands g c = λ h s.
 pub returns-in-Take-clause-refused : goal.returns-in-Take-clause-refused
 returns-in-Take-clause-refused g c = λ h s.
     (take_done g.X.Game.rules c.args.self.now c.take.new.self h s c.args.pass c.args.call c.take.result c.in-Take.is c.take.ensures.room c.take.ensures.reply c.take.ensures.after c.take.ensures.fed).2
+
+pub returns-in-Detach-clause-answered : goal.returns-in-Detach-clause-answered
+returns-in-Detach-clause-answered g c = λ h s.
+    (detach_done g.X.Game.rules c.args.self.now c.detach.new.self h s c.args.pass c.args.call c.detach.result c.in-Detach.is c.detach.ensures.room c.detach.ensures.reply c.detach.ensures.detaches).0
+
+pub returns-in-Detach-clause-stands : goal.returns-in-Detach-clause-stands
+returns-in-Detach-clause-stands g c = λ h s.
+    (detach_done g.X.Game.rules c.args.self.now c.detach.new.self h s c.args.pass c.args.call c.detach.result c.in-Detach.is c.detach.ensures.room c.detach.ensures.reply c.detach.ensures.detaches).1
+
+pub returns-in-Detach-clause-refused : goal.returns-in-Detach-clause-refused
+returns-in-Detach-clause-refused g c = λ h s.
+    (detach_done g.X.Game.rules c.args.self.now c.detach.new.self h s c.args.pass c.args.call c.detach.result c.in-Detach.is c.detach.ensures.room c.detach.ensures.reply c.detach.ensures.detaches).2

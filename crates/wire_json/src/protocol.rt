@@ -1,0 +1,10 @@
+//! The protocols in which a session may be told of a match.
+
+/// How a session is told of each accepted action.
+#[derive(Clone, Copy, PartialEq, Eq, Debug)]
+pub enum Protocol {
+    /// By an update with the whole context and state.
+    One,
+    /// By the members alone that have changed. No client's line asks for it yet.
+    Two,
+}
