@@ -9,6 +9,7 @@ ghost use Rattle.match_master.specs.declared.reply.RoomReply.TheVariants as answ
 ghost use Rattle.wire_json.specs.declared.verdict.Verdict.TheVariants as verdict;
 ghost use Rattle.match_master.specs.Attachment.{Attachment, begun_by};
 ghost use Rattle.match_master.specs.Calls.{create, create_reply, joined, join_reply, refused_as, attach, attach_at, attach_reply, detach_reply};
+ghost use Rattle.match_master.specs.History.{attached};
 ghost use Rattle.match_master.specs.Match.{Match};
 ghost use Rattle.room_desk.specs.Entry.{Entry as Made};
 ghost use Rattle.match_master.specs.declared.call.RoomCall.{RoomCall as Asks};
@@ -115,6 +116,13 @@ impl<X: Game + Drop> Book<X> {
             RoomCall::Take => self.take(pass),
             RoomCall::Detach => self.detach(pass),
         }
+    }
+
+    /// Whether a pass is attached. It takes no memory.
+    pub fn is_attached(&self, pass: u32) -> bool
+        ensures { (h : List (Made (Asks X))) → StandsFor X.rules self.now h → result ≡ is_some (attached X.rules self.now.room h pass) }
+    {
+        session::is_attached(&self.sessions, pass)
     }
 
     /// Makes a match where none stands.
