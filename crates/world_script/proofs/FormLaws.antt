@@ -23,7 +23,8 @@ differs name word text other false same = refl
 -- what is no text is the name of no game
 none_named : (name : List ℕ) → ¬ IsUtf8 name → named name ≡ None
 none_named name other =
-    rw (differs name (codes "tic-tac-toe") refl other _ refl, differs name (codes "countdown") refl other _ refl, differs name (codes "pig") refl other _ refl) refl
+    rw (differs name (codes "tic-tac-toe") refl other _ refl, differs name (codes "countdown") refl other _ refl, differs name (codes "pig") refl other _ refl,
+    differs name (codes "high-hand") refl other _ refl, differs name (codes "blind-bid") refl other _ refl) refl
 
 -- so it opens no match
 pub opens_none : (o : Option ℕ) (seats : ℕ) (name : List ℕ) → is_some o ≡ false → ¬ IsUtf8 name → None ≡ (if is_none o then option_and_then (opening_of seats) (named name) else None)

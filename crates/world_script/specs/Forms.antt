@@ -1,10 +1,10 @@
--- Which lines are in form, by what the lines before them have come to. A script opens one match of a known game, for a number of seats
+-- Which lines are in form, by what the lines before them have come to. A script opens one match of a known game that hides nothing, for a number of seats
 -- that the game allows. The session of each seat's number syncs once, with the seat's key; from then on it moves in that match, asks
 -- for events, and takes what waits for it.
 use Rattle.std.specs.Prelude.{ℕ, ◌==◌, Bool, true, false, not, ◌&&◌, if◌then◌else◌, nat_lt, is_none, bytes_eq, replicate, slice_get, slice_set, List, [], ◌∷◌, ◌++◌, Option, Some, None, option_and_then, unwrap_or, Result, Ok, Err}
 use Rattle.game_sheet.specs.MatchName.{Name}
 use Rattle.any_game.specs.AnyRules.{any_rules, named}
-use Rattle.any_game.specs.GameKind.{GameKind}
+use Rattle.any_game.specs.GameKind.{GameKind, hides_nothing}
 use Rattle.match_master.specs.Calls.{seats_fit}
 use Rattle.wire_json.specs.ClientReading.{client_read}
 use Rattle.wire_json.specs.Refusals.{Refusal}
@@ -54,9 +54,9 @@ step_of_message stage session (Ok (message.Act act key name number ticket)) =
     if has_synced stage session && is_the_match name && bytes_eq key (seat_key session) && is_move_or_event act
     then Some (Acts session (record { name = name; key = key; number = number; ticket = ticket; asked = act })) else None
 
--- a match of a game, for a number of seats that the game allows
+-- a match of a game that hides nothing, for a number of seats that the game allows
 abbrev pub opening_of : ℕ → GameKind → Option Step
-opening_of seats game = if seats_fit (any_rules game).sheet seats then Some (Opens game seats) else None
+opening_of seats game = if hides_nothing game && seats_fit (any_rules game).sheet seats then Some (Opens game seats) else None
 
 abbrev pub step_of_command : Stage → Option Said → Option Step
 step_of_command stage None = None

@@ -1,7 +1,8 @@
 //! Which lines of a script are in form, and what they ask for.
 
-ghost use Rattle.std.specs.Prelude.{◌≡◌, IfOk, bytes_eq, slice_set, true, Some, Ok};
+ghost use Rattle.std.specs.Prelude.{◌≡◌, ◌&&◌, IfOk, bytes_eq, slice_set, true, Some, Ok};
 ghost use Rattle.any_game.specs.AnyRules.{any_rules};
+ghost use Rattle.any_game.specs.GameKind.{hides_nothing};
 ghost use Rattle.match_master.specs.Calls.{seats_fit};
 ghost use Rattle.wire_json.specs.ClientReading.{client_read};
 ghost use Rattle.wire_json.specs.declared.client.ClientMsg.TheVariants.{Sync, Act};
@@ -92,12 +93,12 @@ fn opens(alloc: Global, stage: Stage, name: &[u8], seats: u8) -> Result<Option<S
     }
 }
 
-/// Whether a game is for this number of seats.
+/// Whether a game hides nothing and is for this number of seats.
 fn allows(game: &AnyGame, seats: u8) -> bool
-    ensures { result ≡ seats_fit (any_rules game.now).sheet seats }
+    ensures { result ≡ (hides_nothing game.now && seats_fit (any_rules game.now).sheet seats) }
 {
     let sheet = game.sheet();
-    sheet.min_seats <= seats && seats <= sheet.max_seats
+    game.hides_nothing() && sheet.min_seats <= seats && seats <= sheet.max_seats
 }
 
 fn takes(stage: Stage, session: u8) -> Option<Step>
