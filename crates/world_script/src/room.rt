@@ -59,12 +59,7 @@ pub struct Outcome {
 }
 
 /// What a session takes, each line behind the session's number, and the end of its stream where that is handed out.
-fn taken(
-    alloc: Global,
-    session: u8,
-    bytes: &[u8],
-    end: Option<Bye>,
-) -> Result<Vec<u8>, NoMemory>
+fn taken(alloc: Global, session: u8, bytes: &[u8], end: Option<Bye>) -> Result<Vec<u8>, NoMemory>
     ensures { IfOk result (λ text. text.items ≡ to_session session bytes.now ++ end_text session end) }
 {
     let prefix = format!(in alloc; "{session} ")?;
