@@ -158,9 +158,9 @@ none_of (Some v) h = absurd (true≢false (sym h))
 
 -- what a Take does, where the key stands at a place
 pub taken_out : (es : List (ℕ × Session)) (pass i : ℕ) (v w : Session) → lookup (nat_eq pass) es ≡ Some v → position (nat_eq pass) (keys_of es) ≡ Some i → shown_of w ≡ record { attachment = attachment_of v; bytes = [] }
-    → TakesOut pass (v.lines).waiting (attachment_of v) (lookup (nat_eq pass) (all_shown es)) (all_shown es) (all_shown (set_value_at es i w))
+    → TakesOut pass (v.lines).waiting v.end (lookup (nat_eq pass) (all_shown es)) (all_shown es) (all_shown (set_value_at es i w))
 taken_out es pass i v w found at emptied =
-    subst (λ o. TakesOut pass (v.lines).waiting (attachment_of v) o (all_shown es) (all_shown (set_value_at es i w))) (sym (lookup_shown es pass ∙ ap (option_map shown_of) found))
+    subst (λ o. TakesOut pass (v.lines).waiting v.end o (all_shown es) (all_shown (set_value_at es i w))) (sym (lookup_shown es pass ∙ ap (option_map shown_of) found))
     (refl, refl, ap all_shown (put_at es pass i w at) ∙ shown_put es pass w ∙ ap (insert_entry nat_eq (all_shown es) pass) emptied)
 
 -- what saying something to a pass alone does, where the key stands at a place

@@ -39,7 +39,12 @@ pub fn sync<X: Game>(
 }
 
 /// The log as a viewer sees it.
-fn redacted(alloc: Global, sheet: &Sheet, log: &[Entry], seat: Option<Seat>) -> Result<List<Entry>, NoMemory>
+fn redacted(
+    alloc: Global,
+    sheet: &Sheet,
+    log: &[Entry],
+    seat: Option<Seat>,
+) -> Result<List<Entry>, NoMemory>
     ensures { IfOk result (λ entries. entries ≡ map (redact sheet.now seat) log.now) }
 {
     let mut entries = List::new(alloc);

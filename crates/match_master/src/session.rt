@@ -2,6 +2,7 @@
 
 ghost use Rattle.std.specs.Prelude.{◌≡◌, ◌+◌, ◌<◌, ◌==◌, ◌∷◌, ◌++◌, [], ℕ, List, Option, option_map, length, is_some, OnOk, OnErr, IsSome, MatchOption, MatchBool, None, Some, slice_get, nat_eq};
 ghost use Rattle.std.specs.Map.{lookup};
+ghost use Rattle.std.specs.Option.{option_copied};
 ghost use Rattle.indexmap.specs.IndexMap.{insert_entry};
 ghost use Rattle.match_master.specs.Attachment.{begun_by};
 ghost use Rattle.match_master.specs.Shown.{Shown, all_shown, attachment_of, AreReadyTo, AreReadyFrom, Removes, TakesOut, gained, say, tell_all, tell_at};
@@ -66,12 +67,12 @@ pub fn is_attached(sessions: &Sessions, pass: u32) -> bool
 }
 
 /// Who looks by a pass, if it is attached.
-pub fn viewer_of(sessions: &Sessions, pass: u32) -> Option<Option<(Seat, Key)>>
-    ensures { result ≡ option_map (λ s. s.attachment.viewer) (lookup (nat_eq pass) (all_shown sessions.now.entries)) }
+pub fn viewer_of(sessions: &Sessions, pass: u32) -> Option<&Option<(Seat, Key)>>
+    ensures { option_copied result ≡ option_map (λ s. s.attachment.viewer) (lookup (nat_eq pass) (all_shown sessions.now.entries)) }
 {
     match sessions.get(&pass) {
         None => None,
-        Some(session) => Some(session.viewer),
+        Some(session) => Some(&session.viewer),
     }
 }
 
