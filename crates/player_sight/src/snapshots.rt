@@ -61,11 +61,7 @@ fn redacted_log(
 }
 
 /// The value of a snapshot.
-pub fn to_value<X: Game>(
-    alloc: Global,
-    game: &X,
-    s: &Snapshot<X::G>,
-) -> Result<Value, NoMemory>
+pub fn to_value<X: Game>(alloc: Global, game: &X, s: &Snapshot<X::G>) -> Result<Value, NoMemory>
     ensures value { IfOk result (λ v. view v ≡ snapshot_data (X.rules game.now).sheet (snap_of (X.rules game.now) s.now)) }
     ensures no_float { IfOk result (λ v. has_float (view v) ≡ false) }
     ensures shallow { IfOk result (λ v. depth (view v) ≤ max 4 (depth ((X.rules game.now).value s.now.g)) + 1) }
