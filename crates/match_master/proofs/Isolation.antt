@@ -53,32 +53,34 @@ module _ (sheet : Sheet) where
   newest_first : (low high : ℕ) (s : Snap) (sight : List Snap) → low < s.number → s.number ≤ high → updates sheet low high (s ∷ sight) ≡ Line (update_line sheet s) ∷ updates sheet low high sight
   newest_first low high s sight h k = rw (within_true low high s.number h k) refl
 
+  -- a snapshot up to the number between has no update after it
+  split_old : (low mid high : ℕ) (s : Snap) (sight : List Snap) → AreFalling (s ∷ sight) → low ≤ mid → mid ≤ high → s.number ≤ mid
+      → updates sheet low high (s ∷ sight) ≡ updates sheet mid high (s ∷ sight) ++ updates sheet low mid (s ∷ sight)
+  split_old low mid high s sight f a b h =
+      let upto : AllUpTo mid (s ∷ sight) = (h, below_upto s.number mid sight (omega arith) f.0) in
+      let more : AllUpTo high (s ∷ sight) = (omega arith, below_upto s.number high sight (omega arith) f.0) in
+      updates-all sheet low high (s ∷ sight) more ∙ sym (updates-all sheet low mid (s ∷ sight) upto)
+      ∙ ap (λ ps. ps ++ updates sheet low mid (s ∷ sight)) (sym (updates-none sheet mid high (s ∷ sight) upto))
+
+  split_new : (low mid high : ℕ) (s : Snap) (sight : List Snap) → AreFalling (s ∷ sight) → low ≤ mid → mid ≤ high → updates sheet low high sight ≡ updates sheet mid high sight ++ updates sheet low mid sight → mid < s.number
+      → updates sheet low high (s ∷ sight) ≡ updates sheet mid high (s ∷ sight) ++ updates sheet low mid (s ∷ sight)
+  split_new low mid high s sight f a b rest h = either s.number high _ inside beyond
+    where
+      inside : s.number ≤ high → updates sheet low high (s ∷ sight) ≡ updates sheet mid high (s ∷ sight) ++ updates sheet low mid (s ∷ sight)
+      inside k =
+          newest_first low high s sight (omega arith) k ∙ ap (λ ps. Line (update_line sheet s) ∷ ps) rest
+          ∙ ap (λ ps. ps ++ updates sheet low mid sight) (sym (newest_first mid high s sight h k))
+          ∙ ap (λ ps. updates sheet mid high (s ∷ sight) ++ ps) (sym (updates-newer sheet low mid s sight h))
+      beyond : high < s.number → updates sheet low high (s ∷ sight) ≡ updates sheet mid high (s ∷ sight) ++ updates sheet low mid (s ∷ sight)
+      beyond k =
+          updates-newer sheet low high s sight k ∙ rest
+          ∙ ap (λ ps. ps ++ updates sheet low mid sight) (sym (updates-newer sheet mid high s sight k))
+          ∙ ap (λ ps. updates sheet mid high (s ∷ sight) ++ ps) (sym (updates-newer sheet low mid s sight h))
+
   -- the updates between two numbers are those up to a number between them, and then the others
   updates-split : (low mid high : ℕ) (sight : List Snap) → AreFalling sight → low ≤ mid → mid ≤ high → updates sheet low high sight ≡ updates sheet mid high sight ++ updates sheet low mid sight
   updates-split low mid high [] f a b = refl
-  updates-split low mid high (s ∷ sight) f a b = either s.number mid _ old new
-    where
-      old : s.number ≤ mid → updates sheet low high (s ∷ sight) ≡ updates sheet mid high (s ∷ sight) ++ updates sheet low mid (s ∷ sight)
-      old h =
-          let upto : AllUpTo mid (s ∷ sight) = (h, below_upto s.number mid sight (omega arith) f.0) in
-          let more : AllUpTo high (s ∷ sight) = (omega arith, below_upto s.number high sight (omega arith) f.0) in
-          updates-all sheet low high (s ∷ sight) more ∙ sym (updates-all sheet low mid (s ∷ sight) upto)
-          ∙ ap (λ ps. ps ++ updates sheet low mid (s ∷ sight)) (sym (updates-none sheet mid high (s ∷ sight) upto))
-
-      new : mid < s.number → updates sheet low high (s ∷ sight) ≡ updates sheet mid high (s ∷ sight) ++ updates sheet low mid (s ∷ sight)
-      new h = either s.number high _ inside beyond
-        where
-          inside : s.number ≤ high → updates sheet low high (s ∷ sight) ≡ updates sheet mid high (s ∷ sight) ++ updates sheet low mid (s ∷ sight)
-          inside k =
-              newest_first low high s sight (omega arith) k ∙ ap (λ ps. Line (update_line sheet s) ∷ ps) (updates-split low mid high sight f.1 a b)
-              ∙ ap (λ ps. ps ++ updates sheet low mid sight) (sym (newest_first mid high s sight h k))
-              ∙ ap (λ ps. updates sheet mid high (s ∷ sight) ++ ps) (sym (updates-newer sheet low mid s sight h))
-
-          beyond : high < s.number → updates sheet low high (s ∷ sight) ≡ updates sheet mid high (s ∷ sight) ++ updates sheet low mid (s ∷ sight)
-          beyond k =
-              updates-newer sheet low high s sight k ∙ updates-split low mid high sight f.1 a b
-              ∙ ap (λ ps. ps ++ updates sheet low mid sight) (sym (updates-newer sheet mid high s sight k))
-              ∙ ap (λ ps. updates sheet mid high (s ∷ sight) ++ ps) (sym (updates-newer sheet low mid s sight h))
+  updates-split low mid high (s ∷ sight) f a b = either s.number mid _ (split_old low mid high s sight f a b) (split_new low mid high s sight f a b (updates-split low mid high sight f.1 a b))
 
 module _ (name : Name) (sheet : Sheet) (viewer : Viewer) (sight : List Snap) (falls : AreFalling sight) where
   abbrev from_start : ℕ → List Item → List Piece
