@@ -71,6 +71,7 @@ module _ (sheet : Sheet) where
           newest_first low high s sight (omega arith) k ∙ ap (λ ps. Line (update_line sheet s) ∷ ps) rest
           ∙ ap (λ ps. ps ++ updates sheet low mid sight) (sym (newest_first mid high s sight h k))
           ∙ ap (λ ps. updates sheet mid high (s ∷ sight) ++ ps) (sym (updates-newer sheet low mid s sight h))
+
       beyond : high < s.number → updates sheet low high (s ∷ sight) ≡ updates sheet mid high (s ∷ sight) ++ updates sheet low mid (s ∷ sight)
       beyond k =
           updates-newer sheet low high s sight k ∙ rest

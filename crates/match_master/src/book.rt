@@ -1,6 +1,6 @@
 //! A room's book: its one match, who sits there and who is attached, and what waits for each.
 
-ghost use Rattle.std.specs.Prelude.{◌≡◌, ◌≤◌, ◌<◌, ◌∷◌, ℕ, List, [], Option, None, Some, IfOk, true, false, MatchBool, MatchOption, IsSome, IfSome, nat_lt, if◌then◌else◌, option_map, is_some, nat_eq};
+ghost use Rattle.std.specs.Prelude.{◌≡◌, ◌≤◌, ◌<◌, ◌+◌, ◌∷◌, ℕ, List, [], Option, None, Some, IfOk, true, false, MatchBool, MatchOption, IsSome, IfSome, nat_lt, if◌then◌else◌, option_map, is_some, nat_eq};
 ghost use Rattle.std.specs.Map.{lookup};
 ghost use Rattle.indexmap.specs.IndexMap.{insert_entry};
 ghost use Rattle.reducer.specs.Sound.{IsSound};

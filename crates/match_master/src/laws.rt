@@ -11,7 +11,6 @@ use game_trait::Game;
 
 /// Sessions that are alike but for their Takes are told the same, whatever else their rooms hold: other games of an equal sheet,
 /// other seeds, other seats' keys and hidden cards.
-#[tactic(auto, using(crate::proofs::Isolation::told_the_same))]
 pub fn alike_sessions_are_told_the_same<X: Game, Y: Game>(game: &X, other: &Y)
     ensures { (room : ℕ) (h : List (Entry (Asks X))) (pass other_room : ℕ) (k : List (Entry (Asks Y))) (other_pass : ℕ)
         → AreAlike X.rules Y.rules room h pass other_room k other_pass → AreToldTheSame X.rules Y.rules room h pass other_room k other_pass }

@@ -24,7 +24,15 @@ pub fn sync<X: Game>(
 ) -> Result<Vec<u8>, NoMemory>
     ensures { IfOk result (λ line. line.items ≡ sync_line (X.rules game.now).sheet name seat (seen_at (X.rules game.now) state.now log.now seat)) }
 {
-    let shown = snapshot(alloc, game, state.number(), state.ctx(), state.g(), log, seat)?;
+    let shown = snapshot(
+        alloc,
+        game,
+        state.number(),
+        state.ctx(),
+        state.g(),
+        log,
+        seat,
+    )?;
     let value = to_value(alloc, game, &shown)?;
     let message = ServerMsg::Sync {
         name,
