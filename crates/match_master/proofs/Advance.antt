@@ -14,7 +14,6 @@ use Rattle.match_master.specs.Does.{Does, Detaches, SubmitDoes, attached_in, vie
 use Rattle.match_master.specs.Held.{Held, Holds, Advances, stored, is_starved, answer_to}
 use Rattle.match_master.specs.Lines.{ok_line, no_line}
 use Rattle.match_master.specs.Match.{Match, number_of}
-use Rattle.match_master.specs.Reply.{taken}
 use Rattle.match_master.specs.Shown.{Shown, gained, with_gained, tell_all, say, say_at}
 use Rattle.match_master.specs.Steps.{and_own, told, told_where, begun_where, marked, sync_of, update_of}
 use Rattle.match_master.specs.Stream.{Piece, Line, waiting}

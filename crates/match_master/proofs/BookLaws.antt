@@ -1,6 +1,5 @@
 -- What the private steps of a Book come to, in the words of its history.
 use Rattle.std.proofs.Common.{◌≡◌, ℕ, ◌+◌, List, [], ◌∷◌, ◌++◌, map, ◌==◌, Bool, true, false, if◌then◌else◌, MatchBool, IfSome, IsSome, is_some, nat_eq, Option, Some, None, option_map, Result, Ok, Err, refl, sym, ap, ◌∙◌, subst, add-one, arith}
-use Rattle.serde_json.specs.Data.{Data}
 use Rattle.game_trait.specs.Rules.{Rules}
 use Rattle.game_sheet.specs.declared.sheet.Sheet.{Sheet}
 use Rattle.move_log.specs.Redact.{redact}
@@ -30,7 +29,7 @@ use Rattle.match_master.specs.Match.{Match, number_of, table_of, entry_on, log_o
 use Rattle.match_master.specs.Shown.{Shown, tell_all}
 use Rattle.match_master.specs.Viewer.{Viewer, seat_of}
 use Rattle.match_master.specs.Steps.{sync_of, update_of}
-use Rattle.match_master.specs.Verdict.{broken, accept}
+use Rattle.match_master.specs.Verdict.{broken}
 use Rattle.match_master.proofs.SessionLaws.{tell_same}
 
 pub newest_last : (sheet : Sheet) (log : List Entry) (e : Entry) → newest sheet (log ++ e ∷ []) ≡ entry_data sheet e

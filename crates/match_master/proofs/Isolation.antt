@@ -1,5 +1,5 @@
 -- The lines of a stream don't depend on the Takes, so sessions that are alike but for Takes are told the same.
-use Rattle.std.proofs.Common.{◌≡◌, ◌<◌, ◌≤◌, ℕ, suc, ◌+◌, nat_lt, nat_le, Bool, true, false, ◌&&◌, if◌then◌else◌, List, [], ◌∷◌, ◌++◌, map, filter, Option, Some, None, inl, inr, refl, sym, ap, ◌∙◌, subst, arith, append_assoc, append-nil}
+use Rattle.std.proofs.Common.{◌≡◌, ◌<◌, ◌≤◌, ℕ, nat_lt, nat_le, Bool, true, false, ◌&&◌, List, [], ◌∷◌, ◌++◌, Option, Some, refl, sym, ap, ◌∙◌, subst, arith, append_assoc, append-nil}
 use Rattle.std.proofs.lemmas.Bool.Decides.{nat_tests}
 use Rattle.game_sheet.specs.MatchName.{Name}
 use Rattle.game_sheet.specs.declared.sheet.Sheet.{Sheet}
@@ -7,7 +7,6 @@ use Rattle.game_trait.specs.Rules.{Rules}
 use Rattle.player_sight.specs.SnapshotData.{Snap}
 use Rattle.room_desk.specs.Entry.{Entry}
 use Rattle.match_master.specs.declared.call.RoomCall.{RoomCall}
-use Rattle.match_master.specs.declared.submission.Submission.{Submission}
 use Rattle.match_master.specs.Alike.{without_takes, IsSession, AreAlike, AreToldTheSame, IsToldOf}
 use Rattle.match_master.specs.Attachment.{Attachment}
 use Rattle.match_master.specs.History.{standing, attached}
@@ -18,7 +17,7 @@ use Rattle.match_master.specs.Reply.{name_of, waits, lines_waiting}
 use Rattle.match_master.specs.Sent.{lines, handed_out, sent, stream_at, stream_of}
 use Rattle.match_master.specs.Sight.{sight}
 use Rattle.match_master.specs.Steps.{pieces}
-use Rattle.match_master.specs.Stream.{GameAnswer, Item, Submitted, Took, Piece, Line, Mark, number_at, number_after, oldest, updates, later_updates, up_to_items, says, reached, start_of, stream, waiting}
+use Rattle.match_master.specs.Stream.{Item, Submitted, Took, Piece, Line, Mark, number_after, oldest, updates, up_to_items, says, reached, start_of, stream, waiting}
 use Rattle.match_master.specs.Viewer.{Viewer}
 use Rattle.match_master.proofs.Follows.{Follows, reached_by, oldest_upto}
 use Rattle.match_master.proofs.Joins.{Joined, joins, found_present}

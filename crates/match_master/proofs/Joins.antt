@@ -19,7 +19,7 @@ use Rattle.seat_roster.specs.Player.{Seats}
 use Rattle.seat_roster.specs.Roster.{join}
 use Rattle.seat_roster.specs.declared.refusal.RosterNo.{RosterNo}
 use Rattle.match_master.specs.declared.reply.RoomReply.TheVariants as reply
-use Rattle.match_master.specs.Attachment.{Attachment, begun_by}
+use Rattle.match_master.specs.Attachment.{Attachment}
 use Rattle.match_master.specs.Viewer.{Viewer, seat_of, fits}
 use Rattle.match_master.specs.Calls.{create, created, joined, with_roster, attach, attached_by, accepted_unless, submitted}
 use Rattle.match_master.specs.History.{standing, attached, serials, standing_after, attached_after}

@@ -1,7 +1,7 @@
 -- Sessions that are alike but for their Takes: they look at matches of one name and of equal sheets, as the same viewer with the same
 -- key, in the same protocol, were shown the same, and did the same at the same state numbers. Nothing is said of the games, the seeds,
 -- the other seats' keys and what others did.
-use Rattle.std.specs.Prelude.{◌≡◌, ℕ, List, [], ◌∷◌, ◌++◌, Option, Some}
+use Rattle.std.specs.Prelude.{◌≡◌, ℕ, List, [], ◌∷◌, ◌++◌, Some}
 use Rattle.game_trait.specs.Rules.{Rules}
 use Rattle.room_desk.specs.Entry.{Entry}
 use Rattle.match_master.specs.declared.call.RoomCall.{RoomCall}

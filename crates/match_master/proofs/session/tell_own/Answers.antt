@@ -1,4 +1,4 @@
-use Rattle.std.proofs.Common.{◌≡◌, ◌++◌, append-nil, is_some, refl, sym, ap, ◌∙◌}
+use Rattle.std.proofs.Common.{◌++◌, append-nil, is_some, refl, sym, ap, ◌∙◌}
 use Rattle.match_master.specs.Outgoing.{Outgoing}
 use Rattle.match_master.specs.Shown.{Shown, attachment_of}
 use Rattle.match_master.proofs.SessionLaws.{none_of, on_err, said_nobody, said_own, shown_is, shown_same}

@@ -1,8 +1,8 @@
-use Rattle.std.proofs.Common.{◌≡◌, is_some, option_map, Ok, Err, ℕ, sym, ap, ◌∙◌, subst}
-use Rattle.match_master.specs.Calls.{attach_at, unless_barred}
+use Rattle.std.proofs.Common.{◌≡◌, is_some, option_map, Ok, Err, ap, ◌∙◌, subst}
+use Rattle.match_master.specs.Calls.{attach_at}
 use Rattle.match_master.specs.Does.{attached_in}
 use Rattle.match_master.specs.Held.{Held}
-use Rattle.match_master.proofs.BookLaws.{is_kept, is_some_attached, kept_out, let_in}
+use Rattle.match_master.proofs.BookLaws.{is_kept, kept_out, let_in}
 use Rattle.match_master.proofs.book.Book.attach.Goals as goal
 
 pub begin-requires : goal.begin-requires
