@@ -5,9 +5,6 @@ use Rattle.game_sheet.specs.declared.act.Act.{Act}
 use Rattle.game_sheet.specs.declared.refusal.GameRule.{GameRule}
 use Rattle.game_sheet.specs.declared.refusal.GameRule.TheVariants as rule
 use Rattle.game_trait.specs.Rules.{Rules}
-use Rattle.phase_flow.specs.Action.{once}
-use Rattle.phase_flow.specs.Reached.{Reached}
-use Rattle.reducer.specs.Accepted.{Accepted}
 use Rattle.reducer.specs.Fold.{answer}
 use Rattle.wire_json.specs.Resolve.{act_of}
 use Rattle.wire_json.specs.declared.reason.Reason.{Reason}
