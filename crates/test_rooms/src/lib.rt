@@ -1,6 +1,8 @@
-//! Tests of rooms whose games have secrets, call by call.
+//! Tests of what players are shown: rooms whose games have secrets, call by call.
 #![tactic(auto)]
 
+#[cfg(test)]
+mod sights;
 #[cfg(test)]
 mod table;
 #[cfg(test)]
