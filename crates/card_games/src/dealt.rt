@@ -1,9 +1,11 @@
 //! A deck that isn't shuffled.
 
-ghost use Rattle.std.specs.Prelude.{◌≡◌, IsPermutation, IsTrue};
+ghost use Rattle.std.specs.Prelude.{◌≡◌, IfOk, IsPermutation, IsTrue};
 ghost use Rattle.card_games.specs.Pack.{are_cards, pack};
 
-use game_sheet::List;
+use game_sheet::{List, NoMemory};
+use secret_strip::CopyPart;
+use std::alloc::Global;
 
 /// A deck in the order in which it is dealt.
 #[derive(Drop)]
@@ -22,5 +24,13 @@ impl Dealt {
         Dealt {
             cards: List::from_vec(deck),
         }
+    }
+
+    /// An equal deck.
+    pub(crate) fn copy(&self, alloc: Global) -> Result<Self, NoMemory>
+        ensures { IfOk result (λ copied. copied ≡ self.now) }
+    {
+        let cards = self.cards.copy(alloc)?;
+        Ok(Dealt { cards })
     }
 }

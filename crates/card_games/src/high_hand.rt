@@ -73,6 +73,18 @@ impl HighHand {
             deck: Some(Dealt::of(deck)),
         })
     }
+
+    /// The same game.
+    pub fn copy_game(&self, alloc: Global) -> Result<Self, NoMemory>
+        ensures { IfOk result (λ game. game ≡ self.now) }
+    {
+        let sheet = make_sheet(alloc)?;
+        let deck = match &self.deck {
+            Some(deck) => Some(deck.copy(alloc)?),
+            None => None,
+        };
+        Ok(HighHand { sheet, deck })
+    }
 }
 
 /// The sheet: two moves, and a phase for each.

@@ -18,3 +18,5 @@ pub use blind_bid::{Bids, BlindBid};
 pub use cards::{CardTable, Deck, Hand};
 pub use dealt::Dealt;
 pub use high_hand::{Cards, HighHand};
+pub use json::Part;
+pub use lists::copied_split;

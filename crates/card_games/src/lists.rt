@@ -63,7 +63,7 @@ pub(crate) fn with_entry<P: CopyPart>(
 }
 
 /// An equal state.
-pub(crate) fn copied_split<C: CopyPart, S: CopyPart, P: CopyPart>(
+pub fn copied_split<C: CopyPart, S: CopyPart, P: CopyPart>(
     alloc: Global,
     split: &Split<C, S, P>,
 ) -> Result<Split<C, S, P>, NoMemory>
