@@ -1,7 +1,9 @@
 -- The states of all games: each is written down as its own game writes it.
 use Rattle.std.specs.Prelude.{◌≡◌, Option, Some, None, IfSome, refl}
 use Rattle.any_game.specs.declared.any_g.AnyG.{AnyG}
-use Rattle.any_game.specs.declared.any_g.AnyG.TheVariants.{TicTacToe, Countdown, Pig}
+use Rattle.any_game.specs.declared.any_g.AnyG.TheVariants.{TicTacToe, Countdown, Pig, HighHand, BlindBid}
+use Rattle.card_games.specs.BlindBid.{Bids, bids_value}
+use Rattle.card_games.specs.HighHand.{Cards, cards_value}
 use Rattle.serde_json.specs.Data.{Data}
 use Rattle.table_games.specs.Board.{board_value}
 use Rattle.table_games.specs.Countdown.{heap_value}
@@ -13,6 +15,8 @@ abbrev pub any_value : AnyG → Data
 any_value (TicTacToe board) = board_value board
 any_value (Countdown heap) = heap_value heap
 any_value (Pig points) = points_value points
+any_value (HighHand cards) = cards_value cards
+any_value (BlindBid bids) = bids_value bids
 
 -- a state as one of tic-tac-toe, if it is one
 abbrev pub as_board : AnyG → Option Board
@@ -29,18 +33,48 @@ abbrev pub as_points : AnyG → Option Points
 as_points (Pig points) = Some points
 as_points _ = None
 
+-- a state as one of High Hand, if it is one
+abbrev pub as_cards : AnyG → Option Cards
+as_cards (HighHand cards) = Some cards
+as_cards _ = None
+
+-- a state as one of Blind Bid, if it is one
+abbrev pub as_bids : AnyG → Option Bids
+as_bids (BlindBid bids) = Some bids
+as_bids _ = None
+
 -- what is one of a game's states is that state and no other
 pub is_board : (g : AnyG) → IfSome (as_board g) (λ board. g ≡ TicTacToe board)
 is_board (TicTacToe board) = refl
 is_board (Countdown heap) = tt
 is_board (Pig points) = tt
+is_board (HighHand cards) = tt
+is_board (BlindBid bids) = tt
 
 pub is_heap : (g : AnyG) → IfSome (as_heap g) (λ heap. g ≡ Countdown heap)
 is_heap (TicTacToe board) = tt
 is_heap (Countdown heap) = refl
 is_heap (Pig points) = tt
+is_heap (HighHand cards) = tt
+is_heap (BlindBid bids) = tt
 
 pub are_points : (g : AnyG) → IfSome (as_points g) (λ points. g ≡ Pig points)
 are_points (TicTacToe board) = tt
 are_points (Countdown heap) = tt
 are_points (Pig points) = refl
+are_points (HighHand cards) = tt
+are_points (BlindBid bids) = tt
+
+pub are_cards : (g : AnyG) → IfSome (as_cards g) (λ cards. g ≡ HighHand cards)
+are_cards (TicTacToe board) = tt
+are_cards (Countdown heap) = tt
+are_cards (Pig points) = tt
+are_cards (HighHand cards) = refl
+are_cards (BlindBid bids) = tt
+
+pub are_bids : (g : AnyG) → IfSome (as_bids g) (λ bids. g ≡ BlindBid bids)
+are_bids (TicTacToe board) = tt
+are_bids (Countdown heap) = tt
+are_bids (Pig points) = tt
+are_bids (HighHand cards) = tt
+are_bids (BlindBid bids) = refl

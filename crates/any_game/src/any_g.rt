@@ -1,12 +1,13 @@
 //! The states of all games as one type.
 
 ghost use Rattle.std.specs.Prelude.{◌≡◌, ◌↔◌, false, IfOk, IfSome, IsTrue, Option, Some, option_copied, refl};
-ghost use Rattle.any_game.specs.Values.{any_value, are_points, as_board, as_heap, as_points, is_board, is_heap};
+ghost use Rattle.any_game.specs.Values.{any_value, are_bids, are_cards, are_points, as_bids, as_board, as_cards, as_heap, as_points, is_board, is_heap};
 ghost use Rattle.any_game.specs.declared.any_g.AnyG.{AnyG};
-ghost use Rattle.any_game.specs.declared.any_g.AnyG.TheVariants.{TicTacToe as OfTicTacToe, Countdown as OfCountdown, Pig as OfPig};
+ghost use Rattle.any_game.specs.declared.any_g.AnyG.TheVariants.{TicTacToe as OfTicTacToe, Countdown as OfCountdown, Pig as OfPig, HighHand as OfHighHand, BlindBid as OfBlindBid};
 ghost use Rattle.serde_json.specs.View.{view};
 ghost use Rattle.serde_json.specs.Written.{has_float};
 
+use card_games::{Bids, Cards, Part, copied_split};
 use game_sheet::NoMemory;
 use serde_json::Value;
 use std::alloc::Global;
@@ -21,6 +22,10 @@ pub enum AnyG {
     Countdown(Heap),
     /// Of Pig.
     Pig(Scores),
+    /// Of High Hand.
+    HighHand(Cards),
+    /// Of Blind Bid.
+    BlindBid(Bids),
 }
 
 impl AnyG {
@@ -32,6 +37,8 @@ impl AnyG {
             AnyG::TicTacToe(board) => Ok(AnyG::TicTacToe(board.copy())),
             AnyG::Countdown(heap) => Ok(AnyG::Countdown(heap.copy())),
             AnyG::Pig(scores) => Ok(AnyG::Pig(scores.copy(alloc)?)),
+            AnyG::HighHand(cards) => Ok(AnyG::HighHand(copied_split(alloc, cards)?)),
+            AnyG::BlindBid(bids) => Ok(AnyG::BlindBid(copied_split(alloc, bids)?)),
         }
     }
 
@@ -43,6 +50,8 @@ impl AnyG {
             (AnyG::TicTacToe(board), AnyG::TicTacToe(other)) => board.same(other),
             (AnyG::Countdown(heap), AnyG::Countdown(other)) => heap.same(other),
             (AnyG::Pig(scores), AnyG::Pig(other)) => scores.same(other),
+            (AnyG::HighHand(cards), AnyG::HighHand(other)) => cards.same(other),
+            (AnyG::BlindBid(bids), AnyG::BlindBid(other)) => bids.same(other),
             _ => false,
         }
     }
@@ -56,6 +65,8 @@ impl AnyG {
             AnyG::TicTacToe(board) => board.to_value(alloc),
             AnyG::Countdown(heap) => heap.to_value(alloc),
             AnyG::Pig(scores) => scores.to_value(alloc),
+            AnyG::HighHand(cards) => Ok(cards.to_json(alloc)?),
+            AnyG::BlindBid(bids) => Ok(bids.to_json(alloc)?),
         }
     }
 }
@@ -139,6 +150,48 @@ impl OwnState for Scores {
     fn of_any(g: &AnyG) -> Option<&Self> {
         match g {
             AnyG::Pig(scores) => Some(scores),
+            _ => None,
+        }
+    }
+}
+
+impl OwnState for Cards {
+    ghost inject = { OfHighHand };
+
+    ghost project = { as_cards };
+
+    ghost finds = { λ own. refl };
+
+    ghost tells = { are_cards };
+
+    fn into_any(self) -> AnyG {
+        AnyG::HighHand(self)
+    }
+
+    fn of_any(g: &AnyG) -> Option<&Self> {
+        match g {
+            AnyG::HighHand(cards) => Some(cards),
+            _ => None,
+        }
+    }
+}
+
+impl OwnState for Bids {
+    ghost inject = { OfBlindBid };
+
+    ghost project = { as_bids };
+
+    ghost finds = { λ own. refl };
+
+    ghost tells = { are_bids };
+
+    fn into_any(self) -> AnyG {
+        AnyG::BlindBid(self)
+    }
+
+    fn of_any(g: &AnyG) -> Option<&Self> {
+        match g {
+            AnyG::BlindBid(bids) => Some(bids),
             _ => None,
         }
     }

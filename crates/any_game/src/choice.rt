@@ -1,11 +1,14 @@
 //! A game picked by its name.
 
-ghost use Rattle.std.specs.Prelude.{◌≡◌, IfOk};
-ghost use Rattle.any_game.specs.AnyRules.{named};
-ghost use Rattle.any_game.specs.GameKind.{TicTacToe as IsTicTacToe, Countdown as IsCountdown, Pig as IsPig};
+ghost use Rattle.std.specs.Prelude.{◌≡◌, ℕ, IfOk, IsTrue, None, Option as Maybe};
+ghost use Rattle.any_game.specs.AnyRules.{any_rules as rules_of, named};
+ghost use Rattle.any_game.specs.GameKind.{TicTacToe as IsTicTacToe, Countdown as IsCountdown, Pig as IsPig, HighHand as IsHighHand, BlindBid as IsBlindBid, hides_nothing};
+ghost use Rattle.any_game.specs.declared.any_g.AnyG.{AnyG as State};
+ghost use Rattle.game_sheet.specs.declared.ctx.Ctx.{Ctx as Context};
 
 use crate::any_g::AnyG;
 use crate::lifted::Lifted;
+use card_games::{BlindBid, HighHand};
 use dice_words::Tape;
 use game_sheet::{Args, Ctx, EventQueue, List, MoveId, NoMemory, Outcome, PhaseId, Seat, Sheet};
 use game_trait::{Game, Halt, HookHalt};
@@ -25,6 +28,8 @@ enum Picked {
     TicTacToe(Lifted<TicTacToe>),
     Countdown(Lifted<Countdown>),
     Pig(Lifted<Pig>),
+    HighHand(Lifted<HighHand>),
+    BlindBid(Lifted<BlindBid>),
 }
 
 impl Model for AnyGame {
@@ -67,14 +72,52 @@ impl AnyGame {
         })
     }
 
+    /// High Hand with a shuffled deck.
+    pub fn high_hand(alloc: Global) -> Result<Self, NoMemory>
+        ensures { IfOk result (λ game. game ≡ IsHighHand None) }
+    {
+        let game = HighHand::new(alloc)?;
+        Ok(AnyGame {
+            game: Picked::HighHand(Lifted { game }),
+        })
+    }
+
+    /// Blind Bid.
+    pub fn blind_bid(alloc: Global) -> Result<Self, NoMemory>
+        ensures { IfOk result (λ game. game ≡ IsBlindBid) }
+    {
+        let game = BlindBid::new(alloc)?;
+        Ok(AnyGame {
+            game: Picked::BlindBid(Lifted { game }),
+        })
+    }
+
+    /// Whether every viewer sees the whole of every state.
+    #[tactic(auto, using(crate::proofs::Shown::sees_all))]
+    pub fn hides_nothing(&self) -> bool
+        ensures value { result ≡ hides_nothing self.now }
+        ensures shown { IsTrue result → (g : State) (ctx : Context) (viewer : Maybe ℕ) → (rules_of self.now).view g ctx viewer ≡ g }
+    {
+        match self.game {
+            Picked::TicTacToe(_) | Picked::Countdown(_) | Picked::Pig(_) => true,
+            Picked::HighHand(_) | Picked::BlindBid(_) => false,
+        }
+    }
+
     /// The same game.
     pub fn copy_game(&self, alloc: Global) -> Result<Self, NoMemory>
         ensures { IfOk result (λ game. game ≡ self.now) }
     {
-        match self.game {
+        match &self.game {
             Picked::TicTacToe(_) => AnyGame::tic_tac_toe(alloc),
             Picked::Countdown(_) => AnyGame::countdown(alloc),
             Picked::Pig(_) => AnyGame::pig(alloc),
+            Picked::HighHand(lifted) => Ok(AnyGame {
+                game: Picked::HighHand(Lifted {
+                    game: lifted.game.copy_game(alloc)?,
+                }),
+            }),
+            Picked::BlindBid(_) => AnyGame::blind_bid(alloc),
         }
     }
 }
@@ -89,6 +132,10 @@ pub fn by_name(alloc: Global, name: &str) -> Result<Option<AnyGame>, NoMemory>
         Ok(Some(AnyGame::countdown(alloc)?))
     } else if name == "pig" {
         Ok(Some(AnyGame::pig(alloc)?))
+    } else if name == "high-hand" {
+        Ok(Some(AnyGame::high_hand(alloc)?))
+    } else if name == "blind-bid" {
+        Ok(Some(AnyGame::blind_bid(alloc)?))
     } else {
         Ok(None)
     }
@@ -110,6 +157,8 @@ impl Game for AnyGame {
             Picked::TicTacToe(game) => game.sheet(),
             Picked::Countdown(game) => game.sheet(),
             Picked::Pig(game) => game.sheet(),
+            Picked::HighHand(game) => game.sheet(),
+            Picked::BlindBid(game) => game.sheet(),
         }
     }
 
@@ -118,6 +167,8 @@ impl Game for AnyGame {
             Picked::TicTacToe(game) => game.setup(alloc, seats, tape),
             Picked::Countdown(game) => game.setup(alloc, seats, tape),
             Picked::Pig(game) => game.setup(alloc, seats, tape),
+            Picked::HighHand(game) => game.setup(alloc, seats, tape),
+            Picked::BlindBid(game) => game.setup(alloc, seats, tape),
         }
     }
 
@@ -136,6 +187,8 @@ impl Game for AnyGame {
             Picked::TicTacToe(game) => game.play(alloc, g, ctx, seat, id, args, tape, events),
             Picked::Countdown(game) => game.play(alloc, g, ctx, seat, id, args, tape, events),
             Picked::Pig(game) => game.play(alloc, g, ctx, seat, id, args, tape, events),
+            Picked::HighHand(game) => game.play(alloc, g, ctx, seat, id, args, tape, events),
+            Picked::BlindBid(game) => game.play(alloc, g, ctx, seat, id, args, tape, events),
         }
     }
 
@@ -152,6 +205,8 @@ impl Game for AnyGame {
             Picked::TicTacToe(game) => game.on_move(alloc, g, ctx, seat, tape, events),
             Picked::Countdown(game) => game.on_move(alloc, g, ctx, seat, tape, events),
             Picked::Pig(game) => game.on_move(alloc, g, ctx, seat, tape, events),
+            Picked::HighHand(game) => game.on_move(alloc, g, ctx, seat, tape, events),
+            Picked::BlindBid(game) => game.on_move(alloc, g, ctx, seat, tape, events),
         }
     }
 
@@ -167,6 +222,8 @@ impl Game for AnyGame {
             Picked::TicTacToe(game) => game.turn_begin(alloc, g, ctx, tape, events),
             Picked::Countdown(game) => game.turn_begin(alloc, g, ctx, tape, events),
             Picked::Pig(game) => game.turn_begin(alloc, g, ctx, tape, events),
+            Picked::HighHand(game) => game.turn_begin(alloc, g, ctx, tape, events),
+            Picked::BlindBid(game) => game.turn_begin(alloc, g, ctx, tape, events),
         }
     }
 
@@ -182,6 +239,8 @@ impl Game for AnyGame {
             Picked::TicTacToe(game) => game.turn_end(alloc, g, ctx, tape, events),
             Picked::Countdown(game) => game.turn_end(alloc, g, ctx, tape, events),
             Picked::Pig(game) => game.turn_end(alloc, g, ctx, tape, events),
+            Picked::HighHand(game) => game.turn_end(alloc, g, ctx, tape, events),
+            Picked::BlindBid(game) => game.turn_end(alloc, g, ctx, tape, events),
         }
     }
 
@@ -198,6 +257,8 @@ impl Game for AnyGame {
             Picked::TicTacToe(game) => game.phase_begin(alloc, g, ctx, phase, tape, events),
             Picked::Countdown(game) => game.phase_begin(alloc, g, ctx, phase, tape, events),
             Picked::Pig(game) => game.phase_begin(alloc, g, ctx, phase, tape, events),
+            Picked::HighHand(game) => game.phase_begin(alloc, g, ctx, phase, tape, events),
+            Picked::BlindBid(game) => game.phase_begin(alloc, g, ctx, phase, tape, events),
         }
     }
 
@@ -214,6 +275,8 @@ impl Game for AnyGame {
             Picked::TicTacToe(game) => game.phase_end(alloc, g, ctx, phase, tape, events),
             Picked::Countdown(game) => game.phase_end(alloc, g, ctx, phase, tape, events),
             Picked::Pig(game) => game.phase_end(alloc, g, ctx, phase, tape, events),
+            Picked::HighHand(game) => game.phase_end(alloc, g, ctx, phase, tape, events),
+            Picked::BlindBid(game) => game.phase_end(alloc, g, ctx, phase, tape, events),
         }
     }
 
@@ -229,6 +292,8 @@ impl Game for AnyGame {
             Picked::TicTacToe(game) => game.game_end(alloc, g, ctx, tape, events),
             Picked::Countdown(game) => game.game_end(alloc, g, ctx, tape, events),
             Picked::Pig(game) => game.game_end(alloc, g, ctx, tape, events),
+            Picked::HighHand(game) => game.game_end(alloc, g, ctx, tape, events),
+            Picked::BlindBid(game) => game.game_end(alloc, g, ctx, tape, events),
         }
     }
 
@@ -237,6 +302,8 @@ impl Game for AnyGame {
             Picked::TicTacToe(game) => game.end_if(g, ctx),
             Picked::Countdown(game) => game.end_if(g, ctx),
             Picked::Pig(game) => game.end_if(g, ctx),
+            Picked::HighHand(game) => game.end_if(g, ctx),
+            Picked::BlindBid(game) => game.end_if(g, ctx),
         }
     }
 
@@ -245,6 +312,8 @@ impl Game for AnyGame {
             Picked::TicTacToe(game) => game.turn_end_if(g, ctx),
             Picked::Countdown(game) => game.turn_end_if(g, ctx),
             Picked::Pig(game) => game.turn_end_if(g, ctx),
+            Picked::HighHand(game) => game.turn_end_if(g, ctx),
+            Picked::BlindBid(game) => game.turn_end_if(g, ctx),
         }
     }
 
@@ -253,6 +322,8 @@ impl Game for AnyGame {
             Picked::TicTacToe(game) => game.phase_end_if(g, ctx),
             Picked::Countdown(game) => game.phase_end_if(g, ctx),
             Picked::Pig(game) => game.phase_end_if(g, ctx),
+            Picked::HighHand(game) => game.phase_end_if(g, ctx),
+            Picked::BlindBid(game) => game.phase_end_if(g, ctx),
         }
     }
 
@@ -261,6 +332,8 @@ impl Game for AnyGame {
             Picked::TicTacToe(game) => game.play_order(alloc, g, ctx),
             Picked::Countdown(game) => game.play_order(alloc, g, ctx),
             Picked::Pig(game) => game.play_order(alloc, g, ctx),
+            Picked::HighHand(game) => game.play_order(alloc, g, ctx),
+            Picked::BlindBid(game) => game.play_order(alloc, g, ctx),
         }
     }
 
@@ -275,6 +348,8 @@ impl Game for AnyGame {
             Picked::TicTacToe(game) => game.view(alloc, g, ctx, viewer),
             Picked::Countdown(game) => game.view(alloc, g, ctx, viewer),
             Picked::Pig(game) => game.view(alloc, g, ctx, viewer),
+            Picked::HighHand(game) => game.view(alloc, g, ctx, viewer),
+            Picked::BlindBid(game) => game.view(alloc, g, ctx, viewer),
         }
     }
 
@@ -283,6 +358,8 @@ impl Game for AnyGame {
             Picked::TicTacToe(game) => game.undoable(g, ctx, id),
             Picked::Countdown(game) => game.undoable(g, ctx, id),
             Picked::Pig(game) => game.undoable(g, ctx, id),
+            Picked::HighHand(game) => game.undoable(g, ctx, id),
+            Picked::BlindBid(game) => game.undoable(g, ctx, id),
         }
     }
 
@@ -297,6 +374,8 @@ impl Game for AnyGame {
             Picked::TicTacToe(game) => game.options(alloc, g, ctx, seat),
             Picked::Countdown(game) => game.options(alloc, g, ctx, seat),
             Picked::Pig(game) => game.options(alloc, g, ctx, seat),
+            Picked::HighHand(game) => game.options(alloc, g, ctx, seat),
+            Picked::BlindBid(game) => game.options(alloc, g, ctx, seat),
         }
     }
 
@@ -305,6 +384,8 @@ impl Game for AnyGame {
             Picked::TicTacToe(game) => game.to_value(alloc, g),
             Picked::Countdown(game) => game.to_value(alloc, g),
             Picked::Pig(game) => game.to_value(alloc, g),
+            Picked::HighHand(game) => game.to_value(alloc, g),
+            Picked::BlindBid(game) => game.to_value(alloc, g),
         }
     }
 
@@ -313,6 +394,8 @@ impl Game for AnyGame {
             Picked::TicTacToe(game) => game.from_value(alloc, v),
             Picked::Countdown(game) => game.from_value(alloc, v),
             Picked::Pig(game) => game.from_value(alloc, v),
+            Picked::HighHand(game) => game.from_value(alloc, v),
+            Picked::BlindBid(game) => game.from_value(alloc, v),
         }
     }
 

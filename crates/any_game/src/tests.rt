@@ -2,12 +2,12 @@
 
 use crate::by_name;
 use dice_words::Tape;
-use game_sheet::{Ctx, List, MoveId, NoMemory};
+use game_sheet::{Ctx, List, MoveId, NoMemory, PhaseId};
 use game_trait::Game;
 use std::alloc::Global;
 use std::test::Fail;
 
-/// The context of a first turn.
+/// The context of a first turn, in the first phase where there are phases.
 fn first_turn(alloc: Global) -> Ctx {
     Ctx {
         seats: 2,
@@ -15,7 +15,7 @@ fn first_turn(alloc: Global) -> Ctx {
         current: 0,
         order: List::new(alloc),
         pos: 0,
-        phase: None,
+        phase: Some(PhaseId::at(0)),
         active: None,
         moves: 0,
         over: None,
@@ -28,7 +28,7 @@ fn opening<X: Game>(game: &X, alloc: Global) -> Option<X::G> {
     if sheet.min_seats > 2 || sheet.max_seats < 2 {
         return None;
     }
-    game.setup(alloc, 2, &mut Tape::blank()).ok()
+    game.setup(alloc, 2, &mut Tape::live([0; 32], 0, 0)).ok()
 }
 
 /// Whether what is written of a state reads back as it.
@@ -60,32 +60,57 @@ fn undoes<X: Game>(game: &X, alloc: Global, g: &X::G) -> Option<bool> {
     Some(game.undoable(g, &first_turn(alloc), MoveId::at(0)))
 }
 
-/// How many moves are offered at first, and whether the first one may be undone; none where a state is lost or hidden.
-fn at_first<X: Game>(game: &X, alloc: Global) -> Result<Option<(usize, bool)>, NoMemory> {
+/// What a game is at first.
+#[derive(Clone, Copy, PartialEq, Eq, Debug)]
+struct First {
+    /// How many moves the first seat is offered.
+    offers: usize,
+    /// Whether the first move may be undone; none where the sheet has no move.
+    undoes: Option<bool>,
+    /// Whether a spectator sees the whole state.
+    is_open: bool,
+}
+
+/// What a game is at first; none where what is written of its first state doesn't read back.
+fn at_first<X: Game>(game: &X, alloc: Global) -> Result<Option<First>, NoMemory> {
     let Some(g) = opening(game, alloc) else {
         return Ok(None);
     };
-    if !is_again(game, alloc, &g)? || !is_open(game, alloc, &g)? {
+    if !is_again(game, alloc, &g)? {
         return Ok(None);
     }
-    let count = count_of_options(game, alloc, &g)?;
-    Ok(undoes(game, alloc, &g).map(|undoes| (count, undoes)))
+    Ok(Some(First {
+        offers: count_of_options(game, alloc, &g)?,
+        undoes: undoes(game, alloc, &g),
+        is_open: is_open(game, alloc, &g)?,
+    }))
 }
 
-/// The same of a game by its name; none where no game has it.
-fn named(alloc: Global, name: &str) -> Result<Option<(usize, bool)>, NoMemory> {
+/// The same of a game by its name, and of its copy; none where no game has it.
+fn named(alloc: Global, name: &str) -> Result<Option<First>, NoMemory> {
     match by_name(alloc, name)? {
-        Some(game) => at_first(&game, alloc),
+        Some(game) => at_first(&game.copy_game(alloc)?, alloc),
         None => Ok(None),
     }
+}
+
+/// A game that begins so.
+fn starts(offers: usize, undoes: bool, is_open: bool) -> Option<First> {
+    Some(First {
+        offers,
+        undoes: Some(undoes),
+        is_open,
+    })
 }
 
 #[test]
 fn each_game_is_found_by_its_name(rt: HostRuntime) -> Result<(), Fail> {
     let alloc = rt.alloc();
-    assert!(rt; named(alloc, "tic-tac-toe")? == Some((9, true)));
-    assert!(rt; named(alloc, "countdown")? == Some((4, true)));
-    assert!(rt; named(alloc, "pig")? == Some((1, false)));
+    assert_eq!(rt; named(alloc, "tic-tac-toe")?, starts(9, true, true));
+    assert_eq!(rt; named(alloc, "countdown")?, starts(4, true, true));
+    assert_eq!(rt; named(alloc, "pig")?, starts(1, false, true));
+    assert_eq!(rt; named(alloc, "high-hand")?, starts(1, false, false));
+    assert_eq!(rt; named(alloc, "blind-bid")?, starts(20, false, false));
     assert!(rt; named(alloc, "Pig")?.is_none());
     Ok(())
 }
