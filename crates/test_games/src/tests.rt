@@ -2,6 +2,7 @@
 
 mod cards;
 mod events;
+mod functions;
 mod games;
 mod matches;
 mod orders;
