@@ -1,10 +1,8 @@
 //! A game picked by its name.
 
-ghost use Rattle.std.specs.Prelude.{◌≡◌, ℕ, IfOk, IsTrue, None, Option as Maybe};
-ghost use Rattle.any_game.specs.AnyRules.{any_rules as rules_of, named};
-ghost use Rattle.any_game.specs.GameKind.{TicTacToe as IsTicTacToe, Countdown as IsCountdown, Pig as IsPig, HighHand as IsHighHand, BlindBid as IsBlindBid, hides_nothing};
-ghost use Rattle.any_game.specs.declared.any_g.AnyG.{AnyG as State};
-ghost use Rattle.game_sheet.specs.declared.ctx.Ctx.{Ctx as Context};
+ghost use Rattle.std.specs.Prelude.{◌≡◌, IfOk, None};
+ghost use Rattle.any_game.specs.AnyRules.{named};
+ghost use Rattle.any_game.specs.GameKind.{TicTacToe as IsTicTacToe, Countdown as IsCountdown, Pig as IsPig, HighHand as IsHighHand, BlindBid as IsBlindBid};
 
 use crate::any_g::AnyG;
 use crate::lifted::Lifted;
@@ -90,18 +88,6 @@ impl AnyGame {
         Ok(AnyGame {
             game: Picked::BlindBid(Lifted { game }),
         })
-    }
-
-    /// Whether every viewer sees the whole of every state.
-    #[tactic(auto, using(crate::proofs::Shown::sees_all))]
-    pub fn hides_nothing(&self) -> bool
-        ensures value { result ≡ hides_nothing self.now }
-        ensures shown { IsTrue result → (g : State) (ctx : Context) (viewer : Maybe ℕ) → (rules_of self.now).view g ctx viewer ≡ g }
-    {
-        match self.game {
-            Picked::TicTacToe(_) | Picked::Countdown(_) | Picked::Pig(_) => true,
-            Picked::HighHand(_) | Picked::BlindBid(_) => false,
-        }
     }
 
     /// The same game.

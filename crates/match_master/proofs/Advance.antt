@@ -14,7 +14,6 @@ use Rattle.match_master.specs.Does.{Does, Detaches, SubmitDoes, attached_in, vie
 use Rattle.match_master.specs.Held.{Held, Holds, Advances, stored, is_starved, answer_to}
 use Rattle.match_master.specs.Lines.{ok_line, no_line}
 use Rattle.match_master.specs.Match.{Match, number_of}
-use Rattle.match_master.specs.Reply.{taken}
 use Rattle.match_master.specs.Shown.{Shown, gained, with_gained, tell_all, say, say_at}
 use Rattle.match_master.specs.Steps.{and_own, told, told_where, begun_where, marked, sync_of, update_of}
 use Rattle.match_master.specs.Stream.{Piece, Line, waiting}
@@ -253,14 +252,18 @@ module _ {X G : Type 0} (rules : X → Rules G) where
     where
       line : List ℕ
       line = no_line (number_of m) reason s.ticket
+
       own : Shown
       own = record { attachment = c; bytes = waiting (pieces pass) ++ line }
+
       own_is : Some own ≡ stored (attached pass) (waiting (told_as old.room m c.viewer s (Some reason) true (attached pass) (pieces pass)))
       own_is = sym (ap (λ a. stored a (waiting (told_as old.room m c.viewer s (Some reason) true a (pieces pass)))) e)
+
       kept : (b : Bool) (q : ℕ) → (pass == q) ≡ b → (if b then Some own else lookup (nat_eq q) old.sessions)
           ≡ stored (if b then attached q else attached q) (waiting (told_as old.room m c.viewer s (Some reason) b (attached q) (pieces q)))
       kept false q f = h.sessions_held q ∙ unsaid old.room m c.viewer s reason (attached q) (pieces q)
       kept true q f = subst (λ p. Some own ≡ stored (attached p) (waiting (told_as old.room m c.viewer s (Some reason) true (attached p) (pieces p)))) (pass_is pass q f) own_is
+
       told_at : (q : ℕ) → lookup (nat_eq q) (say pass line old.sessions)
           ≡ stored (if pass == q then attached q else attached q) (waiting (told_as old.room m c.viewer s (Some reason) (pass == q) (attached q) (pieces q)))
       told_at q = ap (λ o. lookup (nat_eq q) (say_at pass line o old.sessions)) (h.sessions_held pass ∙ ap (λ a. stored a (waiting (pieces pass))) e)

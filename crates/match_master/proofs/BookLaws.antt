@@ -1,6 +1,5 @@
 -- What the private steps of a Book come to, in the words of its history.
-use Rattle.std.proofs.Common.{◌≡◌, ℕ, ◌+◌, List, [], ◌∷◌, ◌++◌, map, IfSome, Option, Some, None, option_map, refl, sym, ap, ◌∙◌, subst, add-one}
-use Rattle.serde_json.specs.Data.{Data}
+use Rattle.std.proofs.Common.{◌≡◌, ℕ, ◌+◌, List, [], ◌∷◌, ◌++◌, map, ◌==◌, Bool, true, false, if◌then◌else◌, MatchBool, IfSome, IsSome, is_some, nat_eq, Option, Some, None, option_map, Result, Ok, Err, refl, sym, ap, ◌∙◌, subst, add-one, arith}
 use Rattle.game_trait.specs.Rules.{Rules}
 use Rattle.game_sheet.specs.declared.sheet.Sheet.{Sheet}
 use Rattle.move_log.specs.Redact.{redact}
@@ -17,16 +16,20 @@ use Rattle.match_master.specs.declared.kept.Kept.{Kept}
 use Rattle.match_master.specs.declared.reply.RoomReply.{RoomReply}
 use Rattle.match_master.specs.declared.reply.RoomReply.TheVariants as answer
 use Rattle.match_master.specs.declared.submission.Submission.{Submission}
-use Rattle.match_master.specs.Calls.{verdict_reply}
-use Rattle.match_master.specs.Does.{Does, SubmitDoes, update_text, with_accepted, after_submission}
-use Rattle.match_master.specs.Held.{Held, kept_of}
+use Rattle.std.proofs.lemmas.Bool.Decides.{nat_tests}
+use Rattle.indexmap.specs.IndexMap.{insert_entry}
+use Rattle.seat_roster.specs.Player.{Seats}
+use Rattle.match_master.specs.Attachment.{Attachment, begun_by}
+use Rattle.match_master.specs.Calls.{verdict_reply, admit, attach, attach_at, attach_reply, serial_and_seats}
+use Rattle.match_master.specs.Does.{Does, SubmitDoes, update_text, with_accepted, after_submission, after_attach, sync_text}
+use Rattle.match_master.specs.Held.{Held, kept_of, is_starved}
 use Rattle.match_master.specs.Judged.{IsAccepted}
 use Rattle.match_master.specs.Lines.{newest, ok_line}
 use Rattle.match_master.specs.Match.{Match, number_of, table_of, entry_on, log_of}
 use Rattle.match_master.specs.Shown.{Shown, tell_all}
-use Rattle.match_master.specs.Viewer.{Viewer}
-use Rattle.match_master.specs.Steps.{update_of}
-use Rattle.match_master.specs.Verdict.{broken, accept}
+use Rattle.match_master.specs.Viewer.{Viewer, seat_of}
+use Rattle.match_master.specs.Steps.{sync_of, update_of}
+use Rattle.match_master.specs.Verdict.{broken}
 use Rattle.match_master.proofs.SessionLaws.{tell_same}
 
 pub newest_last : (sheet : Sheet) (log : List Entry) (e : Entry) → newest sheet (log ++ e ∷ []) ≡ entry_data sheet e
@@ -100,3 +103,59 @@ module _ {X G : Type 0} (rules : X → Rules G) where
   submit_does old pass k viewer s state entry reply new (Some m) e h i d =
       accept_does old pass m viewer s state entry reply new (i m (some_kept k (kept_of rules m) (sym e ∙ h)))
       (subst (λ o. IfSome o (λ held. Does old reply new (answer.Verdict (verdict.Ok state.number)) (with_accepted rules old held pass state entry s.ticket))) h d)
+
+  abbrev place_in : Option (Kept X G) → Option (ℕ × Seats)
+  place_in kept = option_map (λ (k : Kept X G). (k.serial, k.roster)) kept
+
+  seats_kept : (st : Option (Match X G)) → place_in (option_map (kept_of rules) st) ≡ serial_and_seats st
+  seats_kept None = refl
+  seats_kept (Some m) = refl
+
+  nobody : (at : Option Attachment) (serial : ℕ) (viewer v : Viewer) → attach_at None at serial viewer ≡ Ok v → ⊥
+  nobody None serial viewer v e = cc
+  nobody (Some a) serial viewer v e = cc
+
+  one_serial : (n serial : ℕ) (b : Bool) → (n == serial) ≡ b → (r : Result Viewer RoomReply) (v : Viewer) → (if b then r else Err answer.NoMatch) ≡ Ok v → n ≡ serial
+  one_serial n serial true e r v h = grind (arith, nat_tests)
+  one_serial n serial false e r v h = cc
+
+  serial_is : (m : Match X G) (at : Option Attachment) (serial : ℕ) (viewer v : Viewer) → attach (Some m) at serial viewer ≡ Ok v → m.serial ≡ serial
+  serial_is m None serial viewer v e = one_serial m.serial serial (m.serial == serial) refl (admit m.roster viewer) v e
+  serial_is m (Some a) serial viewer v e = cc
+
+  -- an Attach is let in to a match that is kept
+  pub is_kept : (kept : Option (Kept X G)) (at : Option Attachment) (serial : ℕ) (viewer v : Viewer) → attach_at (place_in kept) at serial viewer ≡ Ok v → IsSome kept
+  is_kept None at serial viewer v e = absurd (nobody at serial viewer v e)
+  is_kept (Some k) at serial viewer v e = refl
+
+  attach_as : (old : Held X G) (at : Option Attachment) (serial : ℕ) (viewer : Viewer) (st : Option (Match X G)) → old.kept ≡ option_map (kept_of rules) st → attach_at (place_in old.kept) at serial viewer ≡ attach st at serial viewer
+  attach_as old at serial viewer st h = ap (λ o. attach_at (place_in o) at serial viewer) h ∙ ap (λ p. attach_at p at serial viewer) (seats_kept st)
+
+  pub let_in : (old : Held X G) (pass serial : ℕ) (viewer : Viewer) (reply : RoomReply) (new : Held X G) (at : Option Attachment) (st : Option (Match X G)) → old.kept ≡ option_map (kept_of rules) st
+      → attach_at (place_in old.kept) at serial viewer ≡ Ok viewer
+      → IfSome old.kept (λ k. Does old reply new answer.Attached (record old { sessions = insert_entry nat_eq old.sessions pass (record { attachment = begun_by viewer k.serial; bytes = sync_text rules old.room k (seat_of viewer) }) }))
+      → Does old reply new (attach_reply (attach st at serial viewer)) (after_attach rules old pass serial st (attach st at serial viewer))
+  let_in old pass serial viewer reply new at None h e d = absurd (nobody at serial viewer viewer (sym (attach_as old at serial viewer None h) ∙ e))
+  let_in old pass serial viewer reply new at (Some m) h e d =
+      let admitted : attach (Some m) at serial viewer ≡ Ok viewer = sym (attach_as old at serial viewer (Some m) h) ∙ e in
+      subst (λ r. Does old reply new (attach_reply r) (after_attach rules old pass serial (Some m) r)) (sym admitted)
+      (subst (λ n. Does old reply new answer.Attached (record old { sessions = insert_entry nat_eq old.sessions pass (record { attachment = begun_by viewer n; bytes = sync_of rules old.room m (seat_of viewer) }) }))
+      (serial_is m at serial viewer viewer admitted)
+      (subst (λ o. IfSome o (λ k. Does old reply new answer.Attached (record old { sessions = insert_entry nat_eq old.sessions pass (record { attachment = begun_by viewer k.serial; bytes = sync_text rules old.room k (seat_of viewer) }) }))) h d))
+
+  nothing_done : (b : Bool) (old : Held X G) (why : RoomReply) → MatchBool b (old ≡ old) ((why ≡ why) × (old ≡ old))
+  nothing_done true old why = refl
+  nothing_done false old why = (refl, refl)
+
+  unchanged : (old : Held X G) (pass serial : ℕ) (st : Option (Match X G)) (why : RoomReply) → Does old why old why (after_attach rules old pass serial st (Err why))
+  unchanged old pass serial None why = nothing_done (is_starved why) old why
+  unchanged old pass serial (Some m) why = nothing_done (is_starved why) old why
+
+  pub kept_out : (old : Held X G) (pass serial : ℕ) (viewer : Viewer) (why : RoomReply) (at : Option Attachment) (st : Option (Match X G)) → old.kept ≡ option_map (kept_of rules) st
+      → attach_at (place_in old.kept) at serial viewer ≡ Err why → Does old why old (attach_reply (attach st at serial viewer)) (after_attach rules old pass serial st (attach st at serial viewer))
+  kept_out old pass serial viewer why at st h e =
+      subst (λ r. Does old why old (attach_reply r) (after_attach rules old pass serial st r)) (sym e ∙ attach_as old at serial viewer st h) (unchanged old pass serial st why)
+
+pub is_some_attached : (o : Option Shown) → is_some (option_map (λ (s : Shown). s.attachment) o) ≡ is_some o
+is_some_attached None = refl
+is_some_attached (Some s) = refl

@@ -12,7 +12,7 @@ use Rattle.match_master.specs.Reply.{name_of}
 use Rattle.match_master.specs.Sight.{shown_too}
 use Rattle.match_master.specs.Steps.{update_of, sync_of}
 use Rattle.match_master.specs.Viewer.{Viewer, seat_of}
-use Rattle.match_master.proofs.UpdateLaws.{AllUpTo, AllBy, up_to_more, by_more, later-none, later-newer, updates-all, updates-newer, updates-next, items-newer}
+use Rattle.match_master.proofs.UpdateLaws.{AllUpTo, AllBy, AreFalling, AreInOrder, below_next, up_to_more, by_more, later-none, later-newer, updates-all, updates-newer, updates-next, items-newer}
 
 module _ {X G : Type 0} (rules : X → Rules G) (room : ℕ) where
   -- the stream of an attachment to a match
@@ -24,6 +24,8 @@ module _ {X G : Type 0} (rules : X → Rules G) (room : ℕ) where
     pub top : sight ≡ snap rules m (seat_of viewer) ∷ rest
     pub seen : AllUpTo (number_of m) sight
     pub done : AllBy (number_of m) own
+    pub falls : AreFalling sight
+    pub rises : AreInOrder (name_of rules room m) (rules m.game).sheet viewer (start_of (name_of rules room m) (rules m.game).sheet viewer (oldest sight)) own
     pub is : ps ≡ stream_of m viewer sight own
 
   -- the match after one more accepted action
@@ -51,12 +53,12 @@ module _ {X G : Type 0} (rules : X → Rules G) (room : ℕ) where
       → shown_too rules (grown m a) (seat_of viewer) sight ≡ snap rules (grown m a) (seat_of viewer) ∷ sight
   shown_grown m a viewer ps sight own f = subst (λ s. shown_too rules (grown m a) (seat_of viewer) s ≡ snap rules (grown m a) (seat_of viewer) ∷ s) (sym f.top) (shown_next m a viewer f.rest)
 
-  oldest_upto : (n : ℕ) (sight : List Snap) (m : Match X G) (viewer : Viewer) → AllUpTo n sight → start_of (name_of rules room m) (rules m.game).sheet viewer (oldest sight) ≤ n
+  pub oldest_upto : (n : ℕ) (sight : List Snap) (m : Match X G) (viewer : Viewer) → AllUpTo n sight → start_of (name_of rules room m) (rules m.game).sheet viewer (oldest sight) ≤ n
   oldest_upto n [] m viewer a = omega arith
   oldest_upto n (s ∷ []) m viewer a = a.0
   oldest_upto n (s ∷ t ∷ sight) m viewer a = oldest_upto n (t ∷ sight) m viewer a.1
 
-  reached_by : (n start : ℕ) (own : List Item) (m : Match X G) (viewer : Viewer) → AllBy n own → start ≤ n → reached (name_of rules room m) (rules m.game).sheet viewer start own ≤ n
+  pub reached_by : (n start : ℕ) (own : List Item) (m : Match X G) (viewer : Viewer) → AllBy n own → start ≤ n → reached (name_of rules room m) (rules m.game).sheet viewer start own ≤ n
   reached_by n start [] m viewer a h = h
   reached_by n start (item ∷ own) m viewer a h = a.1
 
@@ -67,6 +69,8 @@ module _ {X G : Type 0} (rules : X → Rules G) (room : ℕ) where
     top = refl;
     seen = (omega arith, tt);
     done = tt;
+    falls = (tt, tt);
+    rises = tt;
     is = rw (later-none (rules m.game).sheet (number_of m) (snap rules m (seat_of viewer) ∷ []) (omega arith, tt)) refl;
   }
 
@@ -85,6 +89,12 @@ module _ {X G : Type 0} (rules : X → Rules G) (room : ℕ) where
         top = f.top;
         seen = f.seen;
         done = (omega arith, omega arith, f.done);
+        falls = f.falls;
+        rises = (
+          (let low : start ≤ n = reached_by n (start_of (name_of rules room m) (rules m.game).sheet viewer (oldest sight)) own m viewer f.done (oldest_upto n sight m viewer f.seen) in omega arith),
+          omega arith,
+          f.rises,
+        );
         is = rw (after, none, at, said, all) (ap (λ x. added ++ x) f.is);
       }
 
@@ -110,6 +120,8 @@ module _ {X G : Type 0} (rules : X → Rules G) (room : ℕ) where
         top = refl;
         seen = (omega arith, up_to_more n (number_of (grown m a)) sight (omega arith) f.seen);
         done = by_more n (number_of (grown m a)) own (omega arith) f.done;
+        falls = (below_next n sight f.seen, f.falls);
+        rises = subst (λ (o : Option Snap). AreInOrder (name_of rules room m) sheet viewer (start_of (name_of rules room m) sheet viewer o) own) (sym oldest_same) f.rises;
         is = subst (λ (o : Option Snap). Line (update_of rules room (grown m a) (seat_of viewer)) ∷ ps
             ≡ later_updates sheet (reached (name_of rules room m) sheet viewer (start_of (name_of rules room m) sheet viewer o) own) (top ∷ sight) ++ up_to_items (name_of rules room m) sheet viewer (top ∷ sight) own) (sym oldest_same)
             (rw (newer, items_same) (ap (λ x. Line (update_of rules room (grown m a) (seat_of viewer)) ∷ x) f.is));
@@ -126,6 +138,8 @@ module _ {X G : Type 0} (rules : X → Rules G) (room : ℕ) where
       let top : Snap = snap rules (grown m a) (seat_of viewer) in
       let sheet = (rules m.game).sheet in
       let next : top.number ≡ n + 1 = omega arith in
+      let low : reached (name_of rules room m) sheet viewer (start_of (name_of rules room m) sheet viewer (oldest sight)) own ≤ n
+      = reached_by n (start_of (name_of rules room m) sheet viewer (oldest sight)) own m viewer f.done (oldest_upto n sight m viewer f.seen) in
       let start : ℕ = reached (name_of rules room m) sheet viewer (start_of (name_of rules room m) sheet viewer (oldest sight)) own in
       let none : later_updates sheet (n + 1) (top ∷ sight) ≡ [] = later-none sheet (n + 1) (top ∷ sight) (omega arith, up_to_more n (n + 1) sight (omega arith) f.seen) in
       let one : updates sheet n (n + 1) (top ∷ sight) ≡ Line (update_of rules room (grown m a) (seat_of viewer)) ∷ [] = updates-next sheet n top sight next f.seen in
@@ -141,6 +155,8 @@ module _ {X G : Type 0} (rules : X → Rules G) (room : ℕ) where
         top = refl;
         seen = (omega arith, up_to_more n (number_of (grown m a)) sight (omega arith) f.seen);
         done = (omega arith, omega arith, by_more n (number_of (grown m a)) own (omega arith) f.done);
+        falls = (below_next n sight f.seen, f.falls);
+        rises = subst (λ (o : Option Snap). AreInOrder (name_of rules room m) sheet viewer (start_of (name_of rules room m) sheet viewer o) (Submitted n s false Accepted ∷ own)) (sym oldest_same) (low, omega arith, f.rises);
         is = subst (λ (o : Option Snap). Line (ok_line (n + 1) s.ticket) ∷ Line (update_of rules room (grown m a) (seat_of viewer)) ∷ ps
             ≡ later_updates sheet (n + 1) (top ∷ sight) ++ (says (name_of rules room m) sheet viewer (Submitted n s false Accepted) (top ∷ sight)
             ++ (updates sheet (reached (name_of rules room m) sheet viewer (start_of (name_of rules room m) sheet viewer o) own) n (top ∷ sight) ++ up_to_items (name_of rules room m) sheet viewer (top ∷ sight) own))) (sym oldest_same)

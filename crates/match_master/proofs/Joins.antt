@@ -19,7 +19,7 @@ use Rattle.seat_roster.specs.Player.{Seats}
 use Rattle.seat_roster.specs.Roster.{join}
 use Rattle.seat_roster.specs.declared.refusal.RosterNo.{RosterNo}
 use Rattle.match_master.specs.declared.reply.RoomReply.TheVariants as reply
-use Rattle.match_master.specs.Attachment.{Attachment, begun_by}
+use Rattle.match_master.specs.Attachment.{Attachment}
 use Rattle.match_master.specs.Viewer.{Viewer, seat_of, fits}
 use Rattle.match_master.specs.Calls.{create, created, joined, with_roster, attach, attached_by, accepted_unless, submitted}
 use Rattle.match_master.specs.History.{standing, attached, serials, standing_after, attached_after}
@@ -68,7 +68,7 @@ module _ {X G : Type 0} (rules : X → Rules G) (room : ℕ) where
   refused_item m viewer ps shown did f s reason None None e h = absurd (none_some reason h)
 
   -- the stream finds the public rule that the room finds
-  found_present : (m : Match X G) (viewer : Viewer) (ps : List Piece) (shown : List Snap) (did : List Item) → Follows rules room m viewer ps shown did
+  pub found_present : (m : Match X G) (viewer : Viewer) (ps : List Piece) (shown : List Snap) (did : List Item) → Follows rules room m viewer ps shown did
       → (s : Submission) → broken_on (name_of rules room m) (rules m.game).sheet viewer (at_number (number_of m) shown) s ≡ public_broken rules room m viewer s
   found_present m viewer ps shown did f s =
       subst (λ t. broken_on (name_of rules room m) (rules m.game).sheet viewer (at_number (number_of m) t) s ≡ public_broken rules room m viewer s) (sym f.top)
@@ -164,7 +164,7 @@ module _ {X G : Type 0} (rules : X → Rules G) (room : ℕ) where
   -- who sits at the seats is no part of what a viewer is shown
   seated : (m : Match X G) (seats : Seats) (at : Option Attachment) (ps : List Piece) (shown : List Snap) (did : List Item) → Joined (Some m) at ps shown did → Joined (Some (record m { roster = seats })) at ps shown did
   seated m seats None ps shown did j = j
-  seated m seats (Some a) ps shown did f = record { rest = f.rest; top = f.top; seen = f.seen; done = f.done; is = f.is }
+  seated m seats (Some a) ps shown did f = record { rest = f.rest; top = f.top; seen = f.seen; done = f.done; falls = f.falls; rises = f.rises; is = f.is }
 
   seats_step : (m : Match X G) (r : Result Seats RosterNo) (at : Option Attachment) (ps : List Piece) (shown : List Snap) (did : List Item) → Joined (Some m) at ps shown did
       → Joined (created (Some m) (with_roster m r)) at ps (shown_to rules at (created (Some m) (with_roster m r)) shown) did

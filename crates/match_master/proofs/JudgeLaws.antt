@@ -1,5 +1,5 @@
 -- What the answer of a step says of a submission, and that a resolved act is in its sheet.
-use Rattle.std.proofs.Common.{◌≡◌, ◌<◌, ℕ, ℤ, nat_lt, List, ◌∷◌, length, position, Bool, true, false, if◌then◌else◌, Option, Some, None, option_map, Result, Ok, Err, refl, ap, ◌∙◌, subst, arith}
+use Rattle.std.proofs.Common.{◌≡◌, ◌<◌, ℕ, ℤ, nat_lt, List, ◌∷◌, length, position, Bool, true, false, if◌then◌else◌, Option, Some, None, option_map, refl, ap, ◌∙◌, subst, arith}
 use Rattle.std.specs.List.{position_or_len}
 use Rattle.std.proofs.lemmas.Bool.Decides.{nat_tests}
 use Rattle.std.specs.Str.{bytes_eq}
@@ -14,10 +14,10 @@ use Rattle.game_sheet.specs.declared.sheet.Sheet.{Sheet}
 use Rattle.game_trait.specs.InSheet.{ActInSheet, EventInSheet}
 use Rattle.game_trait.specs.Rules.{Rules}
 use Rattle.move_log.specs.declared.entry.Entry.{Entry}
-use Rattle.phase_flow.specs.Action.{once}
 use Rattle.phase_flow.specs.Reached.{Reached}
 use Rattle.reducer.specs.Accepted.{Accepted}
-use Rattle.reducer.specs.Fold.{refusal, standing as standing_at}
+use Rattle.reducer.specs.Answer.{answer_on}
+use Rattle.reducer.specs.Fold.{standing as standing_at}
 use Rattle.reducer.specs.Sound.{IsSound}
 use Rattle.reducer.specs.Standing.{Standing}
 use Rattle.wire_json.specs.Resolve.{act_of, event_of, move_of, phase_of, stage_of}
@@ -101,50 +101,40 @@ all_in_sheet sheet asked.Redo = tt
 pub act_in_sheet : (sheet : Sheet) (a : Asked) (act : Act) → act_of sheet a ≡ Some act → ActInSheet sheet act
 act_in_sheet sheet a act h = subst (SomeInSheet sheet) h (all_in_sheet sheet a)
 
-ok_refusal : {G : Type 0} (r : Result (Reached G) GameRule) (t : Reached G) → r ≡ Ok t → refusal r ≡ None
-ok_refusal r t h = rw h refl
-
-err_refusal : {G : Type 0} (r : Result (Reached G) GameRule) (rule : GameRule) → r ≡ Err rule → refusal r ≡ Some rule
-err_refusal r rule h = rw h refl
-
 module _ {X G : Type 0} (rules : X → Rules G) (room : ℕ) where
   with_deed : (m : Match X G) (viewer : Option ℕ) (o : Option Act) (seat : ℕ) (act : Act) → viewer ≡ Some seat → o ≡ Some act → with_act rules m viewer o ≡ record m { accepted = record { seat = seat; act = act } ∷ m.accepted }
   with_deed m viewer o seat act p q = rw (p, q) refl
 
-  answered_is : (m : Match X G) (viewer : Option ℕ) (o : Option Act) (seat : ℕ) (act : Act) → viewer ≡ Some seat → o ≡ Some act → answered rules m viewer o ≡ refusal (once (rules m.game) (table_of rules m) seat act)
+  answered_is : (m : Match X G) (viewer : Option ℕ) (o : Option Act) (seat : ℕ) (act : Act) → viewer ≡ Some seat → o ≡ Some act → answered rules m viewer o ≡ answer_on (rules m.game) (kept_of rules m).state seat act
   answered_is m viewer o seat act p q = rw (p, q) refl
 
   game_is : (m : Match X G) (viewer : Viewer) (s : Submission) (seat : ℕ) (act : Act) (r : Option GameRule) → seat_of viewer ≡ Some seat → act_of (rules m.game).sheet s.asked ≡ Some act
-      → refusal (once (rules m.game) (table_of rules m) seat act) ≡ r → public_broken rules room m viewer s ≡ None → broken rules room m viewer s ≡ option_map reason_of r
+      → answer_on (rules m.game) (kept_of rules m).state seat act ≡ r → public_broken rules room m viewer s ≡ None → broken rules room m viewer s ≡ option_map reason_of r
   game_is m viewer s seat act r p q h n =
       ap (λ b. or_else b (game_broken rules m viewer s)) n ∙ ap (option_map reason_of) (answered_is m (seat_of viewer) (act_of (rules m.game).sheet s.asked) seat act p q ∙ h)
 
   pub accepted_is : (m : Match X G) (viewer : Viewer) (s : Submission) (seat : ℕ) (act : Act) (next : Standing G) (entry : Entry) → seat_of viewer ≡ Some seat → act_of (rules m.game).sheet s.asked ≡ Some act
-      → public_broken rules room m viewer s ≡ None → once (rules m.game) (table_of rules m) seat act ≡ Ok next.table
+      → public_broken rules room m viewer s ≡ None → answer_on (rules m.game) (kept_of rules m).state seat act ≡ None
       → next ≡ standing_at (rules m.game) m.first (record { seat = seat; act = act } ∷ m.accepted) → IsSound (rules m.game) next → entry ≡ entry_on (table_of rules m) (number_of m) (record { seat = seat; act = act })
       → IsAccepted rules room m viewer s next entry
   accepted_is m viewer s seat act next entry p q n o st sound e = record {
     deed = record { seat = seat; act = act };
-    unbroken = game_is m viewer s seat act None p q (ok_refusal (once (rules m.game) (table_of rules m) seat act) next.table o) n;
+    unbroken = game_is m viewer s seat act None p q o n;
     match_is = with_deed m (seat_of viewer) (act_of (rules m.game).sheet s.asked) seat act p q;
     state_is = st;
     sound = sound;
     entry_is = e;
   }
 
-  pub refused_is : (m : Match X G) (viewer : Viewer) (s : Submission) (seat : ℕ) (act : Act) (rule : GameRule) → seat_of viewer ≡ Some seat → act_of (rules m.game).sheet s.asked ≡ Some act
-      → public_broken rules room m viewer s ≡ None → once (rules m.game) (table_of rules m) seat act ≡ Err rule → broken rules room m viewer s ≡ Some (reason_of rule)
-  refused_is m viewer s seat act rule p q n o = game_is m viewer s seat act (Some rule) p q (err_refusal (once (rules m.game) (table_of rules m) seat act) rule o) n
-
   -- the same, of what is kept of the match
   pub accepted_at : (m : Match X G) (kept : Kept X G) → kept_of rules m ≡ kept → (viewer : Viewer) (s : Submission) (seat : ℕ) (act : Act) (next : Standing G) (entry : Entry) → seat_of viewer ≡ Some seat
-      → act_of (rules kept.game).sheet s.asked ≡ Some act → once (rules kept.game) kept.state.table seat act ≡ Ok next.table
+      → act_of (rules kept.game).sheet s.asked ≡ Some act → answer_on (rules kept.game) kept.state seat act ≡ None
       → ((first : Reached G) (accepted : List Accepted) → kept.state ≡ standing_at (rules kept.game) first accepted → next ≡ standing_at (rules kept.game) first (record { seat = seat; act = act } ∷ accepted))
       → IsSound (rules kept.game) next → entry ≡ entry_on kept.state.table kept.state.number (record { seat = seat; act = act }) → public_broken rules room m viewer s ≡ None
       → IsAccepted rules room m viewer s next entry
   accepted_at m kept e =
       subst (λ (k : Kept X G). (viewer : Viewer) (s : Submission) (seat : ℕ) (act : Act) (next : Standing G) (entry : Entry) → seat_of viewer ≡ Some seat
-      → act_of (rules k.game).sheet s.asked ≡ Some act → once (rules k.game) k.state.table seat act ≡ Ok next.table
+      → act_of (rules k.game).sheet s.asked ≡ Some act → answer_on (rules k.game) k.state seat act ≡ None
       → ((first : Reached G) (accepted : List Accepted) → k.state ≡ standing_at (rules k.game) first accepted → next ≡ standing_at (rules k.game) first (record { seat = seat; act = act } ∷ accepted))
       → IsSound (rules k.game) next → entry ≡ entry_on k.state.table k.state.number (record { seat = seat; act = act }) → public_broken rules room m viewer s ≡ None
       → IsAccepted rules room m viewer s next entry) e

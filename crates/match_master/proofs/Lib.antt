@@ -9,3 +9,4 @@ pub mod Advance
 pub mod Waiting
 pub mod Refusing
 pub mod Stands
+pub mod Isolation

@@ -4,7 +4,6 @@ use Rattle.std.proofs.lemmas.Bool.{true≢false}
 use Rattle.game_sheet.specs.declared.act.Act.{Act}
 use Rattle.game_sheet.specs.declared.ctx.Ctx.{Ctx}
 use Rattle.game_sheet.specs.declared.sheet.Sheet.{Sheet}
-use Rattle.game_trait.specs.Rules.{Rules}
 use Rattle.stage_map.specs.Moves.{may}
 use Rattle.wire_json.specs.Resolve.{act_of}
 use Rattle.wire_json.specs.declared.asked.Asked.{Asked}

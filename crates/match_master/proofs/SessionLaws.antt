@@ -1,5 +1,5 @@
 -- What a write at one place makes of the attachments, and what a walk over all places makes of them.
-use Rattle.std.proofs.Common.{◌≡◌, ◌≤◌, ℕ, zero, suc, ◌==◌, Bool, List, [], ◌∷◌, ◌++◌, length, Option, Some, None, option_map, is_some, nat_eq, true, false, if◌then◌else◌, position, slice_get, refl, sym, ap, ◌∙◌, subst, arith}
+use Rattle.std.proofs.Common.{◌≡◌, ◌≤◌, ℕ, zero, suc, ◌==◌, Bool, List, [], ◌∷◌, ◌++◌, length, Option, Some, None, option_map, is_some, nat_eq, true, false, if◌then◌else◌, position, slice_get, Result, Ok, Err, OnOk, OnErr, refl, sym, ap, ◌∙◌, subst, arith}
 use Rattle.indexmap.specs.IndexMap.{set_value_at, insert_entry}
 use Rattle.indexmap.proofs.MapLemmas.{Found-position, insert_entry-first}
 use Rattle.std.specs.Map.{values_of, keys_of, lookup}
@@ -158,9 +158,9 @@ none_of (Some v) h = absurd (true≢false (sym h))
 
 -- what a Take does, where the key stands at a place
 pub taken_out : (es : List (ℕ × Session)) (pass i : ℕ) (v w : Session) → lookup (nat_eq pass) es ≡ Some v → position (nat_eq pass) (keys_of es) ≡ Some i → shown_of w ≡ record { attachment = attachment_of v; bytes = [] }
-    → TakesOut pass (v.lines).waiting (attachment_of v) (lookup (nat_eq pass) (all_shown es)) (all_shown es) (all_shown (set_value_at es i w))
+    → TakesOut pass (v.lines).waiting v.end (lookup (nat_eq pass) (all_shown es)) (all_shown es) (all_shown (set_value_at es i w))
 taken_out es pass i v w found at emptied =
-    subst (λ o. TakesOut pass (v.lines).waiting (attachment_of v) o (all_shown es) (all_shown (set_value_at es i w))) (sym (lookup_shown es pass ∙ ap (option_map shown_of) found))
+    subst (λ o. TakesOut pass (v.lines).waiting v.end o (all_shown es) (all_shown (set_value_at es i w))) (sym (lookup_shown es pass ∙ ap (option_map shown_of) found))
     (refl, refl, ap all_shown (put_at es pass i w at) ∙ shown_put es pass w ∙ ap (insert_entry nat_eq (all_shown es) pass) emptied)
 
 -- what saying something to a pass alone does, where the key stands at a place
@@ -188,3 +188,27 @@ shown_none false o = refl
 -- where a key was taken out of a map, it isn't shown any more
 pub removed : (es fs : List (ℕ × Session)) (pass : ℕ) → ((q : ℕ) → lookup (nat_eq q) fs ≡ (if pass == q then None else lookup (nat_eq q) es)) → Removes pass (all_shown es) (all_shown fs)
 removed es fs pass h q = lookup_shown fs q ∙ ap (option_map shown_of) (h q) ∙ shown_none (pass == q) (lookup (nat_eq q) es) ∙ ap (λ o. if pass == q then None else o) (sym (lookup_shown es q))
+
+pub length-set : (es : List (ℕ × Session)) (i : ℕ) (w : Session) → length (set_value_at es i w) ≡ length es
+length-set [] i w = refl
+length-set (x ∷ es) zero w = refl
+length-set (x ∷ es) (suc i) w = ap suc (length-set es i w)
+
+-- where a place holds an attachment, that is what the map has there
+pub entry_at : (es : List (ℕ × Session)) (i : ℕ) (v : Session) → slice_get (values_of es) i ≡ Some v → (k : ℕ) × (slice_get es i ≡ Some (k, v))
+entry_at [] i v h = absurd (none_is v h)
+entry_at (x ∷ es) zero v h = (x.0, ap (λ u. Some (x.0, u)) (some_is x.1 v h))
+entry_at (x ∷ es) (suc i) v h = entry_at es i v h
+
+pub shown_is : (v w : Session) → attachment_of w ≡ attachment_of v → (w.lines).waiting ≡ (v.lines).waiting → shown_of w ≡ shown_of v
+shown_is v w a b =
+    ap (λ (t : Attachment). let s : Shown = record { attachment = t; bytes = (w.lines).waiting } in s) a ∙ ap (λ l. let s : Shown = record { attachment = attachment_of v; bytes = l } in s) b
+
+-- what follows from a success
+pub on_ok : {A E : Type 0} (r : Result A E) (P Q : Type 0) → OnOk r P → (P → Q) → OnOk r Q
+on_ok (Ok x) P Q h f = f h
+on_ok (Err e) P Q h f = tt
+
+pub on_err : {A E : Type 0} (r : Result A E) (P : Type 0) → P → OnErr r P
+on_err (Ok x) P h = tt
+on_err (Err e) P h = h

@@ -1,5 +1,5 @@
 -- Which updates a stream has between two numbers, and that a newer snapshot doesn't touch what older items say.
-use Rattle.std.proofs.Common.{◌≡◌, ◌<◌, ◌≤◌, ℕ, ◌+◌, ◌==◌, nat_lt, nat_le, Bool, true, false, ◌&&◌, if◌then◌else◌, List, [], ◌∷◌, map, filter, Option, Some, None, refl, ap, arith}
+use Rattle.std.proofs.Common.{◌≡◌, ◌<◌, ◌≤◌, ℕ, suc, ◌+◌, ◌==◌, nat_lt, nat_le, Bool, true, false, ◌&&◌, if◌then◌else◌, List, [], ◌∷◌, map, filter, Option, Some, None, refl, ap, arith}
 use Rattle.std.proofs.lemmas.Bool.Decides.{nat_tests}
 use Rattle.game_sheet.specs.MatchName.{Name}
 use Rattle.game_sheet.specs.declared.sheet.Sheet.{Sheet}
@@ -18,6 +18,24 @@ AllUpTo n (s ∷ sight) = (s.number ≤ n) × AllUpTo n sight
 abbrev pub AllBy : ℕ → List Item → Type 0
 AllBy n [] = Unit {0}
 AllBy n (item ∷ own) = (number_at item ≤ n) × (number_after item ≤ n) × AllBy n own
+
+-- all snapshots have numbers below n
+abbrev pub AllBelow : ℕ → List Snap → Type 0
+AllBelow n [] = Unit {0}
+AllBelow n (s ∷ sight) = (s.number < n) × AllBelow n sight
+
+-- the numbers of snapshots fall from the latest on
+abbrev pub AreFalling : List Snap → Type 0
+AreFalling [] = Unit {0}
+AreFalling (s ∷ sight) = AllBelow s.number sight × AreFalling sight
+
+pub below_next : (n : ℕ) (sight : List Snap) → AllUpTo n sight → AllBelow (suc n) sight
+below_next n [] a = tt
+below_next n (s ∷ sight) a = (omega arith, below_next n sight a.1)
+
+pub below_upto : (n m : ℕ) (sight : List Snap) → n ≤ suc m → AllBelow n sight → AllUpTo m sight
+below_upto n m [] h a = tt
+below_upto n m (s ∷ sight) h a = (omega arith, below_upto n m sight h a.1)
 
 pub up_to_more : (m n : ℕ) (sight : List Snap) → m ≤ n → AllUpTo m sight → AllUpTo n sight
 up_to_more m n [] h a = tt
@@ -92,6 +110,11 @@ pub oldest_newer : (s t : Snap) (sight : List Snap) → oldest (s ∷ t ∷ sigh
 oldest_newer s t sight = refl
 
 module _ (name : Name) (sheet : Sheet) (viewer : Viewer) where
+  -- each item fell at no smaller a number than the one before it had come to
+  abbrev pub AreInOrder : ℕ → List Item → Type 0
+  AreInOrder start [] = Unit {0}
+  AreInOrder start (item ∷ own) = (reached name sheet viewer start own ≤ number_at item) × (number_at item ≤ number_after item) × AreInOrder start own
+
   game-newer : (n ticket : ℕ) (answer : GameAnswer) (s : Snap) (sight : List Snap) → number_when answer n < s.number
       → says_game name sheet viewer n ticket answer (s ∷ sight) ≡ says_game name sheet viewer n ticket answer sight
   game-newer n ticket Unasked s sight h = refl

@@ -90,6 +90,11 @@ serial_and_seats (Some m) = Some (m.serial, m.roster)
 abbrev pub attach : {X G : Type 0} → Option (Match X G) → Option Attachment → ℕ → Viewer → Result Viewer RoomReply
 attach standing attached serial viewer = attach_at (serial_and_seats standing) attached serial viewer
 
+-- a viewer is let in unless there is a reason not to
+abbrev pub unless_barred : Viewer → Option RoomReply → Result Viewer RoomReply
+unless_barred viewer None = Ok viewer
+unless_barred viewer (Some why) = Err why
+
 abbrev pub attach_reply : Result Viewer RoomReply → RoomReply
 attach_reply (Ok viewer) = reply.Attached
 attach_reply (Err why) = why

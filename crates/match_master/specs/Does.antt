@@ -1,5 +1,5 @@
 -- What each call does to what a Book holds.
-use Rattle.std.specs.Prelude.{◌≡◌, ◌+◌, ℕ, nat_eq, List, [], ◌∷◌, ◌++◌, map, MatchBool, Option, Some, None, option_map, Result, Ok, Err}
+use Rattle.std.specs.Prelude.{◌≡◌, ◌+◌, ℕ, nat_eq, List, [], ◌∷◌, ◌++◌, MatchBool, Option, Some, None, option_map, Result, Ok, Err}
 use Rattle.std.specs.Map.{lookup}
 use Rattle.indexmap.specs.IndexMap.{insert_entry}
 use Rattle.game_trait.specs.Rules.{Rules}
@@ -7,6 +7,7 @@ use Rattle.move_log.specs.Redact.{redact}
 use Rattle.move_log.specs.declared.entry.Entry.{Entry}
 use Rattle.player_sight.specs.CtxData.{ctx_data}
 use Rattle.player_sight.specs.EntryData.{entry_data}
+use Rattle.player_sight.specs.Seen.{seen, snap_of}
 use Rattle.player_sight.specs.SnapshotData.{Snap}
 use Rattle.reducer.specs.Standing.{Standing}
 use Rattle.wire_json.specs.ServerText.{text}
@@ -32,13 +33,8 @@ update_text rules state entry seat =
     text (message.Update (ctx_data rules.sheet state.table.ctx) (entry_data rules.sheet (redact rules.sheet seat entry)) (rules.value (rules.view state.table.g state.table.ctx seat)) state.number)
 
 -- what the player of a seat, or a spectator, sees of a state with its log
-abbrev pub seen : {G : Type 0} → Rules G → Standing G → List Entry → Option ℕ → Snap
-seen r state log seat = record {
-  number = state.number;
-  ctx = state.table.ctx;
-  g = r.value (r.view state.table.g state.table.ctx seat);
-  log = map (redact r.sheet seat) log;
-}
+abbrev pub seen_at : {G : Type 0} → Rules G → Standing G → List Entry → Option ℕ → Snap
+seen_at rules state log seat = snap_of rules (seen rules state.number state.table.ctx state.table.g log seat)
 
 abbrev pub attached_in : {X G : Type 0} → Held X G → ℕ → Option Attachment
 attached_in held pass = option_map (λ (s : Shown). s.attachment) (lookup (nat_eq pass) held.sessions)
@@ -75,7 +71,7 @@ module _ {X G : Type 0} (rules : X → Rules G) where
 
   -- the line that begins a session, by what is kept of the match
   abbrev pub sync_text : ℕ → Kept X G → Option ℕ → List ℕ
-  sync_text room k seat = sync_line (rules k.game).sheet (record { room = room; serial = k.serial }) seat (seen (rules k.game) k.state k.log seat)
+  sync_text room k seat = sync_line (rules k.game).sheet (record { room = room; serial = k.serial }) seat (seen_at (rules k.game) k.state k.log seat)
 
   abbrev pub after_create : Held X G → Result (Match X G) RoomReply → Held X G
   after_create held (Ok m) = record held { serials = m.serial; kept = Some (kept_of rules m) }

@@ -1,5 +1,5 @@
 -- What the judgment of a submission says: the first rule that is broken, or the state that the accepted action leads to.
-use Rattle.std.specs.Prelude.{◌≡◌, ℕ, ◌∷◌, Option, Some, None}
+use Rattle.std.specs.Prelude.{◌≡◌, ℕ, ◌∷◌, Some, None}
 use Rattle.game_trait.specs.Rules.{Rules}
 use Rattle.reducer.specs.Accepted.{Accepted}
 use Rattle.reducer.specs.Fold.{standing as standing_at}

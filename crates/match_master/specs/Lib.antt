@@ -1,4 +1,5 @@
 pub mod Admitted
+pub mod Alike
 pub mod Attachment
 pub mod Calls
 pub mod Does
@@ -13,6 +14,7 @@ pub mod Refusal
 pub mod Reply
 pub mod Rule
 pub mod Shown
+pub mod Sent
 pub mod Sight
 pub mod Steps
 pub mod Stream

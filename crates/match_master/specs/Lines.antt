@@ -1,11 +1,11 @@
 -- What a viewer is shown of a match, and the lines that say it.
-use Rattle.std.specs.Prelude.{ℕ, List, [], ◌∷◌, map, Option}
+use Rattle.std.specs.Prelude.{ℕ, List, [], ◌∷◌, Option}
 use Rattle.serde_json.specs.Data.{Data, null}
 use Rattle.game_sheet.specs.MatchName.{Name}
 use Rattle.game_sheet.specs.declared.sheet.Sheet.{Sheet}
 use Rattle.game_trait.specs.Rules.{Rules}
 use Rattle.move_log.specs.declared.entry.Entry.{Entry}
-use Rattle.move_log.specs.Redact.{redact}
+use Rattle.player_sight.specs.Seen.{seen, snap_of}
 use Rattle.player_sight.specs.SnapshotData.{Snap, snapshot_data}
 use Rattle.player_sight.specs.CtxData.{ctx_data}
 use Rattle.player_sight.specs.EntryData.{entry_data}
@@ -18,12 +18,7 @@ module _ {X G : Type 0} (rules : X → Rules G) where
   -- the snapshot of a match that the player of a seat sees, or a spectator: the number, the context, the view of the state, and the log
   -- as it may be shown
   abbrev pub snap : Match X G → Option ℕ → Snap
-  snap m seat = record {
-    number = number_of m;
-    ctx = (table_of rules m).ctx;
-    g = (rules m.game).value ((rules m.game).view (table_of rules m).g (table_of rules m).ctx seat);
-    log = map (redact (rules m.game).sheet seat) (log_of rules m);
-  }
+  snap m seat = snap_of (rules m.game) (seen (rules m.game) (number_of m) (table_of rules m).ctx (table_of rules m).g (log_of rules m) seat)
 
 -- the newest entry of a log
 abbrev pub newest : Sheet → List Entry → Data

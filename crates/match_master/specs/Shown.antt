@@ -2,6 +2,7 @@
 use Rattle.std.specs.Prelude.{◌≡◌, ◌==◌, ℕ, zero, suc, Bool, if◌then◌else◌, List, [], ◌∷◌, ◌++◌, map, Option, Some, None, nat_eq}
 use Rattle.std.specs.Map.{lookup}
 use Rattle.indexmap.specs.IndexMap.{insert_entry}
+use Rattle.game_sheet.specs.declared.act.Bye.{Bye}
 use Rattle.match_master.specs.Attachment.{Attachment}
 use Rattle.match_master.specs.Viewer.{seat_of}
 use Rattle.match_master.specs.declared.session.Session.{Session}
@@ -72,9 +73,9 @@ abbrev pub say : ℕ → List ℕ → List (ℕ × Shown) → List (ℕ × Shown
 say pass said entries = say_at pass said (lookup (nat_eq pass) entries) entries
 
 -- what waited is handed out with the end of the stream, and nothing waits any more; without an attachment there is nothing to take
-abbrev pub TakesOut : ℕ → List ℕ → Attachment → Option Shown → List (ℕ × Shown) → List (ℕ × Shown) → Type 0
-TakesOut pass bytes a None before after = ⊥
-TakesOut pass bytes a (Some shown) before after = (bytes ≡ shown.bytes) × (a ≡ shown.attachment) × (after ≡ insert_entry nat_eq before pass (record shown { bytes = [] }))
+abbrev pub TakesOut : ℕ → List ℕ → Option Bye → Option Shown → List (ℕ × Shown) → List (ℕ × Shown) → Type 0
+TakesOut pass bytes end None before after = ⊥
+TakesOut pass bytes end (Some shown) before after = (bytes ≡ shown.bytes) × (end ≡ shown.attachment.end) × (after ≡ insert_entry nat_eq before pass (record shown { bytes = [] }))
 
 -- a pass is attached no more, and every other one as it was
 abbrev pub Removes : ℕ → List (ℕ × Shown) → List (ℕ × Shown) → Type 0

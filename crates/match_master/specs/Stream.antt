@@ -1,7 +1,7 @@
 -- The stream of a session, made of the match's name, the sheet, who looks with which key, what that viewer was shown and what the
 -- session did, and of nothing else.
 -- Lists have the latest first: snapshots, items and pieces.
-use Rattle.std.specs.Prelude.{ℕ, ◌+◌, ◌==◌, List, [], ◌∷◌, ◌++◌, Bool, true, ◌&&◌, if◌then◌else◌, nat_lt, nat_le, filter, map, Option, Some, None}
+use Rattle.std.specs.Prelude.{ℕ, ◌+◌, ◌==◌, List, [], ◌∷◌, ◌++◌, Bool, ◌&&◌, if◌then◌else◌, nat_lt, nat_le, filter, map, Option, Some, None}
 use Rattle.game_sheet.specs.MatchName.{Name}
 use Rattle.game_sheet.specs.declared.sheet.Sheet.{Sheet}
 use Rattle.player_sight.specs.SnapshotData.{Snap}

@@ -1,13 +1,10 @@
 -- The verdict on an action: the first public rule that it breaks, else what the game answers, else that it is accepted.
-use Rattle.std.specs.Prelude.{◌==◌, ℕ, ◌∷◌, Bool, true, ◌&&◌, Option, Some, None, option_map}
+use Rattle.std.specs.Prelude.{◌==◌, ℕ, ◌∷◌, Bool, ◌&&◌, Option, Some, None, option_map}
 use Rattle.game_sheet.specs.MatchName.{Name}
 use Rattle.game_sheet.specs.declared.act.Act.{Act}
 use Rattle.game_sheet.specs.declared.refusal.GameRule.{GameRule}
 use Rattle.game_sheet.specs.declared.refusal.GameRule.TheVariants as rule
 use Rattle.game_trait.specs.Rules.{Rules}
-use Rattle.phase_flow.specs.Action.{once}
-use Rattle.phase_flow.specs.Reached.{Reached}
-use Rattle.reducer.specs.Accepted.{Accepted}
 use Rattle.reducer.specs.Fold.{answer}
 use Rattle.wire_json.specs.Resolve.{act_of}
 use Rattle.wire_json.specs.declared.reason.Reason.{Reason}

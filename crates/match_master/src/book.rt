@@ -1,6 +1,6 @@
 //! A room's book: its one match, who sits there and who is attached, and what waits for each.
 
-ghost use Rattle.std.specs.Prelude.{◌≡◌, ◌≤◌, ◌<◌, ◌∷◌, ℕ, List, [], Option, None, Some, IfOk, true, false, MatchBool, MatchOption, IsSome, IfSome, nat_lt, if◌then◌else◌, option_map, is_some, result_map, nat_eq};
+ghost use Rattle.std.specs.Prelude.{◌≡◌, ◌≤◌, ◌<◌, ◌+◌, ◌∷◌, ℕ, List, [], Option, None, Some, IfOk, true, false, MatchBool, MatchOption, IsSome, IfSome, nat_lt, if◌then◌else◌, option_map, is_some, nat_eq};
 ghost use Rattle.std.specs.Map.{lookup};
 ghost use Rattle.indexmap.specs.IndexMap.{insert_entry};
 ghost use Rattle.reducer.specs.Sound.{IsSound};
@@ -8,7 +8,7 @@ ghost use Rattle.match_master.specs.declared.kept.Kept.{Kept as Keeps};
 ghost use Rattle.match_master.specs.declared.reply.RoomReply.TheVariants as answer;
 ghost use Rattle.wire_json.specs.declared.verdict.Verdict.TheVariants as verdict;
 ghost use Rattle.match_master.specs.Attachment.{Attachment, begun_by};
-ghost use Rattle.match_master.specs.Calls.{create, create_reply, joined, join_reply, refused_as, attach, attach_at, attach_reply, detach_reply};
+ghost use Rattle.match_master.specs.Calls.{create, create_reply, joined, join_reply, refused_as, attach, attach_at, attach_reply, unless_barred, detach_reply};
 ghost use Rattle.match_master.specs.History.{attached};
 ghost use Rattle.match_master.specs.Match.{Match};
 ghost use Rattle.room_desk.specs.Entry.{Entry as Made};
@@ -294,9 +294,9 @@ impl<X: Game + Drop> Book<X> {
             → Does self.old result self.new (attach_reply (attach standing (attached_in self.old pass) serial viewer)) (after_attach X.rules self.old pass serial standing (attach standing (attached_in self.old pass) serial viewer)) }
     {
         let before = session::is_attached(&self.sessions, pass);
-        match admitted(&self.kept, before, serial, &viewer) {
-            Err(why) => why,
-            Ok(()) => self.begin(pass, viewer),
+        match barred(&self.kept, before, serial, &viewer) {
+            Some(why) => why,
+            None => self.begin(pass, viewer),
         }
     }
 
@@ -345,31 +345,31 @@ fn refused_as(why: RosterNo) -> RoomReply
     }
 }
 
-/// Whether an Attach lets a viewer look at the match that is kept, or why it doesn't.
-fn admitted<X, G>(
+/// Why an Attach doesn't let a viewer look at the match that is kept; none where it does.
+fn barred<X, G>(
     kept: &Option<Kept<X, G>>,
     before: bool,
     serial: u64,
     viewer: &Option<(Seat, Key)>,
-) -> Result<(), RoomReply>
-    ensures { (attached : Option Attachment) → before ≡ is_some attached → result_map (λ _. viewer.now) result ≡ attach_at (option_map (λ k. (k.serial, k.roster)) kept.now) attached serial viewer.now }
+) -> Option<RoomReply>
+    ensures { (attached : Option Attachment) → before ≡ is_some attached → attach_at (option_map (λ k. (k.serial, k.roster)) kept.now) attached serial viewer.now ≡ unless_barred viewer.now result }
 {
     if before {
-        return Err(RoomReply::AlreadyAttached);
+        return Some(RoomReply::AlreadyAttached);
     }
     let Some(kept) = kept else {
-        return Err(RoomReply::NoMatch);
+        return Some(RoomReply::NoMatch);
     };
     if kept.serial != serial {
-        return Err(RoomReply::NoMatch);
+        return Some(RoomReply::NoMatch);
     }
     match viewer {
-        None => Ok(()),
+        None => None,
         Some((seat, key)) => {
             if kept.roster.key_fits(*seat, key) {
-                Ok(())
+                None
             } else {
-                Err(RoomReply::Unauthorized)
+                Some(RoomReply::Unauthorized)
             }
         }
     }

@@ -39,12 +39,12 @@ pub fn judge<X: Game>(
     alloc: Global,
     room: u8,
     kept: &Kept<X, X::G>,
-    viewer: Option<(Seat, Key)>,
+    viewer: &Option<(Seat, Key)>,
     submission: &Submission,
 ) -> Result<Judged<X::G>, NoMemory>
     requires { IsSound (X.rules kept.now.game) kept.now.state }
     ensures sound { IfOk result (JudgedInOrder (X.rules kept.now.game)) }
-    ensures judged { IfOk result (λ judged. (m : Match X X.G) → kept.now ≡ kept_of X.rules m → IsJudged X.rules room m viewer submission.now judged) }
+    ensures judged { IfOk result (λ judged. (m : Match X X.G) → kept.now ≡ kept_of X.rules m → IsJudged X.rules room m viewer.now submission.now judged) }
 {
     match check(room, kept, viewer, submission) {
         Some(reason) => Ok(Judged::Refused(reason)),
@@ -56,10 +56,10 @@ pub fn judge<X: Game>(
 fn check<X: Game>(
     room: u8,
     kept: &Kept<X, X::G>,
-    viewer: Option<(Seat, Key)>,
+    viewer: &Option<(Seat, Key)>,
     submission: &Submission,
 ) -> Option<Reason>
-    ensures { result ≡ public (X.rules kept.now.game).sheet kept.now.state.table.ctx kept.now.state.number (is_named room kept.now.serial submission.now.name) (seat_of viewer) (fits viewer submission.now.key) submission.now.asked submission.now.number }
+    ensures { result ≡ public (X.rules kept.now.game).sheet kept.now.state.table.ctx kept.now.state.number (is_named room kept.now.serial submission.now.name) (seat_of viewer.now) (fits viewer.now submission.now.key) submission.now.asked submission.now.number }
 {
     let state = &kept.state;
     public_rule(
@@ -67,8 +67,8 @@ fn check<X: Game>(
         state.ctx(),
         state.number(),
         names(room, kept.serial, &submission.name),
-        seat_of(&viewer),
-        fits(&viewer, &submission.key),
+        seat_of(viewer),
+        fits(viewer, &submission.key),
         &submission.asked,
         submission.number,
     )
@@ -106,16 +106,16 @@ fn play<X: Game>(
     alloc: Global,
     room: u8,
     kept: &Kept<X, X::G>,
-    viewer: Option<(Seat, Key)>,
+    viewer: &Option<(Seat, Key)>,
     submission: &Submission,
 ) -> Result<Judged<X::G>, NoMemory>
     requires sound { IsSound (X.rules kept.now.game) kept.now.state }
-    requires admitted { IsAdmitted (X.rules kept.now.game).sheet kept.now.state.table.ctx kept.now.state.number (seat_of viewer) submission.now.asked }
+    requires admitted { IsAdmitted (X.rules kept.now.game).sheet kept.now.state.table.ctx kept.now.state.number (seat_of viewer.now) submission.now.asked }
     ensures sound { IfOk result (JudgedInOrder (X.rules kept.now.game)) }
-    ensures judged { IfOk result (λ judged. (m : Match X X.G) → kept.now ≡ kept_of X.rules m → public_broken X.rules room m viewer submission.now ≡ None → IsJudged X.rules room m viewer submission.now judged) }
+    ensures judged { IfOk result (λ judged. (m : Match X X.G) → kept.now ≡ kept_of X.rules m → public_broken X.rules room m viewer.now submission.now ≡ None → IsJudged X.rules room m viewer.now submission.now judged) }
 {
     let _room = room;
-    let Some(seat) = seat_of(&viewer) else {
+    let Some(seat) = seat_of(viewer) else {
         unreachable!();
     };
     let Some(act) = resolve(kept.game.sheet(), &submission.asked) else {

@@ -5,6 +5,7 @@ mod book;
 mod call;
 mod judge;
 mod kept;
+mod laws;
 mod line;
 mod object;
 mod outbox;
@@ -16,6 +17,7 @@ mod telling;
 
 pub use book::Book;
 pub use call::RoomCall;
+pub use laws::{alike_sessions_are_told_the_same, sessions_are_told_by_what_they_see};
 pub use reply::RoomReply;
 pub use rule::public_rule;
 pub use submission::Submission;

@@ -1,15 +1,14 @@
 //! The lines of a session, made of the state of the match.
 
-ghost use Rattle.std.specs.Prelude.{◌≡◌, IfOk, map};
-ghost use Rattle.move_log.specs.Redact.{redact};
-ghost use Rattle.match_master.specs.Does.{seen, update_text};
+ghost use Rattle.std.specs.Prelude.{◌≡◌, IfOk};
+ghost use Rattle.match_master.specs.Does.{seen_at, update_text};
 ghost use Rattle.match_master.specs.Lines.{sync_line, ok_line, no_line};
 
-use game_sheet::{List, MatchName, NoMemory, Number, Seat, Sheet};
+use game_sheet::{MatchName, NoMemory, Number, Seat};
 use game_trait::Game;
 use json_tree::Tree;
 use move_log::Entry;
-use player_sight::{ctx_value, entry_value, snapshot_value};
+use player_sight::{ctx_value, entry_value, snapshot, to_value};
 use reducer::State;
 use std::alloc::Global;
 use wire_json::{Reason, ServerMsg, write_server};
@@ -23,30 +22,24 @@ pub fn sync<X: Game>(
     state: &State<X::G>,
     log: &[Entry],
 ) -> Result<Vec<u8>, NoMemory>
-    ensures { IfOk result (λ line. line.items ≡ sync_line (X.rules game.now).sheet name seat (seen (X.rules game.now) state.now log.now seat)) }
+    ensures { IfOk result (λ line. line.items ≡ sync_line (X.rules game.now).sheet name seat (seen_at (X.rules game.now) state.now log.now seat)) }
 {
-    let sheet = game.sheet();
-    let seen = game.view(alloc, state.g(), state.ctx(), seat)?;
-    let g = game.to_value(alloc, &seen)?;
-    let log = redacted(alloc, sheet, log, seat)?;
-    let value = snapshot_value(alloc, sheet, state.number(), state.ctx(), g, log.as_slice())?;
+    let shown = snapshot(
+        alloc,
+        game,
+        state.number(),
+        state.ctx(),
+        state.g(),
+        log,
+        seat,
+    )?;
+    let value = to_value(alloc, game, &shown)?;
     let message = ServerMsg::Sync {
         name,
         seat,
         snapshot: Tree::new(value),
     };
     write_server(alloc, &message)
-}
-
-/// The log as a viewer sees it.
-fn redacted(alloc: Global, sheet: &Sheet, log: &[Entry], seat: Option<Seat>) -> Result<List<Entry>, NoMemory>
-    ensures { IfOk result (λ entries. entries ≡ map (redact sheet.now seat) log.now) }
-{
-    let mut entries = List::new(alloc);
-    for entry in log {
-        entries.push(entry.redacted(alloc, sheet, seat)?)?;
-    }
-    Ok(entries)
 }
 
 /// The line of an accepted action as a viewer sees it: its entry of the log, and the state after it.

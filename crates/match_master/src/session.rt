@@ -2,6 +2,7 @@
 
 ghost use Rattle.std.specs.Prelude.{◌≡◌, ◌+◌, ◌<◌, ◌==◌, ◌∷◌, ◌++◌, [], ℕ, List, Option, option_map, length, is_some, OnOk, OnErr, IsSome, MatchOption, MatchBool, None, Some, slice_get, nat_eq};
 ghost use Rattle.std.specs.Map.{lookup};
+ghost use Rattle.std.specs.Option.{option_copied};
 ghost use Rattle.indexmap.specs.IndexMap.{insert_entry};
 ghost use Rattle.match_master.specs.Attachment.{begun_by};
 ghost use Rattle.match_master.specs.Shown.{Shown, all_shown, attachment_of, AreReadyTo, AreReadyFrom, Removes, TakesOut, gained, say, tell_all, tell_at};
@@ -59,19 +60,24 @@ impl Session {
 pub type Sessions = IndexMap<u32, Session>;
 
 /// Whether a pass is attached.
+#[tactic(auto, using(crate::proofs::SessionLaws::lookup_shown))]
 pub fn is_attached(sessions: &Sessions, pass: u32) -> bool
-    ensures { result ≡ is_some (lookup (nat_eq pass) (all_shown sessions.now.entries)) }
+    ensures { result ≡ is_some (option_map (λ s. s.attachment) (lookup (nat_eq pass) (all_shown sessions.now.entries))) }
 {
-    sessions.get(&pass).is_some()
+    match sessions.get(&pass) {
+        None => false,
+        Some(_) => true,
+    }
 }
 
 /// Who looks by a pass, if it is attached.
-pub fn viewer_of(sessions: &Sessions, pass: u32) -> Option<Option<(Seat, Key)>>
-    ensures { result ≡ option_map (λ s. s.attachment.viewer) (lookup (nat_eq pass) (all_shown sessions.now.entries)) }
+#[tactic(auto, using(crate::proofs::SessionLaws::lookup_shown))]
+pub fn viewer_of(sessions: &Sessions, pass: u32) -> Option<&Option<(Seat, Key)>>
+    ensures { option_copied result ≡ option_map (λ s. s.attachment.viewer) (lookup (nat_eq pass) (all_shown sessions.now.entries)) }
 {
     match sessions.get(&pass) {
         None => None,
-        Some(session) => Some(session.viewer),
+        Some(session) => Some(&session.viewer),
     }
 }
 
@@ -109,10 +115,12 @@ pub fn take(alloc: Global, sessions: &mut Sessions, pass: u32) -> Option<(Vec<u8
 
 /// Ends a pass's attachment; false where it has none. It takes no memory.
 pub fn detach(sessions: &mut Sessions, pass: u32) -> bool
-    ensures was { result ≡ is_some (lookup (nat_eq pass) (all_shown sessions.old.entries)) }
+    ensures was { result ≡ is_some (option_map (λ s. s.attachment) (lookup (nat_eq pass) (all_shown sessions.old.entries))) }
     ensures gone { Removes pass (all_shown sessions.old.entries) (all_shown sessions.new.entries) }
 {
-    sessions.shift_remove(&pass).is_some()
+    let was = is_attached(sessions, pass);
+    let _gone = sessions.shift_remove(&pass);
+    was
 }
 
 /// Tells a pass that is attached something alone.

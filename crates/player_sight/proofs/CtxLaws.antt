@@ -137,7 +137,7 @@ counts_are ms counts e =
     subst (AreCounts ms) same
     (record { current = a.0; moves = b.0; seats = c.0; pos = d.0; turn = f.0; current_fits = a.1; moves_fit = b.1; seats_fit = c.1; pos_fits = d.1; turn_fits = f.1 })
 
-list_is : (o : Option Data) (ds : Items) → list_in o ≡ Ok ds → o ≡ Some (array ds)
+pub list_is : (o : Option Data) (ds : Items) → list_in o ≡ Ok ds → o ≡ Some (array ds)
 list_is None ds e = absurd (cc)
 list_is (Some null) ds e = absurd (cc)
 list_is (Some (boolean b)) ds e = absurd (cc)

@@ -1,5 +1,5 @@
 -- How deep the values that a player is sent of a context, an entry and a log nest.
-use Rattle.std.proofs.Common.{◌≡◌, ℕ, ◌≤◌, max, suc, ℤ, List, [], ◌∷◌, map, fold, Bool, true, false, Option, Some, None, option_map, Ordering, Less, Equal, Greater, sym, subst, arith}
+use Rattle.std.proofs.Common.{◌≡◌, ℕ, ◌≤◌, ◌+◌, max, suc, ℤ, List, [], ◌∷◌, map, fold, Bool, true, false, Option, Some, None, option_map, Ordering, Less, Equal, Greater, sym, subst, arith}
 use Rattle.std.proofs.Math.Nat.{max-le}
 use Rattle.std.specs.Prelude.{slice_get, decimal}
 use Rattle.std.specs.Ordering.{nat_cmp, match_ordering}
@@ -18,6 +18,7 @@ use Rattle.move_log.specs.declared.entry.Entry.{Entry}
 use Rattle.player_sight.specs.Parts.{integer, natural, text_or_null, natural_or_null, move_name, phase_or_null, stage_or_null}
 use Rattle.player_sight.specs.EntryData.{event_data, act_data, entry_data, log_data}
 use Rattle.player_sight.specs.CtxData.{with_row, active_data, over_data, ctx_data}
+use Rattle.player_sight.specs.SnapshotData.{snapshot_object}
 
 above_zero : (m : ℕ) → 0 ≤ m
 above_zero m = omega arith
@@ -123,3 +124,14 @@ log_is_shallow sheet log d is = subst (λ x. depth x ≤ 4) (sym is) (one_more _
 
 pub ctx_is_shallow : (sheet : Sheet) (ctx : Ctx) (d : Data) → d ≡ ctx_data sheet ctx → depth d ≤ 2
 ctx_is_shallow sheet ctx d is = subst (λ x. depth x ≤ 2) (sym is) (of_ctx sheet ctx)
+
+one_above : (n m : ℕ) → n ≤ m → suc n ≤ m + 1
+one_above n m h = omega arith
+
+pub snapshot_is_shallow : (ctx g log v : Data) (number : ℕ) → v ≡ snapshot_object ctx g log number → depth ctx ≤ 2 → depth log ≤ 4 → depth v ≤ max 4 (depth g) + 1
+snapshot_is_shallow ctx g log v number e hc hl =
+    let of_ctx : depth ctx ≤ max 4 (depth g) = omega (arith, hc) in
+    let of_g : depth g ≤ max 4 (depth g) = omega arith in
+    let of_log : depth log ≤ max 4 (depth g) = omega (arith, hl) in
+    subst (λ x. depth x ≤ max 4 (depth g) + 1) (sym e)
+    (one_above _ (max 4 (depth g)) (max-le of_ctx (max-le of_g (max-le of_log (max-le (above_zero (max 4 (depth g))) (above_zero (max 4 (depth g))))))))

@@ -3,10 +3,10 @@ use Rattle.std.proofs.Common.{◌≡◌, ℕ, suc, ◌<◌, ◌≤◌, ◌^◌, 
 use Rattle.std.proofs.lemmas.Bool.{and_parts, le-leb, leb-true, lt-ltb}
 use Rattle.std.proofs.lemmas.Slice.Eq.{bytes_eq-Decides}
 use Rattle.std.specs.List.{AllByRecursion}
-use Rattle.std.specs.Prelude.{nat_le, nat_lt, int_le, map, option_and_then, slice_get}
+use Rattle.std.specs.Prelude.{nat_le, nat_lt, int_le, map, option_and_then}
 use Rattle.serde_json.specs.Data.{unsigned, negative, float, Data, null, boolean, number, string, array, object, Items, no_items, item, Members, no_members, member}
 use Rattle.serde_json.specs.Events.{items_len}
-use Rattle.serde_json.specs.Find.{get_member, of_integer}
+use Rattle.serde_json.specs.Find.{get_member}
 use Rattle.serde_json.specs.View.{items_of}
 use Rattle.json_tree.specs.Canonical.{IsCanonical, ItemsAreCanonical, MembersAreCanonical}
 use Rattle.json_tree.specs.Names.{has_extra}
@@ -23,8 +23,8 @@ use Rattle.game_sheet.specs.declared.sheet.Sheet.{Sheet}
 use Rattle.game_sheet.specs.declared.sheet.StageRow.{StageRow}
 use Rattle.move_log.specs.declared.entry.Entry.{Entry}
 use Rattle.player_sight.specs.CtxReading.{phase_in}
-use Rattle.player_sight.specs.EntryData.{event_data, act_data, entry_data, move_data}
-use Rattle.player_sight.specs.EntryReading.{args_from, args_in, move_with, shown, move_in, is_null_in, seat_or_null, aimless, alone_in, event_by, event_in, deed_by, deed_in, entry_names, entry_from, entry_in}
+use Rattle.player_sight.specs.EntryData.{event_data, act_data, entry_data}
+use Rattle.player_sight.specs.EntryReading.{args_from, move_with, shown, move_in, is_null_in, seat_or_null, aimless, alone_in, event_by, event_in, deed_by, deed_in, entry_names, entry_from, entry_in}
 use Rattle.player_sight.specs.Parts.{natural, integer, integers, natural_or_null, move_name, phase_name, stage_name, phase_or_null}
 use Rattle.player_sight.specs.Plain.{IsWithin, IsIn, EventFits, ArgsFit, ActFits, IsPlainEntry}
 use Rattle.player_sight.specs.Reading.{natural_at, text_at, is_argument, argument_from, argument_in, arguments_from, arguments_of, id_or_null, move_of, phase_of, stage_of}

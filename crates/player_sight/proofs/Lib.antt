@@ -9,3 +9,4 @@ pub mod CtxLaws
 pub mod RowLaws
 pub mod NumberLaws
 pub mod Readers
+pub mod SnapshotLaws

@@ -1,20 +1,16 @@
 -- The small parts: what is read is what has that value, and its value reads as it.
-use Rattle.std.proofs.Common.{◌≡◌, ℕ, zero, suc, ◌+◌, ◌<◌, ◌≤◌, ℤ, pos, negsuc, List, [], ◌∷◌, length, get_or, Bool, true, false, cond, ◌&&◌, Option, Some, None, option_map, Ok, Err, bytes_eq, refl, sym, ap, ◌∙◌, subst, arith}
-use Rattle.std.proofs.lemmas.Bool.{and_parts, le-leb, leb-true, lt-ltb}
+use Rattle.std.proofs.Common.{◌≡◌, ℕ, zero, suc, ◌<◌, ◌≤◌, List, [], ◌∷◌, length, get_or, Bool, true, false, cond, Option, Some, None, option_map, Ok, bytes_eq, refl, sym, ap, ◌∙◌, subst, arith}
+use Rattle.std.proofs.lemmas.Bool.{lt-ltb}
 use Rattle.std.proofs.lemmas.List.Quantifiers.{position-Some}
 use Rattle.std.proofs.lemmas.List.Sums.{position_or_len_is}
 use Rattle.std.proofs.lemmas.Option.{slice_get-get_or, get_or_from_slice_get, slice_get_within}
 use Rattle.std.proofs.lemmas.Slice.Eq.{bytes_eq-Decides}
-use Rattle.std.specs.Prelude.{Result, nat_le, nat_lt, slice_get, option_and_then, map, position}
-use Rattle.std.specs.List.{AllByRecursion, position_or_len}
-use Rattle.std.specs.Result.{result_ok}
-use Rattle.serde_json.specs.Data.{Num, unsigned, negative, float, Data, null, boolean, number, string, array, object, Items, no_items, item}
-use Rattle.serde_json.specs.Find.{as_u64, of_integer}
+use Rattle.std.specs.Prelude.{slice_get, option_and_then, map}
+use Rattle.std.specs.List.{AllByRecursion}
+use Rattle.serde_json.specs.Data.{Data, null, boolean, number, string, array, object, Items, no_items, item}
 use Rattle.serde_json.specs.View.{items_of}
-use Rattle.game_sheet.specs.SheetFits.{IsName, NamesFit}
-use Rattle.json_tree.specs.Fields.{text_in, list_in, whole_number, number_in, natural_up_to, natural_in}
-use Rattle.json_tree.specs.declared.fields.FieldFault.{FieldFault}
-use Rattle.json_tree.specs.declared.fields.FieldFault.TheVariants.{OutOfRange}
+use Rattle.game_sheet.specs.SheetFits.{NamesFit}
+use Rattle.json_tree.specs.Fields.{text_in}
 use Rattle.player_sight.specs.Parts.{natural, text_or_null}
 use Rattle.player_sight.specs.Plain.{IsIn}
 use Rattle.player_sight.proofs.NumberLaws.{good, natural_is, natural_again}

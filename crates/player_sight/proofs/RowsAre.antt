@@ -1,5 +1,5 @@
 -- What is read as rows of active players rises by seat, and the object shows these rows and no other.
-use Rattle.std.proofs.Common.{◌≡◌, ℕ, zero, suc, ◌+◌, ◌<◌, ◌≤◌, List, [], ◌∷◌, ◌++◌, length, fold, Bool, true, false, cond, ◌==◌, Option, Some, None, option_map, Ordering, Less, Equal, Greater, bytes_eq, refl, sym, ap, ◌∙◌, subst, arith}
+use Rattle.std.proofs.Common.{◌≡◌, ℕ, zero, suc, ◌+◌, ◌≤◌, List, [], ◌∷◌, ◌++◌, length, fold, Bool, true, false, cond, ◌==◌, Option, Some, None, option_map, Ordering, Less, Equal, Greater, bytes_eq, refl, sym, ap, ◌∙◌, subst, arith}
 use Rattle.std.proofs.lemmas.Bool.{eqb-true}
 use Rattle.std.proofs.lemmas.Cmp.{nat_list_cmp_total, tied_itself}
 use Rattle.std.proofs.lemmas.List.{append-nil, append_assoc}
@@ -8,7 +8,7 @@ use Rattle.std.specs.Prelude.{decimal, slice_get}
 use Rattle.std.specs.Ordering.{match_ordering}
 use Rattle.serde_json.specs.Data.{Data, null, boolean, number, string, array, object, Members, no_members, member, put}
 use Rattle.serde_json.specs.Events.{members_len}
-use Rattle.serde_json.specs.Find.{get, get_member}
+use Rattle.serde_json.specs.Find.{get_member}
 use Rattle.serde_json.proofs.Views.{get_member-put, get_member-put_other}
 use Rattle.json_tree.specs.Canonical.{AreAbove, IsOrdered, IsCanonical, MembersAreCanonical}
 use Rattle.json_tree.proofs.Canonicals.{order, greater, above_more, canonical_put}
@@ -20,7 +20,7 @@ use Rattle.player_sight.specs.CtxReading.{Rows, with_seat, rows_from, active_fro
 use Rattle.player_sight.specs.Parts.{text_or_null, stage_or_null}
 use Rattle.player_sight.specs.Plain.{IsIn, RowsFit, ActiveFits}
 use Rattle.player_sight.specs.Reading.{id_or_null, stage_of}
-use Rattle.player_sight.proofs.PartLaws.{name_or_null, step, mapped, chained, id_is}
+use Rattle.player_sight.proofs.PartLaws.{name_or_null, step, mapped, id_is}
 use Rattle.player_sight.proofs.RowLaws.{counted}
 
 -- ---- what the seats give

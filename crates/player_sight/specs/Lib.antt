@@ -6,3 +6,6 @@ pub mod Reading
 pub mod CtxReading
 pub mod EntryReading
 pub mod Plain
+pub mod Seen
+pub mod PlainSnapshot
+pub mod SnapshotReading

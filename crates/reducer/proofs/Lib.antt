@@ -1,2 +1,5 @@
+mod Performing
 mod Seats
 mod States
+mod Stepping
+mod Walks

@@ -1,14 +1,12 @@
 -- A seat that may act is a seat of the match.
-use Rattle.std.proofs.Common.{◌≡◌, ◌<◌, ℕ, Bool, true, false, ◌==◌, nat_eq, List, [], ◌∷◌, map, Option, Some, None, is_some, option_map, if◌then◌else◌, arith, refl, sym, subst, ap, ◌∙◌}
+use Rattle.std.proofs.Common.{◌≡◌, ◌<◌, ℕ, Bool, true, false, nat_eq, List, [], ◌∷◌, map, Option, Some, None, is_some, option_map, if◌then◌else◌, arith, refl, sym, subst}
 use Rattle.std.specs.List.{AllByRecursion}
 use Rattle.std.proofs.lemmas.Bool.Decides.{nat_tests}
-use Rattle.game_sheet.specs.SheetFits.{SheetFits}
 use Rattle.game_sheet.specs.declared.ctx.Ctx.{Ctx}
 use Rattle.game_sheet.specs.declared.sheet.Sheet.{Sheet}
 use Rattle.stage_map.specs.declared.rows.Row.{Row}
 use Rattle.stage_map.specs.Active.{Map, shown, shown_row}
-use Rattle.stage_map.specs.IsSound.{RowFits, Stands, StandsOrNull}
-use Rattle.stage_map.specs.Laws.{IsSoundIn}
+use Rattle.stage_map.specs.IsSound.{RowFits, StandsOrNull}
 use Rattle.stage_map.specs.Moves.{may, may_on, place_of}
 use Rattle.phase_flow.specs.IsSound.{IsSound}
 

@@ -1,14 +1,24 @@
--- Copies of a table are as sound as it is, and a step leads from a sound state to a sound one.
-use Rattle.std.proofs.Common.{◌≡◌, ◌+◌, ◌*◌, ◌<◌, ◌≤◌, ℕ, List, arith, sym, subst, ap, ◌∙◌}
+-- What a state keeps is a trail of the game's machine, and a trail that is one stands for a sound state.
+use Rattle.std.proofs.Common.{◌≡◌, ◌+◌, ◌*◌, ◌<◌, ◌≤◌, ℕ, List, ◌∷◌, length, arith, sym, subst, ap, ◌∙◌}
 use Rattle.game_sheet.specs.declared.ctx.Ctx.{Ctx}
 use Rattle.game_sheet.specs.declared.sheet.Sheet.{Sheet}
 use Rattle.game_trait.specs.Rules.{Rules}
 use Rattle.stage_map.specs.Active.{Map}
 use Rattle.phase_flow.specs.IsSound.{BoundGrows, IsSound as TableIsSound}
-use Rattle.phase_flow.specs.Reached.{reached, table_of}
-use Rattle.phase_flow.specs.declared.table.Table.{Table}
+use Rattle.phase_flow.specs.Reached.{Reached}
+use Rattle.undo_redo.specs.IsTrail.{IsTrail}
+use Rattle.undo_redo.specs.Kept.{Kept}
+use Rattle.undo_redo.specs.StruckList.{strike}
+use Rattle.reducer.specs.Accepted.{Accepted}
+use Rattle.reducer.specs.Folded.{folded}
 use Rattle.reducer.specs.Sound.{IsSound}
 use Rattle.reducer.specs.Standing.{Standing}
+use Rattle.reducer.specs.Steps.{state_after, with_lists}
+use Rattle.reducer.specs.Struck.{call_of}
+use Rattle.reducer.specs.Trails.{IsCounted, standing_at, trail_of}
+use Rattle.reducer.specs.Walk.{Fits, InSheet, reached_at, walked, waypoint}
+use Rattle.reducer.specs.declared.waypoint.Waypoint.{Waypoint}
+use Rattle.reducer.proofs.Walks.{counts, folds}
 
 -- a copy of a context and a map, with counts of at most so many moves, is sound with room for more
 pub copy_sound : (sheet : Sheet) (most more : ℕ) (ctx copied : Ctx) (active shown : Map) → BoundGrows → most ≤ more → copied ≡ ctx → shown ≡ active → TableIsSound sheet most ctx active → TableIsSound sheet more copied shown
@@ -17,18 +27,73 @@ copy_sound sheet most more ctx copied active shown grows h c a s =
     let as_copied : TableIsSound sheet more copied active = subst (λ (x : Ctx). TableIsSound sheet more x active) (sym c) wider in
     subst (λ (m : Map). TableIsSound sheet more copied m) (sym a) as_copied
 
-pub table_sound : {G : Type 0} (rules : Rules G) (s : Standing G) (t : Table G) → BoundGrows → IsSound rules s → t ≡ table_of s.table → TableIsSound rules.sheet 4096 t.ctx t.active
-table_sound {G = G} rules s t grows sound e =
-    let wider : TableIsSound rules.sheet 4096 s.table.ctx s.table.active = grows rules.sheet s.number 4096 s.table.ctx s.table.active sound.number sound.table in
-    subst (λ (x : Table G). TableIsSound rules.sheet 4096 x.ctx x.active) (sym e) wider
+-- a list with one entry more is no longer than by one
+pub one_longer : {A : Type 0} {xs ys : List A} {x : A} → ys ≡ x ∷ xs → length ys ≤ length xs + 1
+one_longer {xs = xs} {ys = ys} {x = x} e =
+    let same : length ys ≡ length (x ∷ xs) = ap length e in
+    omega arith
 
-pub step_sound : {G : Type 0} (rules : Rules G) (s after : Standing G) (before t : Table G) (number place : ℕ) (seed : List ℕ) → IsSound rules s → s.number < 4096 → before ≡ table_of s.table → number ≡ s.number
-    → ((most : ℕ) → TableIsSound rules.sheet most before.ctx before.active → TableIsSound rules.sheet (most + 1) t.ctx t.active) → t.ctx.turn ≤ before.ctx.turn + 64
-    → after ≡ record { number = number + 1; table = reached seed place t } → IsSound rules after
-step_sound {G = G} rules s after before t number place seed sound room b n keeps turn a =
-    let at : TableIsSound rules.sheet s.number before.ctx before.active = subst (λ (x : Table G). TableIsSound rules.sheet s.number x.ctx x.active) (sym b) sound.table in
-    let turned : before.ctx.turn ≡ s.table.ctx.turn = ap (λ (x : Table G). x.ctx.turn) b in
-    let most : s.table.ctx.turn ≤ 65 + 64 * s.number = sound.turn in
-    let made : IsSound rules (record { number = s.number + 1; table = reached seed place t }) = record { number = omega arith; table = keeps s.number at; turn = omega arith } in
-    let same : after ≡ record { number = s.number + 1; table = reached seed place t } = a ∙ ap (λ (k : ℕ). record { number = k + 1; table = reached seed place t }) n in
-    subst (IsSound rules) (sym same) made
+pub one_shorter : {A : Type 0} {xs ys : List A} {x : A} → xs ≡ x ∷ ys → length ys ≤ length xs + 1
+one_shorter {xs = xs} {ys = ys} {x = x} e =
+    let same : length xs ≡ length (x ∷ ys) = ap length e in
+    omega arith
+
+same_trail : {G : Type 0} (number : ℕ) (t : Kept (Waypoint G) Accepted) → IsCounted t → trail_of (standing_at number t) ≡ t
+same_trail {G = G} number t h =
+    let first : waypoint 0 (reached_at t.first) ≡ t.first = ap (λ (k : ℕ). record t.first { count = k }) (sym h.first) in
+    let now : waypoint (length t.done) (reached_at t.now) ≡ t.now = ap (λ (k : ℕ). record t.now { count = k }) (sym h.now) in
+    ap (λ (w : Waypoint G). record (trail_of (standing_at number t)) { first = w }) first ∙ ap (λ (w : Waypoint G). record t { now = w }) now
+
+module _ {G : Type 0} (rules : Rules G) where
+  -- a trail of the game's machine
+  abbrev pub IsWalk : Kept (Waypoint G) Accepted → Type 0
+  IsWalk t = IsTrail (walked rules) (Fits rules) (InSheet rules) t
+
+  pub counted : (t : Kept (Waypoint G) Accepted) → t.first.count ≡ 0 → IsWalk t → IsCounted t
+  counted t none trail =
+      let all : t.now.count ≡ t.first.count + length t.done = counts rules t.first t.done t.now trail.stands in
+      record { first = none; now = omega arith }
+
+  pub sound_at : (number : ℕ) (t : Kept (Waypoint G) Accepted) → BoundGrows → t.first.count ≡ 0 → number ≤ 4096 → length t.done ≤ number → IsWalk t → IsSound rules (standing_at number t)
+  sound_at number t grows none room most trail =
+      let count : IsCounted t = counted t none trail in
+      let fits : Fits rules t.now = trail.now_fits in
+      let now : t.now.count ≡ length t.done = count.now in
+      let turn : t.now.table.ctx.turn ≤ 65 + 64 * t.now.count = fits.turn in
+      record {
+        number = room;
+        done = most;
+        table = grows rules.sheet t.now.count number t.now.table.ctx t.now.table.active (omega arith) fits.table;
+        turn = omega arith;
+        trail = subst IsWalk (sym (same_trail number t count)) trail;
+      }
+
+  -- a trail whose lists are struck by an action stands for the state after it
+  pub stands_after : (number : ℕ) (t next : Kept (Waypoint G) Accepted) (a : Accepted) → next.first ≡ t.first → strike (call_of a) (record { done = t.done; undone = t.undone }) ≡ record { done = next.done; undone = next.undone } → IsWalk next
+      → standing_at (number + 1) next ≡ state_after rules (standing_at number t) a
+  stands_after number t next a first lists trail =
+      let table : folded rules (reached_at next.first) next.done ≡ reached_at next.now = folds rules next.first next.done next.now trail.stands in
+      ap (λ (r : Reached G). record (standing_at (number + 1) next) { table = r }) (sym table)
+      ∙ ap (λ (w : Waypoint G). record { number = number + 1; table = folded rules (reached_at w) next.done; first = reached_at w; done = next.done; undone = next.undone }) first
+      ∙ ap (with_lists rules (standing_at number t)) (sym lists)
+
+  -- the state of which the number and the trail are these, as it is opened
+  pub record Opened (number : ℕ) (t : Kept (Waypoint G) Accepted) (s : Standing G) : Type 0 where
+    pub shown : standing_at number t ≡ s
+    pub counted : IsCounted t
+    pub sound : IsSound rules s
+
+  pub trail_held : (number : ℕ) (t copied : Kept (Waypoint G) Accepted) (s : Standing G) → Opened number t s → copied ≡ t → IsWalk copied
+  trail_held number t copied s o same =
+      let at : IsSound rules (standing_at number t) = subst (IsSound rules) (sym o.shown) o.sound in
+      subst IsWalk (sym same) (subst IsWalk (same_trail number t o.counted) at.trail)
+
+  pub next_counted : (t next : Kept (Waypoint G) Accepted) → next.first ≡ t.first → IsCounted t → IsWalk next → IsCounted next
+  next_counted t next first count trail = counted next (ap (λ (w : Waypoint G). w.count) first ∙ count.first) trail
+
+  pub next_sound : (number : ℕ) (t next : Kept (Waypoint G) Accepted) (s : Standing G) → BoundGrows → Opened number t s → s.number < 4096 → next.first ≡ t.first → length next.done ≤ length t.done + 1 → IsWalk next → IsSound rules (standing_at (number + 1) next)
+  next_sound number t next s grows o room first more trail =
+      let at : IsSound rules (standing_at number t) = subst (IsSound rules) (sym o.shown) o.sound in
+      let most : length t.done ≤ number = at.done in
+      let same : number ≡ s.number = ap (λ (x : Standing G). x.number) o.shown in
+      sound_at (number + 1) next grows (ap (λ (w : Waypoint G). w.count) first ∙ o.counted.first) (omega arith) (omega arith) trail

@@ -1,8 +1,14 @@
 pub mod Accepted
 pub mod Acts
+pub mod Answer
 pub mod Fold
+pub mod Folded
+pub mod Performs
 pub mod Refuses
 pub mod Sound
 pub mod Standing
 pub mod Starts
 pub mod Steps
+pub mod Struck
+pub mod Trails
+pub mod Walk

@@ -2,19 +2,46 @@
 
 ghost use Rattle.std.specs.Prelude.{◌≡◌, ◌+◌, ◌<◌, ◌≤◌, ℕ, length, slice_get, is_none, nat_eq, position, IfOk};
 ghost use Rattle.dice_words.specs.Strip.{Follows};
-ghost use Rattle.game_trait.specs.InSheet.{EventInSheet};
-ghost use Rattle.phase_flow.specs.Action.{counts, has_no_limit, is_invalid, played, asked};
+ghost use Rattle.game_trait.specs.InSheet.{ActInSheet, EventInSheet};
+ghost use Rattle.phase_flow.specs.Action.{acted, counts, has_no_limit, is_invalid, played, asked};
 ghost use Rattle.phase_flow.specs.IsSound.{IsSound};
 ghost use Rattle.reducer.specs.Acts.{Acts, flow_answer, move_answer};
 
 use dice_words::Tape;
-use game_sheet::{Args, Event, EventQueue, GameNo, GameRule, MoveId, Seat, Sheet};
+use game_sheet::{Act, Args, Event, EventQueue, GameNo, GameRule, MoveId, Seat, Sheet};
 use game_trait::{Game, Halt};
 use phase_flow::{FlowNo, Table, bounds_grow, moved, run_event};
 use std::alloc::Global;
 
+/// The table after a seat's action. An undo or redo is none on a table: it is an invalid move there.
+pub(crate) fn act_on<X: Game>(
+    alloc: Global,
+    game: &X,
+    table: &Table<X::G>,
+    seat: Seat,
+    act: &Act,
+    tape: &mut Tape,
+) -> Result<Table<X::G>, GameNo>
+    requires sound { IsSound (X.rules game.now).sheet 4096 table.now.ctx table.now.active }
+    requires turn { table.now.ctx.turn ≤ 4000000000 }
+    requires seat { seat < table.now.ctx.seats }
+    requires act { ActInSheet (X.rules game.now).sheet act.now }
+    ensures answer { Acts result tape.new.left (acted (X.rules game.now) table.now seat act.now tape.old.left) }
+    ensures sound { (most : ℕ) → IsSound (X.rules game.now).sheet most table.now.ctx table.now.active
+        → IfOk result (λ t. IsSound (X.rules game.now).sheet (most + 1) t.ctx t.active) }
+    ensures turn { IfOk result (λ t. t.ctx.turn ≤ table.now.ctx.turn + 64) }
+    ensures follows { Follows tape.old tape.new }
+{
+    bounds_grow();
+    match act {
+        Act::Move { id, args } => play(alloc, game, table, seat, *id, args, tape),
+        Act::Event(event) => ask(alloc, game, table, seat, *event, tape),
+        Act::Undo | Act::Redo => Err(GameNo::Broken(GameRule::InvalidMove)),
+    }
+}
+
 /// The table after a seat's move.
-pub(crate) fn play<X: Game>(
+fn play<X: Game>(
     alloc: Global,
     game: &X,
     table: &Table<X::G>,
@@ -70,7 +97,7 @@ pub(crate) fn play<X: Game>(
 }
 
 /// The table after an event that a seat asks for.
-pub(crate) fn ask<X: Game>(
+fn ask<X: Game>(
     alloc: Global,
     game: &X,
     table: &Table<X::G>,

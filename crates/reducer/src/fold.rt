@@ -1,27 +1,27 @@
 //! The start of a match, and the step from one state to the next.
 
-ghost use Rattle.std.specs.Prelude.{◌≡◌, ◌+◌, ◌<◌, ◌≤◌, ◌∷◌, [], ℕ, List, Some, Err, Ok, IfOk, IfErr, true, length};
-ghost use Rattle.dice_words.specs.Strip.{Follows};
+ghost use Rattle.std.specs.Prelude.{◌≡◌, ◌<◌, ◌∷◌, [], List, IfOk, IfErr, true};
 ghost use Rattle.game_trait.specs.InSheet.{ActInSheet};
-ghost use Rattle.phase_flow.specs.Action.{acted};
-ghost use Rattle.phase_flow.specs.IsSound.{IsSound as TableIsSound};
 ghost use Rattle.phase_flow.specs.Reached.{Reached};
 ghost use Rattle.reducer.specs.Accepted.{Accepted};
-ghost use Rattle.reducer.specs.Acts.{Acts};
 ghost use Rattle.reducer.specs.Fold.{answer, standing};
 ghost use Rattle.reducer.specs.Refuses.{Refuses};
 ghost use Rattle.reducer.specs.Sound.{IsSound};
-ghost use Rattle.reducer.specs.Starts.{Starts};
+ghost use Rattle.reducer.specs.Acts.{flow_answer};
+ghost use Rattle.reducer.specs.Starts.{Starts, start_answer};
 ghost use Rattle.reducer.specs.Steps.{Steps};
 ghost use Rattle.stage_map.specs.Moves.{may};
 
-use crate::act::{ask, flow_answer, play};
+use crate::act::flow_answer;
 use crate::state::State;
+use crate::steps::{do_again, go_on, take_back};
+use crate::waypoint::Waypoint;
 use dice_words::Tape;
 use game_sheet::{Act, GameNo, GameRule, Seat};
 use game_trait::Game;
-use phase_flow::{Table, begin, bounds_grow};
+use phase_flow::{FlowNo, begin, bounds_grow};
 use std::alloc::Global;
+use undo_redo::Trail;
 
 /// Why a match didn't start.
 #[derive(Clone, Copy, PartialEq, Eq, Debug)]
@@ -53,19 +53,26 @@ pub fn start<X: Game>(
         return Err(StartNo::BadSeats);
     }
     let mut tape = Tape::live(*seed, 0, 0);
-    match begin(alloc, game, seats, &mut tape) {
-        Ok(table) => Ok(State::new(0, table, *seed, tape.place())),
-        Err(why) => match flow_answer(why) {
-            GameNo::Broken(rule) => Err(StartNo::NoStart(rule)),
-            GameNo::NoMemory => Err(StartNo::NoMemory),
-        },
+    let table = match begin(alloc, game, seats, &mut tape) {
+        Ok(table) => table,
+        Err(why) => return Err(no_start(why)),
+    };
+    let first = Waypoint {
+        table,
+        seed: *seed,
+        place: tape.place(),
+        count: 0,
+    };
+    match Trail::new(alloc, first) {
+        Ok(trail) => Ok(State { number: 0, trail }),
+        Err(_) => Err(StartNo::NoMemory),
     }
 }
 
 /// The state after one action more of a seat that may act. The state that is handed in stays as it was.
 ///
-/// A rule is broken exactly where the action on this state breaks it.
-#[tactic(auto, unfolding(phase_flow::specs::Action::once))]
+/// A rule is broken exactly where the action on this state breaks it. An undo strikes the last done action, and a redo does the
+/// first undone one again; the place in the words is that of the state that they lead to.
 pub fn step<X: Game>(
     alloc: Global,
     game: &X,
@@ -84,37 +91,19 @@ pub fn step<X: Game>(
     ensures refused { IfErr result (λ why. (first : Reached X.G) (accepted : List Accepted) → state.now ≡ standing (X.rules game.now) first accepted
         → Refuses why (answer (X.rules game.now) first accepted seat act.now)) }
 {
-    bounds_grow();
-    let mut tape = Tape::live(state.seed(), 0, state.place());
-    match act_on(alloc, game, state.table(), seat, act, &mut tape) {
-        Ok(table) => Ok(State::new(state.number() + 1, table, state.seed(), tape.place())),
-        Err(why) => Err(why),
+    match act {
+        Act::Undo => take_back(alloc, game, state, seat),
+        Act::Redo => do_again(alloc, game, state, seat),
+        Act::Move { .. } | Act::Event(_) => go_on(alloc, game, state, seat, act),
     }
 }
 
-/// The table after an action of a seat that may act.
-fn act_on<X: Game>(
-    alloc: Global,
-    game: &X,
-    table: &Table<X::G>,
-    seat: Seat,
-    act: &Act,
-    tape: &mut Tape,
-) -> Result<Table<X::G>, GameNo>
-    requires sound { TableIsSound (X.rules game.now).sheet 4096 table.now.ctx table.now.active }
-    requires turn { table.now.ctx.turn ≤ 4000000000 }
-    requires active { may table.now.ctx seat ≡ true }
-    requires act { ActInSheet (X.rules game.now).sheet act.now }
-    ensures answer { Acts result tape.new.left (acted (X.rules game.now) table.now seat act.now tape.old.left) }
-    ensures sound { (most : ℕ) → TableIsSound (X.rules game.now).sheet most table.now.ctx table.now.active
-        → IfOk result (λ t. TableIsSound (X.rules game.now).sheet (most + 1) t.ctx t.active) }
-    ensures turn { IfOk result (λ t. t.ctx.turn ≤ table.now.ctx.turn + 64) }
-    ensures follows { Follows tape.old tape.new }
+/// Why a match didn't start whose beginning has no table.
+fn no_start(why: FlowNo) -> StartNo
+    ensures { result ≡ start_answer (flow_answer why) }
 {
-    bounds_grow();
-    match act {
-        Act::Move { id, args } => play(alloc, game, table, seat, *id, args, tape),
-        Act::Event(event) => ask(alloc, game, table, seat, *event, tape),
-        Act::Undo | Act::Redo => Err(GameNo::Broken(GameRule::InvalidMove)),
+    match flow_answer(why) {
+        GameNo::Broken(rule) => StartNo::NoStart(rule),
+        GameNo::NoMemory => StartNo::NoMemory,
     }
 }

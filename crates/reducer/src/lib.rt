@@ -3,7 +3,10 @@
 
 mod act;
 mod fold;
+mod machine;
 mod state;
+mod steps;
+mod waypoint;
 
 pub use fold::{StartNo, start, step};
 pub use state::State;

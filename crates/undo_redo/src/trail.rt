@@ -38,6 +38,32 @@ impl<S, A> Model for Trail<S, A> {
     ghost invariant = { λ t. t.count ≤ length t.acts.items };
 }
 
+impl<S, A> Trail<S, A> {
+    /// The present state.
+    pub fn now(&self) -> &S
+        ensures { result.now ≡ self.now.now }
+    {
+        match &self.later {
+            Some(state) => state,
+            None => &self.first,
+        }
+    }
+
+    /// The act that was done last, if any.
+    pub fn last_done(&self) -> Option<&A>
+        ensures { option_copied result ≡ slice_get self.now.done 0 }
+    {
+        self.acts[..self.count].last()
+    }
+
+    /// The act that is done again next, if any.
+    pub fn first_undone(&self) -> Option<&A>
+        ensures { option_copied result ≡ slice_get self.now.undone 0 }
+    {
+        self.acts[self.count..].first()
+    }
+}
+
 impl<S: Drop, A: Drop> Trail<S, A> {
     /// A trail on which nothing was done yet, whatever the machine.
     pub fn new(alloc: Global, first: S) -> Result<Self, NoMemory>
@@ -111,30 +137,6 @@ impl<S: Drop, A: Drop> Trail<S, A> {
         self.later = Some(next);
         self.count += 1;
         Ok(true)
-    }
-
-    /// The present state.
-    pub fn now(&self) -> &S
-        ensures { result.now ≡ self.now.now }
-    {
-        match &self.later {
-            Some(state) => state,
-            None => &self.first,
-        }
-    }
-
-    /// The act that was done last, if any.
-    pub fn last_done(&self) -> Option<&A>
-        ensures { option_copied result ≡ slice_get self.now.done 0 }
-    {
-        self.acts[..self.count].last()
-    }
-
-    /// The act that is done again next, if any.
-    pub fn first_undone(&self) -> Option<&A>
-        ensures { option_copied result ≡ slice_get self.now.undone 0 }
-    {
-        self.acts[self.count..].first()
     }
 
     /// An equal trail.

@@ -6,5 +6,5 @@ use Rattle.match_master.proofs.judge.judge.Goals as goal
 
 pub play-requires-clause-admitted : goal.play-requires-clause-admitted
 play-requires-clause-admitted g c =
-    public_admits (g.X.Game.rules c.args.kept.now.game).sheet c.args.kept.now.state.table.ctx c.args.kept.now.state.number (is_named c.args.room c.args.kept.now.serial c.args.submission.now.name) (seat_of c.args.viewer) (fits c.args.viewer c.args.submission.now.key)
+    public_admits (g.X.Game.rules c.args.kept.now.game).sheet c.args.kept.now.state.table.ctx c.args.kept.now.state.number (is_named c.args.room c.args.kept.now.serial c.args.submission.now.name) (seat_of c.args.viewer.now) (fits c.args.viewer.now c.args.submission.now.key)
     c.args.submission.now.asked c.args.submission.now.number (sym c.in-None.ensures)

@@ -5,5 +5,5 @@ use Rattle.match_master.proofs.line.sync.Goals as goal
 
 pub returns : goal.returns
 returns g c =
-    let shown = rw (c.sheet.ensures.value, c.number.ensures, c.ctx.ensures, c.in_ok-g.ensures.value, c.g.ensures) at c.in_ok-value.ensures.value in
-    subst (λ d. IfOk c.write_server.result (λ line. line.items ≡ text (Sync c.args.name c.args.viewer d))) (c.new.ensures ∙ shown) c.write_server.ensures.text
+    let shown = rw (c.in_ok-shown.ensures.value, c.number.ensures, c.ctx.ensures, c.g.ensures) at c.in_ok-value.ensures.value in
+    subst (λ d. IfOk c.write_server.result (λ line. line.items ≡ text (Sync c.args.name c.args.seat d))) (c.new.ensures ∙ shown) c.write_server.ensures.text

@@ -9,6 +9,6 @@ returns-in_default c =
 
 pub returns : goal.returns
 returns c =
-    rw c.replace.ensures.value
+    rw c.take-bytes.ensures.taken
     (taken_out c.args.sessions.now.entries c.args.pass c.in-Some.place c.in-Some-get_index_mut.session.now _
-    (sym c.in-Some.ensures.value ∙ sym c.in-Some-get_index_mut.ensures.value) (sym c.in-Some.ensures.index) (rw (c.replace.ensures.after, c.new.ensures.items) refl))
+    (sym c.in-Some.ensures.value ∙ sym c.in-Some-get_index_mut.ensures.value) (sym c.in-Some.ensures.index) (rw c.take-bytes.ensures.nothing refl))

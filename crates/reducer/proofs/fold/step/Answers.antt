@@ -1,10 +1,5 @@
-use Rattle.reducer.proofs.States.{step_sound, table_sound}
+use Rattle.reducer.proofs.Seats.{may_is_seat}
 use Rattle.reducer.proofs.fold.step.Goals as goal
 
-pub act_on-requires-clause-sound : goal.act_on-requires-clause-sound
-act_on-requires-clause-sound g c = table_sound (g.X.Game.rules c.args.game.now) c.args.state.now c.table.result.now c.bounds_grow.ensures c.requires.sound c.table.ensures
-
-pub returns-in-Ok-clause-sound : goal.returns-in-Ok-clause-sound
-returns-in-Ok-clause-sound g c =
-    step_sound (g.X.Game.rules c.args.game.now) c.args.state.now c.new.result c.table.result.now c.in-Ok.table c.number.result c.place-in-Ok.result c.seed-in-Ok.result c.requires.sound c.requires.room c.table.ensures c.number.ensures
-    c.in-Ok.ensures.sound c.in-Ok.ensures.turn c.new.ensures
+pub go_on-requires-clause-seat : goal.go_on-requires-clause-seat
+go_on-requires-clause-seat g c = may_is_seat (g.X.Game.rules c.args.game.now).sheet c.args.state.now.number c.args.state.now.table.ctx c.args.state.now.table.active c.args.seat c.requires.sound.table c.requires.active

@@ -1,0 +1,14 @@
+-- How an action from a waypoint is answered: by the next waypoint, or by the rule that it breaks. Want of memory is free.
+use Rattle.std.specs.Prelude.{◌≡◌, ◌+◌, ℕ, Result, Ok, Err}
+use Rattle.game_sheet.specs.declared.act.Act.{Act}
+use Rattle.game_sheet.specs.declared.refusal.GameNo.{GameNo}
+use Rattle.game_sheet.specs.declared.refusal.GameNo.TheVariants.{Broken, NoMemory}
+use Rattle.game_trait.specs.Rules.{Rules}
+use Rattle.phase_flow.specs.Action.{once}
+use Rattle.reducer.specs.Walk.{reached_at}
+use Rattle.reducer.specs.declared.waypoint.Waypoint.{Waypoint}
+
+abbrev pub Performs : {G : Type 0} → Rules G → Waypoint G → ℕ → Act → Result (Waypoint G) GameNo → Type 0
+Performs rules w seat act (Ok next) = (once rules (reached_at w) seat act ≡ Ok (reached_at next)) × (next.count ≡ w.count + 1)
+Performs rules w seat act (Err (Broken rule)) = once rules (reached_at w) seat act ≡ Err rule
+Performs rules w seat act (Err NoMemory) = Unit {0}

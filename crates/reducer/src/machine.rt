@@ -1,0 +1,136 @@
+//! The reducer as a machine of steps, over which the trail of a match goes.
+
+ghost use Rattle.std.specs.Prelude.{◌≡◌, ◌<◌, ℕ, IfOk, IfSome};
+ghost use Rattle.game_trait.specs.InSheet.{ActInSheet};
+ghost use Rattle.reducer.specs.Performs.{Performs};
+ghost use Rattle.reducer.specs.Walk.{Fits, InSheet, walked};
+
+use crate::act::act_on;
+use crate::waypoint::{Deed, Waypoint};
+use dice_words::Tape;
+use game_sheet::{Act, GameNo, NoMemory, Seat};
+use game_trait::Game;
+use phase_flow::{Table, bounds_grow};
+use std::alloc::Global;
+use undo_redo::Machine;
+
+/// How many actions a match accepts.
+const MOST: u32 = 4096;
+
+/// The machine of a game: an action of a seat leads from one waypoint of a match to the next.
+///
+/// It refuses an action after 4,096 others, one of a seat that the match doesn't have, and one that breaks a rule of the game.
+#[derive(Drop)]
+pub(crate) struct Reducer<'a, X> {
+    /// The game.
+    pub(crate) game: &'a X,
+}
+
+impl<'a, X: Game> Machine for Reducer<'a, X> {
+    ghost use Rattle.reducer.specs.Walk.{Fits, InSheet, walked};
+
+    type State = Waypoint<X::G>;
+
+    type Act = Deed;
+
+    ghost stepped = { λ m w a. walked (X.rules m.game.now) w a };
+
+    ghost state_fits = { λ m w. Fits (X.rules m.game.now) w };
+
+    ghost act_fits = { λ m a. InSheet (X.rules m.game.now) a };
+
+    fn step(
+        &self,
+        alloc: Global,
+        state: &Waypoint<X::G>,
+        act: &Deed,
+    ) -> Result<Option<Waypoint<X::G>>, NoMemory> {
+        walk(alloc, self.game, state, act)
+    }
+
+    fn copy_state(
+        &self,
+        alloc: Global,
+        state: &Waypoint<X::G>,
+    ) -> Result<Waypoint<X::G>, NoMemory> {
+        copy_of(alloc, self.game, state)
+    }
+
+    fn copy_act(&self, alloc: Global, act: &Deed) -> Result<Deed, NoMemory> {
+        Ok(Deed {
+            seat: act.seat,
+            act: act.act.copy(),
+        })
+    }
+}
+
+/// The waypoint that an action leads to; none where it is refused.
+#[tactic(auto, unfolding(crate::specs::Walk::walked))]
+fn walk<X: Game>(
+    alloc: Global,
+    game: &X,
+    from: &Waypoint<X::G>,
+    deed: &Deed,
+) -> Result<Option<Waypoint<X::G>>, NoMemory>
+    requires fits { Fits (X.rules game.now) from.now }
+    requires act { InSheet (X.rules game.now) deed.now }
+    ensures value { IfOk result (λ next. next ≡ walked (X.rules game.now) from.now deed.now) }
+    ensures fits { IfOk result (λ next. IfSome next (Fits (X.rules game.now))) }
+{
+    if from.count >= MOST || deed.seat >= from.table.ctx.seats {
+        return Ok(None);
+    }
+    match perform(alloc, game, from, deed.seat, &deed.act) {
+        Ok(next) => Ok(Some(next)),
+        Err(GameNo::Broken(_)) => Ok(None),
+        Err(GameNo::NoMemory) => Err(NoMemory),
+    }
+}
+
+/// The waypoint that an action of a seat of the match leads to. A rule is broken exactly where the action breaks it.
+#[tactic(auto, unfolding(phase_flow::specs::Action::once))]
+pub(crate) fn perform<X: Game>(
+    alloc: Global,
+    game: &X,
+    from: &Waypoint<X::G>,
+    seat: Seat,
+    act: &Act,
+) -> Result<Waypoint<X::G>, GameNo>
+    requires room { from.now.count < 4096 }
+    requires fits { Fits (X.rules game.now) from.now }
+    requires seat { seat < from.now.table.ctx.seats }
+    requires act { ActInSheet (X.rules game.now).sheet act.now }
+    ensures answer { Performs (X.rules game.now) from.now seat act.now result }
+    ensures fits { IfOk result (Fits (X.rules game.now)) }
+{
+    bounds_grow();
+    let mut tape = Tape::live(from.seed, 0, from.place);
+    match act_on(alloc, game, &from.table, seat, act, &mut tape) {
+        Ok(table) => Ok(Waypoint {
+            table,
+            seed: from.seed,
+            place: tape.place(),
+            count: from.count + 1,
+        }),
+        Err(why) => Err(why),
+    }
+}
+
+/// An equal waypoint.
+fn copy_of<X: Game>(
+    alloc: Global,
+    game: &X,
+    waypoint: &Waypoint<X::G>,
+) -> Result<Waypoint<X::G>, NoMemory>
+    ensures { IfOk result (λ copied. copied ≡ waypoint.now) }
+{
+    let g = game.copy(alloc, &waypoint.table.g)?;
+    let ctx = waypoint.table.ctx.copy(alloc)?;
+    let active = waypoint.table.active.copy()?;
+    Ok(Waypoint {
+        table: Table { g, ctx, active },
+        seed: waypoint.seed,
+        place: waypoint.place,
+        count: waypoint.count,
+    })
+}
