@@ -1,11 +1,11 @@
 //! Which lines of a script are in form, and what they ask for.
 
-ghost use Rattle.std.specs.Prelude.{◌≡◌, IfOk, true, Some, Ok, if◌then◌else◌, None};
+ghost use Rattle.std.specs.Prelude.{◌≡◌, IfOk, true, Some, Ok, if◌then◌else◌, None, option_and_then};
 ghost use Rattle.any_game.specs.AnyRules.{any_rules};
 ghost use Rattle.match_master.specs.Calls.{seats_fit};
 ghost use Rattle.wire_json.specs.ClientReading.{client_read};
 ghost use Rattle.world_script.specs.Commands.{Open};
-ghost use Rattle.world_script.specs.Forms.{may_be_read, seed_for, step_of_message, step_of_line, step_of_command, step_of, stage_after};
+ghost use Rattle.world_script.specs.Forms.{may_be_read, opening_of, seed_for, step_of_message, step_of_line, step_of_command, step_of, stage_after};
 
 use crate::command::{Command, command_of};
 use crate::match_seed::match_seed;
@@ -107,14 +107,20 @@ fn opens(alloc: Global, stage: Stage, name: &str, seats: u8) -> Result<Option<St
     if stage.opened {
         return Ok(None);
     }
-    let Some(game) = by_name(alloc, name)? else {
-        return Ok(None);
-    };
+    let game = by_name(alloc, name)?;
+    Ok(opening(game, seats, seed_for(stage)))
+}
+
+/// A match of a game, if there is one, for a number of seats that it allows.
+fn opening(game: Option<AnyGame>, seats: u8, seed: [u8; 32]) -> Option<Step>
+    ensures form { result ≡ option_and_then (opening_of seats seed) game }
+    ensures read { may_be_read result ≡ true }
+{
+    let game = game?;
     if allows(&game, seats) {
-        let seed = seed_for(stage);
-        Ok(Some(Step::Opens { game, seats, seed }))
+        Some(Step::Opens { game, seats, seed })
     } else {
-        Ok(None)
+        None
     }
 }
 
