@@ -4,6 +4,7 @@
 demo:
 	@cd crates/board_server && rt run -- script < ../../examples/tic-tac-toe.script
 	@cd crates/board_server && rt run -- script < ../../examples/countdown.script
+	@cd crates/board_server && rt run -- script < ../../examples/blind-bid.script
 
 test:
 	rt ci

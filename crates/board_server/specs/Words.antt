@@ -1,7 +1,7 @@
 -- What the words of a call of the program ask for, and what each end of a run makes of the process.
 use Rattle.std.specs.Prelude.{ℕ, Bool, true, false, List, [], ◌∷◌, bytes_eq, codes, String, string_bytes}
 use Rattle.world_script.specs.declared.exit.Exit.{Exit}
-use Rattle.world_script.specs.declared.exit.Exit.TheVariants.{Done, Usage, ReadFault, WriteFault, BadLine, NoMemory}
+use Rattle.world_script.specs.declared.exit.Exit.TheVariants.{Done, Usage, ReadFault, WriteFault, BadLine, TooLong, TooMany, NoMemory}
 
 -- the one word `script`
 abbrev pub asks_script : {A : Type 0} → List (String A) → Bool
@@ -16,4 +16,6 @@ status Usage = 1
 status ReadFault = 2
 status WriteFault = 3
 status (BadLine line) = 4
+status (TooLong line) = 5
+status TooMany = 6
 status NoMemory = 7

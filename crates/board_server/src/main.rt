@@ -40,6 +40,8 @@ fn report(rt: &impl Eprint, exit: Exit) -> io::Result<()> {
         Exit::ReadFault => eprintln!(rt; "read fault"),
         Exit::WriteFault => eprintln!(rt; "write fault"),
         Exit::BadLine { line } => eprintln!(rt; "bad line {line}"),
+        Exit::TooLong { line } => eprintln!(rt; "long line {line}"),
+        Exit::TooMany => eprintln!(rt; "too many lines"),
         Exit::NoMemory => eprintln!(rt; "no memory"),
     }
 }

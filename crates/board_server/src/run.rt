@@ -55,6 +55,8 @@ pub fn status(exit: Exit) -> u8
         Exit::ReadFault => 2,
         Exit::WriteFault => 3,
         Exit::BadLine { .. } => 4,
+        Exit::TooLong { .. } => 5,
+        Exit::TooMany => 6,
         Exit::NoMemory => 7,
     }
 }

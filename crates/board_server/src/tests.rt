@@ -2,6 +2,7 @@
 
 mod countdown;
 mod events;
+mod told;
 mod win;
 
 use crate::run::{run, status};
@@ -108,7 +109,7 @@ fn a_player_ends_a_turn_once_it_has_its_moves(rt: HostRuntime) -> Result<(), Fai
 }
 
 #[test]
-fn an_undo_and_an_event_in_another_form_are_bad_lines(rt: HostRuntime) -> Result<(), Fail> {
+fn an_event_in_another_form_is_a_bad_line(rt: HostRuntime) -> Result<(), Fail> {
     for script in events::BAD_LINES {
         let (exit, printed) = played(rt.alloc(), script, &[], &[])?;
         assert_eq!(rt; exit, Exit::BadLine { line: 3 });
@@ -120,13 +121,15 @@ fn an_undo_and_an_event_in_another_form_are_bad_lines(rt: HostRuntime) -> Result
 #[test]
 fn a_game_is_opened_by_its_name_for_seats_that_it_allows(rt: HostRuntime) -> Result<(), Fail> {
     let alloc = rt.alloc();
-    let opens: [&[u8]; 6] = [
+    let opens: [&[u8]; 8] = [
         b"open tic-tac-toe 2",
         b"open countdown 2",
         b"open countdown 3",
         b"open countdown 4",
         b"open pig 2",
         b"open pig 4",
+        b"open high-hand 4",
+        b"open blind-bid 8",
     ];
     for script in opens {
         let (exit, printed) = played(alloc, script, &[], &[])?;
@@ -151,22 +154,114 @@ fn a_game_is_opened_by_its_name_for_seats_that_it_allows(rt: HostRuntime) -> Res
 }
 
 #[test]
-fn a_session_has_the_seat_of_its_number_and_syncs_before_it_acts(
-    rt: HostRuntime,
-) -> Result<(), Fail> {
+fn a_script_opens_once_and_first(rt: HostRuntime) -> Result<(), Fail> {
     let alloc = rt.alloc();
-    let others: [&[u8]; 5] = [
-        b"open countdown 2\ns2 {\"key\":\"00000000000000000000000000000002\",\"match\":\"0-1\",\"seat\":2,\"type\":\"sync\"}",
-        b"open countdown 2\ns0 {\"key\":\"00000000000000000000000000000001\",\"match\":\"0-1\",\"seat\":1,\"type\":\"sync\"}",
-        b"open countdown 2\ns0 {\"act\":{\"args\":[3],\"kind\":\"move\",\"move\":\"take\"},\"key\":\"00000000000000000000000000000000\",\"match\":\"0-1\",\"number\":0,\"ticket\":1,\"type\":\"act\"}",
-        b"open countdown 2\nt0",
-        b"open countdown 2\nopen countdown 2",
-    ];
-    for script in others {
+    for script in [b"t0\nopen pig 2".as_slice(), b"x0\n", b"s0 \n"] {
         let (exit, printed) = played(alloc, script, &[], &[])?;
-        assert_eq!(rt; exit, Exit::BadLine { line: 2 });
-        assert_eq!(rt; printed.as_slice(), b"open 0-1\n".as_slice());
+        assert_eq!(rt; exit, Exit::BadLine { line: 1 });
+        assert_eq!(rt; printed.as_slice(), b"".as_slice());
     }
+    let (exit, printed) = played(alloc, b"open pig 2\nopen pig 2", &[], &[])?;
+    assert_eq!(rt; exit, Exit::BadLine { line: 2 });
+    assert_eq!(rt; printed.as_slice(), b"open 0-1\n".as_slice());
+    Ok(())
+}
+
+#[test]
+fn a_session_that_is_not_attached_is_told_so(rt: HostRuntime) -> Result<(), Fail> {
+    let (exit, printed) = played(rt.alloc(), told::DETACHED, &[], &[])?;
+    assert_eq!(rt; exit, Exit::Done);
+    assert_eq!(rt; printed.as_slice(), told::DETACHED_TRANSCRIPT);
+    Ok(())
+}
+
+#[test]
+fn a_sync_is_refused_for_its_key_or_its_match(rt: HostRuntime) -> Result<(), Fail> {
+    let (exit, printed) = played(rt.alloc(), told::REFUSED, &[], &[])?;
+    assert_eq!(rt; exit, Exit::Done);
+    assert_eq!(rt; printed.as_slice(), told::REFUSED_TRANSCRIPT);
+    Ok(())
+}
+
+#[test]
+fn a_session_is_attached_once_at_a_time(rt: HostRuntime) -> Result<(), Fail> {
+    let (exit, printed) = played(rt.alloc(), told::ATTACHED, &[], &[])?;
+    assert_eq!(rt; exit, Exit::Done);
+    assert_eq!(rt; printed.as_slice(), told::ATTACHED_TRANSCRIPT);
+    Ok(())
+}
+
+/// Whether bytes end with these.
+fn ends_with(bytes: &[u8], end: &[u8]) -> bool {
+    end.len() <= bytes.len() && &bytes[bytes.len() - end.len()..] == end
+}
+
+#[test]
+fn a_forged_key_is_named_before_the_turn(rt: HostRuntime) -> Result<(), Fail> {
+    let (exit, printed) = played(rt.alloc(), told::FORGED, &[], &[])?;
+    assert_eq!(rt; exit, Exit::Done);
+    assert!(rt; ends_with(printed.as_slice(), told::FORGED_END));
+    Ok(())
+}
+
+#[test]
+fn a_spectator_sees_no_bid_and_may_not_act(rt: HostRuntime) -> Result<(), Fail> {
+    let (exit, printed) = played(rt.alloc(), told::SPECTATOR, &[], &[])?;
+    assert_eq!(rt; exit, Exit::Done);
+    assert!(rt; ends_with(printed.as_slice(), told::SPECTATOR_END));
+    Ok(())
+}
+
+#[test]
+fn a_stale_boast_is_refused_and_a_late_bid_is_not(rt: HostRuntime) -> Result<(), Fail> {
+    let alloc = rt.alloc();
+    let mut script = Vec::from_slice(alloc, told::STALE_BOAST)?;
+    let (exit, printed) = played(alloc, script.as_slice(), &[], &[])?;
+    assert_eq!(rt; exit, Exit::Done);
+    assert!(rt; ends_with(printed.as_slice(), told::STALE_BOAST_END));
+    script.extend_from_slice(told::LATE_BID)?;
+    let (exit, printed) = played(alloc, script.as_slice(), &[], &[])?;
+    assert_eq!(rt; exit, Exit::Done);
+    assert!(rt; ends_with(printed.as_slice(), told::LATE_BID_END));
+    Ok(())
+}
+
+#[test]
+fn a_seed_is_the_next_match_s(rt: HostRuntime) -> Result<(), Fail> {
+    let (exit, printed) = played(rt.alloc(), told::SEEDED, &[], &[])?;
+    assert_eq!(rt; exit, Exit::Done);
+    assert!(rt; ends_with(printed.as_slice(), told::SEEDED_END));
+    Ok(())
+}
+
+/// A script whose second line, a spectator's sync, is padded with blanks to so many bytes.
+fn padded(alloc: Global, count: usize) -> Result<Vec<u8>, NoMemory> {
+    let mut script = Vec::from_slice(alloc, b"open pig 2\n")?;
+    let sync = b"s0 {\"key\":null,\"match\":\"0-1\",\"seat\":null,\"type\":\"sync\"}";
+    script.extend_from_slice(sync)?;
+    for _ in sync.len()..count {
+        script.push(b' ')?;
+    }
+    script.extend_from_slice(b"\nt0\n")?;
+    Ok(script)
+}
+
+#[test]
+fn a_line_of_65536_bytes_is_read_and_none_longer(rt: HostRuntime) -> Result<(), Fail> {
+    let alloc = rt.alloc();
+    let script = padded(alloc, 65_536)?;
+    let (exit, printed) = played(alloc, script.as_slice(), &[], &[])?;
+    assert_eq!(rt; exit, Exit::Done);
+    assert!(rt;
+        ends_with(
+            printed.as_slice(),
+            b"\"log\":[],\"number\":0},\"type\":\"sync\"}\n"
+        )
+    );
+    let script = padded(alloc, 65_537)?;
+    let (exit, printed) = played(alloc, script.as_slice(), &[], &[])?;
+    assert_eq!(rt; exit, Exit::TooLong { line: 2 });
+    assert_eq!(rt; printed.as_slice(), b"open 0-1\n".as_slice());
     Ok(())
 }
 
@@ -201,7 +296,7 @@ fn a_failing_sink_ends_the_run(rt: HostRuntime) -> Result<(), Fail> {
 
 #[test]
 fn the_first_line_in_no_form_ends_the_run(rt: HostRuntime) -> Result<(), Fail> {
-    let (exit, printed) = played(rt.alloc(), b"open tic-tac-toe 2\n\nt7\nt0\n", &[], &[])?;
+    let (exit, printed) = played(rt.alloc(), b"open tic-tac-toe 2\n\nt32\nt0\n", &[], &[])?;
     assert_eq!(rt; exit, Exit::BadLine { line: 3 });
     assert_eq!(rt; printed.as_slice(), b"open 0-1\n".as_slice());
     Ok(())

@@ -1,9 +1,9 @@
 pub mod Steps
 pub mod Moving
 pub mod Progress
-pub mod RoomLaws
 pub mod Underway
 pub mod RunLaws
 pub mod EndLaws
 pub mod MatchSeedLaws
 pub mod FormLaws
+pub mod AnswerTexts

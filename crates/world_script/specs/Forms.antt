@@ -1,80 +1,75 @@
--- Which lines are in form, by what the lines before them have come to. A script opens one match of a known game, for a number of seats
--- that the game allows. The session of each seat's number syncs once, with the seat's key; from then on it moves in that match, asks
--- for events, and takes what waits for it.
-use Rattle.std.specs.Prelude.{ℕ, ◌==◌, Bool, true, false, not, ◌&&◌, if◌then◌else◌, nat_lt, is_none, bytes_eq, replicate, slice_get, slice_set, List, [], ◌∷◌, ◌++◌, Option, Some, None, option_and_then, unwrap_or, Result, Ok, Err}
-use Rattle.game_sheet.specs.MatchName.{Name}
+-- Which lines are in form, and what they ask for, by what the lines before them have come to. A script opens one match, of a known game
+-- and for a number of seats that the game allows, and until then nothing but seeds may stand before it. From then on each of the
+-- sessions may ask for the stream of a match and for actions, take what waits for it, and end its attachment.
+use Rattle.std.specs.Prelude.{ℕ, Bool, true, false, if◌then◌else◌, List, Option, Some, None, option_and_then, unwrap_or, Result, Ok, Err}
 use Rattle.any_game.specs.AnyRules.{any_rules, named}
 use Rattle.any_game.specs.GameKind.{GameKind}
 use Rattle.match_master.specs.Calls.{seats_fit}
 use Rattle.wire_json.specs.ClientReading.{client_read}
 use Rattle.wire_json.specs.Refusals.{Refusal}
-use Rattle.wire_json.specs.declared.asked.Asked.{Asked}
-use Rattle.wire_json.specs.declared.asked.Asked.TheVariants as asked
 use Rattle.wire_json.specs.declared.client.ClientMsg.{ClientMsg}
 use Rattle.wire_json.specs.declared.client.ClientMsg.TheVariants as message
 use Rattle.world_script.specs.Commands.{Said, Passed, Open, Say, Take, Detach, Seed, command}
+use Rattle.world_script.specs.MatchSeed.{match_seed}
 use Rattle.world_script.specs.declared.stage.Stage.{Stage}
 use Rattle.world_script.specs.declared.stage.Step.{Step}
-use Rattle.world_script.specs.declared.stage.Step.TheVariants.{Nothing, Opens, Syncs, Acts, Takes}
+use Rattle.world_script.specs.declared.stage.Step.TheVariants.{Nothing, Seeds, Opens, Unread, Syncs, Acts, Takes, Detaches}
 
--- the key of a seat is its number
-abbrev pub seat_key : ℕ → List ℕ
-seat_key seat = replicate 15 0 ++ seat ∷ []
+-- a session's line is in form where it is a message
+abbrev pub step_of_message : ℕ → Result ClientMsg Refusal → Option Step
+step_of_message session (Err refusal) = None
+step_of_message session (Ok (message.Sync name viewer)) = Some (Syncs session name viewer)
+step_of_message session (Ok (message.Act act key name number ticket)) =
+    Some (Acts session (record { name = name; key = key; number = number; ticket = ticket; asked = act }))
 
-abbrev pub is_the_match : Name → Bool
-is_the_match name = (name.room == 0) && (name.serial == 1)
+-- `was_read` says whether there was memory to read the line; where there was none, whatever it holds is in form
+abbrev pub step_of_line : Bool → ℕ → List ℕ → Option Step
+step_of_line true session line = step_of_message session (client_read line)
+step_of_line false session line = Some (Unread session)
 
--- a seat of the match that is open
-abbrev pub is_seat : Option ℕ → ℕ → Bool
-is_seat None session = false
-is_seat (Some seats) session = nat_lt session seats
-
-abbrev pub has_synced : Stage → ℕ → Bool
-has_synced stage session = unwrap_or (slice_get stage.synced session) false
-
-abbrev pub is_own_seat : ℕ → Option (ℕ × List ℕ) → Bool
-is_own_seat session None = false
-is_own_seat session (Some viewer) = (viewer.0 == session) && bytes_eq viewer.1 (seat_key session)
-
-abbrev pub may_sync : Stage → ℕ → Bool
-may_sync stage session = is_seat stage.seats session && not (has_synced stage session)
-
--- a move of any name, and every event; an undo and a redo are in no form
-abbrev pub is_move_or_event : Asked → Bool
-is_move_or_event (asked.Move name args) = true
-is_move_or_event (asked.Event kind to) = true
-is_move_or_event asked.Undo = false
-is_move_or_event asked.Redo = false
-
-abbrev pub step_of_message : Stage → ℕ → Result ClientMsg Refusal → Option Step
-step_of_message stage session (Err refusal) = None
-step_of_message stage session (Ok (message.Sync name viewer)) =
-    if may_sync stage session && is_the_match name && is_own_seat session viewer then Some (Syncs session) else None
-step_of_message stage session (Ok (message.Act act key name number ticket)) =
-    if has_synced stage session && is_the_match name && bytes_eq key (seat_key session) && is_move_or_event act
-    then Some (Acts session (record { name = name; key = key; number = number; ticket = ticket; asked = act })) else None
+-- a match takes the seed that was set last, else the first words of the run
+abbrev pub seed_for : Stage → List ℕ
+seed_for stage = unwrap_or stage.seed match_seed
 
 -- a match of a game, for a number of seats that the game allows
-abbrev pub opening_of : ℕ → GameKind → Option Step
-opening_of seats game = if seats_fit (any_rules game).sheet seats then Some (Opens game seats) else None
+abbrev pub opening_of : ℕ → List ℕ → GameKind → Option Step
+opening_of seats seed game = if seats_fit (any_rules game).sheet seats then Some (Opens game seats seed) else None
 
-abbrev pub step_of_command : Stage → Option Said → Option Step
-step_of_command stage None = None
-step_of_command stage (Some Passed) = Some Nothing
-step_of_command stage (Some (Open name seats)) = if is_none stage.seats then option_and_then (opening_of seats) (named name) else None
-step_of_command stage (Some (Say session line)) = step_of_message stage session (client_read line)
-step_of_command stage (Some (Take session)) = if has_synced stage session then Some (Takes session) else None
-step_of_command stage (Some (Detach session)) = None
-step_of_command stage (Some (Seed seed)) = None
+abbrev pub step_of_command : Bool → Stage → Option Said → Option Step
+step_of_command was_read stage None = None
+step_of_command was_read stage (Some Passed) = Some Nothing
+step_of_command was_read stage (Some (Seed seed)) = Some (Seeds seed)
+step_of_command was_read stage (Some (Open name seats)) = if stage.opened then None else option_and_then (opening_of seats (seed_for stage)) (named name)
+step_of_command was_read stage (Some (Say session line)) = if stage.opened then step_of_line was_read session line else None
+step_of_command was_read stage (Some (Take session)) = if stage.opened then Some (Takes session) else None
+step_of_command was_read stage (Some (Detach session)) = if stage.opened then Some (Detaches session) else None
 
 -- what a line asks for; none where it is in no form
-unfoldable pub step_of : Stage → List ℕ → Option Step
-step_of stage line = step_of_command stage (command line)
+unfoldable pub step_of : Bool → Stage → List ℕ → Option Step
+step_of was_read stage line = step_of_command was_read stage (command line)
 
 -- what a step makes of what the lines have come to
 abbrev pub stage_after : Stage → Step → Stage
 stage_after stage Nothing = stage
-stage_after stage (Opens game seats) = record stage { seats = Some seats }
-stage_after stage (Syncs session) = record stage { synced = slice_set stage.synced session true }
+stage_after stage (Seeds seed) = record stage { seed = Some seed }
+stage_after stage (Opens game seats seed) = record stage { opened = true; seed = None }
+stage_after stage (Unread session) = stage
+stage_after stage (Syncs session name viewer) = stage
 stage_after stage (Acts session s) = stage
 stage_after stage (Takes session) = stage
+stage_after stage (Detaches session) = stage
+
+-- whether a step's line was read
+abbrev pub is_read : Step → Bool
+is_read Nothing = true
+is_read (Seeds seed) = true
+is_read (Opens game seats seed) = true
+is_read (Unread session) = false
+is_read (Syncs session name viewer) = true
+is_read (Acts session s) = true
+is_read (Takes session) = true
+is_read (Detaches session) = true
+
+abbrev pub may_be_read : Option Step → Bool
+may_be_read None = true
+may_be_read (Some step) = is_read step

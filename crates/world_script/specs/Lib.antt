@@ -3,7 +3,9 @@ pub mod Reader
 pub mod Reading
 pub mod Commands
 pub mod CommandIs
+pub mod Answers
 pub mod Forms
 pub mod MatchSeed
 pub mod Transcript
+pub mod Printing
 pub mod Running

@@ -16,6 +16,13 @@ pub enum Exit {
         /// The first such line, counted from 1.
         line: u32,
     },
+    /// A line has more than 65,536 bytes.
+    TooLong {
+        /// Which line, counted from 1.
+        line: u32,
+    },
+    /// A byte follows the 1,000,000th newline.
+    TooMany,
     /// There was no memory.
     NoMemory,
 }

@@ -1,10 +1,12 @@
 //! Scripts: their lines, read one by one, and the commands that these are.
 #![tactic(auto)]
 
+mod answer;
 mod chunk;
 mod command;
 mod exit;
 mod lines;
+mod mark;
 mod match_seed;
 mod next;
 mod room;

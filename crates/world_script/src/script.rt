@@ -3,11 +3,9 @@
 ghost use Rattle.std.specs.Prelude.{◌≡◌, ◌≤◌, List, [], IsSome};
 ghost use Rattle.board_links.specs.Faults.{HasRisen};
 ghost use Rattle.board_links.specs.Pieces.{told_bytes, WriteRaises, Writes};
-ghost use Rattle.room_desk.specs.Entry.{Entry};
-ghost use Rattle.match_master.specs.declared.call.RoomCall.{RoomCall as Asks};
 ghost use Rattle.match_master.specs.Held.{StandsFor};
 ghost use Rattle.any_game.specs.AnyRules.{any_rules};
-ghost use Rattle.any_game.specs.GameKind.{GameKind as Kind};
+ghost use Rattle.world_script.specs.Transcript.{History};
 ghost use Rattle.world_script.specs.Running.{RanLine, RanRaises, Ends, ExitRaises, stop_at, end_at};
 
 use crate::exit::Exit;
@@ -20,9 +18,11 @@ use std::alloc::Global;
 
 /// Runs the script of a source, and prints its transcript into a sink.
 ///
-/// `Done` comes where the source was read to its end; `BadLine` exactly where that line is the first in no form, among
-/// them a line of more than 65,536 bytes and one after the 1,000,000th; a fault only where its count of faults rose.
-/// What the whole lines before a fault print has been printed.
+/// `Done` comes where the source was read to its end; `BadLine` exactly where that line is the first in no form,
+/// `TooLong` exactly where that line is the first of more than 65,536 bytes, and `TooMany` exactly where a byte follows the
+/// 1,000,000th newline, each where no earlier line ends the run; a fault only where its count of faults rose. What the
+/// whole lines before a fault print has been printed. A session's line for which there is no memory is answered so, and
+/// the run goes on.
 pub fn run_script<S: Source, K: Sink>(alloc: Global, source: &mut S, sink: &mut K) -> Exit
     ensures source_never_falls { S.faults source.old ≤ S.faults source.new }
     ensures sink_never_falls { K.faults sink.old ≤ K.faults sink.new }
@@ -49,8 +49,8 @@ fn play<S: Source, K: Sink>(alloc: Global, mut room: Room, source: &mut S, sink:
 {
     let mut lines = Lines::new(alloc);
     let mut stage = Stage {
-        seats: None,
-        synced: [false; 8],
+        opened: false,
+        seed: None,
     };
     'lines: loop {
         let next = lines.next_line(source);
@@ -72,8 +72,8 @@ fn stop_at(next: Next, given: u32) -> Option<Exit>
     match next {
         Next::Line => None,
         Next::End => Some(Exit::Done),
-        Next::TooLong => Some(Exit::BadLine { line: given + 1 }),
-        Next::TooMany => Some(Exit::BadLine { line: given + 1 }),
+        Next::TooLong => Some(Exit::TooLong { line: given + 1 }),
+        Next::TooMany => Some(Exit::TooMany),
         Next::ReadFault => Some(Exit::ReadFault),
         Next::NoMemory => Some(Exit::NoMemory),
     }
@@ -116,7 +116,7 @@ fn run_line<K: Sink>(
     ensures raises { RanRaises result (K.faults sink.old) (K.faults sink.new) }
     ensures room { room.new.book.room ≡ room.old.book.room }
     ensures told { IsSome (K.held sink.old) → IsSome (K.held sink.new) }
-    ensures ran { IsSome (K.held sink.old) → (h : List (Entry (Asks Kind))) → StandsFor any_rules room.old.book h → room.old.book.room ≡ 0
+    ensures ran { IsSome (K.held sink.old) → (h : History) → StandsFor any_rules room.old.book h → room.old.book.room ≡ 0
         → RanLine h stage.old line.now room.new.book stage.new (told_bytes (K.held sink.old)) (K.held sink.new) result }
 {
     let Ok(read) = read_step(alloc, *stage, line) else {
@@ -126,10 +126,10 @@ fn run_line<K: Sink>(
         return Ran::BadLine;
     };
     let next = move_on(*stage, &step);
-    let Ok(text) = room.run(step) else {
+    let Ok(outcome) = room.run(step) else {
         return Ran::NoMemory;
     };
-    match print(sink, text.as_slice()) {
+    match print(sink, outcome.printing.bytes()) {
         Put::Done => {
             *stage = next;
             Ran::Done

@@ -60,9 +60,7 @@ pub const OPEN_TURNS_TRANSCRIPT: &[u8] = b"open 0-1
 ";
 
 // The third line of each is in no form.
-pub const BAD_LINES: [&[u8]; 5] = [
-    b"open countdown 2\ns0 {\"key\":\"00000000000000000000000000000000\",\"match\":\"0-1\",\"seat\":0,\"type\":\"sync\"}\ns0 {\"act\":{\"kind\":\"undo\"},\"key\":\"00000000000000000000000000000000\",\"match\":\"0-1\",\"number\":0,\"ticket\":1,\"type\":\"act\"}",
-    b"open countdown 2\ns0 {\"key\":\"00000000000000000000000000000000\",\"match\":\"0-1\",\"seat\":0,\"type\":\"sync\"}\ns0 {\"act\":{\"kind\":\"redo\"},\"key\":\"00000000000000000000000000000000\",\"match\":\"0-1\",\"number\":0,\"ticket\":1,\"type\":\"act\"}",
+pub const BAD_LINES: [&[u8]; 3] = [
     b"open countdown 2\ns0 {\"key\":\"00000000000000000000000000000000\",\"match\":\"0-1\",\"seat\":0,\"type\":\"sync\"}\ns0 {\"act\":{\"event\":\"pass\",\"kind\":\"event\",\"to\":null},\"key\":\"00000000000000000000000000000000\",\"match\":\"0-1\",\"number\":0,\"ticket\":1,\"type\":\"act\"}",
     b"open countdown 2\ns0 {\"key\":\"00000000000000000000000000000000\",\"match\":\"0-1\",\"seat\":0,\"type\":\"sync\"}\ns0 {\"act\":{\"event\":\"endTurn\",\"kind\":\"event\",\"to\":256},\"key\":\"00000000000000000000000000000000\",\"match\":\"0-1\",\"number\":0,\"ticket\":1,\"type\":\"act\"}",
     b"open countdown 2\ns0 {\"key\":\"00000000000000000000000000000000\",\"match\":\"0-1\",\"seat\":0,\"type\":\"sync\"}\ns0 {\"act\":{\"event\":\"setPhase\",\"kind\":\"event\",\"to\":null},\"key\":\"00000000000000000000000000000000\",\"match\":\"0-1\",\"number\":0,\"ticket\":1,\"type\":\"act\"}",
