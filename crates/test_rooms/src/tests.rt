@@ -1,5 +1,7 @@
 //! Matches of the games with secrets.
 
+ghost use Rattle.std.specs.Prelude.{◌<◌, ◌-◌, ◌^◌};
+
 use crate::table::{asks, attach, detach, plays, same_lines, seated, takes, times, watch};
 use card_games::{BlindBid, HighHand};
 use game_sheet::{Bytes, EventKind};
