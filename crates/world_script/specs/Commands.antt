@@ -1,7 +1,8 @@
 -- The commands that lines of a script are. Words are parted by exactly one blank, and numbers are decimal, without sign
 -- and without leading zeros. Empty lines and lines that begin with # are passed over.
-use Rattle.std.specs.Prelude.{ℕ, ◌+◌, ◌-◌, ◌*◌, ◌==◌, ◌&&◌, nat_le, List, [], ◌∷◌, take, drop, position, Option, Some, None, option_map, option_and_then, codes, if◌then◌else◌}
+use Rattle.std.specs.Prelude.{ℕ, ◌+◌, ◌-◌, ◌*◌, ◌==◌, ◌&&◌, nat_le, List, [], ◌∷◌, length, take, drop, position, Option, Some, None, option_map, option_and_then, codes, if◌then◌else◌}
 use Rattle.std.specs.Prelude.{bytes_eq, Result, Ok, Err}
+use Rattle.std.specs.Str.Lossy.{utf8_valid_len}
 use Rattle.hex.specs.Hex.{decode_sized, encode_lower}
 use Rattle.hex.specs.declared.FromHexError.{FromHexError}
 
@@ -45,9 +46,16 @@ seats_of word = option_and_then (at_most 255) (small_number word)
 abbrev pub parts : List ℕ → Option (List ℕ × List ℕ)
 parts line = option_map (λ i. (take i line, drop (i + 1) line)) (position (λ b. b == 32) line)
 
--- a game and a count of seats
+-- a word that is a text
+abbrev pub text_of : List ℕ → Option (List ℕ)
+text_of word = if utf8_valid_len word == length word then Some word else None
+
+-- a game's name, which is a text, and a count of seats
+abbrev pub opening_by : List ℕ × List ℕ → Option Said
+opening_by p = option_and_then (λ game. option_map (Open game) (seats_of p.1)) (text_of p.0)
+
 abbrev pub opening : List ℕ → Option Said
-opening rest = option_and_then (λ p. option_map (Open p.0) (seats_of p.1)) (parts rest)
+opening rest = option_and_then opening_by (parts rest)
 
 -- a line from a session
 abbrev pub saying : List ℕ → List ℕ → Option Said

@@ -1,10 +1,11 @@
 //! The commands that lines of a script are.
 
 ghost use Rattle.std.specs.Prelude.{◌≡◌, ◌≤◌, ◌<◌, ◌==◌, length, take, drop, position, option_map, IfSome, bytes_eq, codes, if◌then◌else◌, ◌+◌, ◌*◌};
-ghost use Rattle.world_script.specs.Commands.{digit, leading, after, small_number, session_of, seats_of, opening, saying, alone, seed_of, Seed, command};
+ghost use Rattle.world_script.specs.Commands.{digit, leading, after, small_number, session_of, seats_of, opening, saying, alone, seed_of, text_of, Seed, command};
 ghost use Rattle.world_script.specs.CommandIs.{said};
 
 use hex::FromHex;
+use std::str;
 
 /// What a line of a script asks for.
 #[derive(Clone, Copy, Debug)]
@@ -14,7 +15,7 @@ pub enum Command<'a> {
     /// A match of a game with all its seats taken.
     Open {
         /// The game's name, as it was written.
-        game: &'a [u8],
+        game: &'a str,
         /// How many seats, 0 to 255.
         seats: u8,
     },
@@ -89,11 +90,19 @@ fn opening(rest: &[u8]) -> Option<Command<'_>>
     ensures { option_map said result ≡ opening rest.now }
 {
     let at = blank(rest)?;
+    let game = text_of(&rest[..at])?;
     let seats = seats_of(&rest[at + 1..])?;
-    Some(Command::Open {
-        game: &rest[..at],
-        seats,
-    })
+    Some(Command::Open { game, seats })
+}
+
+/// A word that is a text.
+fn text_of(word: &[u8]) -> Option<&str>
+    ensures { option_map (λ text. text.now) result ≡ text_of word.now }
+{
+    match str::from_utf8(word) {
+        Ok(text) => Some(text),
+        Err(_) => None,
+    }
 }
 
 fn saying<'a>(word: &'a [u8], line: &'a [u8]) -> Option<Command<'a>>

@@ -14,7 +14,6 @@ use game_sheet::{Key, MatchName, NoMemory, Seat};
 use game_trait::Game;
 use match_master::Submission;
 use std::alloc::Global;
-use std::str;
 use wire_json::{ClientMsg, WireNo, read_client};
 
 /// What the lines so far have come to.
@@ -101,16 +100,13 @@ fn once_open(stage: Stage, step: Step) -> Option<Step>
     if stage.opened { Some(step) } else { None }
 }
 
-fn opens(alloc: Global, stage: Stage, name: &[u8], seats: u8) -> Result<Option<Step>, NoMemory>
+fn opens(alloc: Global, stage: Stage, name: &str, seats: u8) -> Result<Option<Step>, NoMemory>
     ensures form { IfOk result (λ step. step ≡ step_of_command true stage (Some (Open name.now seats))) }
     ensures read { IfOk result (λ step. may_be_read step ≡ true) }
 {
     if stage.opened {
         return Ok(None);
     }
-    let Ok(name) = str::from_utf8(name) else {
-        return Ok(None);
-    };
     let Some(game) = by_name(alloc, name)? else {
         return Ok(None);
     };
