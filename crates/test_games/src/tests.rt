@@ -9,6 +9,7 @@ mod orders;
 mod phases;
 mod rolls;
 mod stages;
+mod undo;
 
 use crate::{Cue, Moment, Toy};
 use game_sheet::{Event, GameRule, MoveId, Outcome, PhaseId, Seat, StageId};

@@ -23,6 +23,10 @@ pub(crate) enum Action {
     Told(u8, i32),
     /// An event.
     Event(Event),
+    /// The last done action is taken back.
+    Undo,
+    /// The first undone action is done again.
+    Redo,
 }
 
 /// Why a match doesn't begin or go on.
@@ -159,6 +163,8 @@ fn act_of(action: Action) -> Act {
         },
         Action::Told(place, argument) => told(place, argument),
         Action::Event(event) => Act::Event(event),
+        Action::Undo => Act::Undo,
+        Action::Redo => Act::Redo,
     }
 }
 
@@ -179,7 +185,7 @@ fn is_there(sheet: &Sheet, act: &Act) -> bool
     match act {
         Act::Move { id, .. } => (id.place() as usize) < sheet.moves.len(),
         Act::Event(event) => is_event_there(sheet, event),
-        _ => false,
+        Act::Undo | Act::Redo => true,
     }
 }
 
