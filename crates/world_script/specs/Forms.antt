@@ -31,9 +31,13 @@ step_of_line false session line = Some (Unread session)
 abbrev pub seed_for : Stage → List ℕ
 seed_for stage = unwrap_or stage.seed match_seed
 
+-- whether a game is for a number of seats
+unfoldable pub allows : GameKind → ℕ → Bool
+allows game seats = seats_fit (any_rules game).sheet seats
+
 -- a match of a game, for a number of seats that the game allows
 abbrev pub opening_of : ℕ → List ℕ → GameKind → Option Step
-opening_of seats seed game = if seats_fit (any_rules game).sheet seats then Some (Opens game seats seed) else None
+opening_of seats seed game = if allows game seats then Some (Opens game seats seed) else None
 
 abbrev pub step_of_command : Bool → Stage → Option Said → Option Step
 step_of_command was_read stage None = None

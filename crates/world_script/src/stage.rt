@@ -1,11 +1,9 @@
 //! Which lines of a script are in form, and what they ask for.
 
 ghost use Rattle.std.specs.Prelude.{◌≡◌, IfOk, true, Some, Ok, if◌then◌else◌, None, option_and_then};
-ghost use Rattle.any_game.specs.AnyRules.{any_rules};
-ghost use Rattle.match_master.specs.Calls.{seats_fit};
 ghost use Rattle.wire_json.specs.ClientReading.{client_read};
 ghost use Rattle.world_script.specs.Commands.{Open};
-ghost use Rattle.world_script.specs.Forms.{may_be_read, opening_of, seed_for, step_of_message, step_of_line, step_of_command, step_of, stage_after};
+ghost use Rattle.world_script.specs.Forms.{allows, may_be_read, opening_of, seed_for, step_of_message, step_of_line, step_of_command, step_of, stage_after};
 
 use crate::command::{Command, command_of};
 use crate::match_seed::match_seed;
@@ -125,8 +123,9 @@ fn opening(game: Option<AnyGame>, seats: u8, seed: [u8; 32]) -> Option<Step>
 }
 
 /// Whether a game is for this number of seats.
+#[tactic(auto, unfolding(crate::specs::Forms::allows))]
 fn allows(game: &AnyGame, seats: u8) -> bool
-    ensures { result ≡ seats_fit (any_rules game.now).sheet seats }
+    ensures { result ≡ allows game.now seats }
 {
     let sheet = game.sheet();
     sheet.min_seats <= seats && seats <= sheet.max_seats
