@@ -31,16 +31,20 @@ pub fn run_script<S: Source, K: Sink>(alloc: Global, source: &mut S, sink: &mut 
         → Ends (told_bytes (S.left source.old)) (told_bytes (S.left source.new)) (told_bytes (K.held sink.old)) (K.held sink.new) result }
 {
     match Room::new(alloc) {
-        Ok(room) => play(alloc, room, source, sink),
+        Ok(mut room) => {
+            let exit = play(alloc, &mut room, source, sink);
+            drop(room);
+            exit
+        }
         Err(_) => Exit::NoMemory,
     }
 }
 
 /// Runs the lines of a source in a room in which nothing has happened.
 #[tactic(none)]
-fn play<S: Source, K: Sink>(alloc: Global, mut room: Room, source: &mut S, sink: &mut K) -> Exit
-    requires room { room.book.room ≡ 0 }
-    requires stands { StandsFor any_rules room.book [] }
+fn play<S: Source, K: Sink>(alloc: Global, room: &mut Room, source: &mut S, sink: &mut K) -> Exit
+    requires room { room.old.book.room ≡ 0 }
+    requires stands { StandsFor any_rules room.old.book [] }
     ensures source_never_falls { S.faults source.old ≤ S.faults source.new }
     ensures sink_never_falls { K.faults sink.old ≤ K.faults sink.new }
     ensures raises { ExitRaises result (S.faults source.old) (S.faults source.new) (K.faults sink.old) (K.faults sink.new) }
@@ -57,7 +61,7 @@ fn play<S: Source, K: Sink>(alloc: Global, mut room: Room, source: &mut S, sink:
         if let Some(exit) = stop_at(next, lines.given()) {
             return exit;
         }
-        let ran = run_line(alloc, &mut room, &mut stage, lines.line(), sink);
+        let ran = run_line(alloc, room, &mut stage, lines.line(), sink);
         if let Some(exit) = end_at(ran, lines.given()) {
             return exit;
         }

@@ -11,7 +11,7 @@ lines-init g c = record {
   room = c.requires.room;
   source_tells = λ p. p;
   sink_tells = λ p. p;
-  underway = λ p k. begins_with (told_bytes (g.S.Source.left c.args.source.now)) c.args.room.book c.requires.stands (g.K.Sink.held c.args.sink.now) k
+  underway = λ p k. begins_with (told_bytes (g.S.Source.left c.args.source.now)) c.args.room.now.book c.requires.stands (g.K.Sink.held c.args.sink.now) k
       c.new-lines.result c.new-lines.ensures;
 }
 
