@@ -1,6 +1,5 @@
 //! Each function of the trait once at each game, through the trait's bound.
 
-use any_game::{AnyG, AnyGame};
 use card_games::{Bidding, Bids, BlindBid, CardTable, Cards, Deck, Hand, HighHand, Sealed};
 use dice_words::Tape;
 use game_sheet::{Args, Ctx, EventQueue, List, MoveId, NoMemory, Outcome, PhaseId};
@@ -406,16 +405,6 @@ fn the_end_of_the_match_shows_the_bids(rt: HostRuntime) -> Result<(), Fail> {
     let game = BlindBid::new(rt.alloc())?;
     let before = bids(rt.alloc(), None)?;
     let after = bids(rt.alloc(), Some(50))?;
-    let answers = calls_each(&game, rt.alloc(), None, &before, 0, Some(50), &after)?;
-    assert_eq!(rt; answers, OUTBID);
-    Ok(())
-}
-
-#[test]
-fn a_game_by_its_name_answers_as_the_game(rt: HostRuntime) -> Result<(), Fail> {
-    let game = AnyGame::blind_bid(rt.alloc())?;
-    let before = AnyG::BlindBid(bids(rt.alloc(), None)?);
-    let after = AnyG::BlindBid(bids(rt.alloc(), Some(50))?);
     let answers = calls_each(&game, rt.alloc(), None, &before, 0, Some(50), &after)?;
     assert_eq!(rt; answers, OUTBID);
     Ok(())
