@@ -347,11 +347,24 @@ fn a_hold_at_sixteen_and_a_pot_of_four_wins(rt: HostRuntime) -> Result<(), Fail>
     Ok(())
 }
 
+/// What High Hand answers where the first seat lays its last card.
+fn lays(game: &HighHand, alloc: Global) -> Result<Answers, Fail> {
+    let before = cards(alloc, Some(10), None)?;
+    let after = cards(alloc, None, Some(10))?;
+    calls_each(
+        game,
+        alloc,
+        Some(PhaseId::at(1)),
+        &before,
+        1,
+        Some(0),
+        &after,
+    )
+}
+
 #[test]
 fn the_end_of_a_turn_clears_a_full_table(rt: HostRuntime) -> Result<(), Fail> {
     let game = HighHand::new(rt.alloc())?;
-    let before = cards(rt.alloc(), Some(10), None)?;
-    let after = cards(rt.alloc(), None, Some(10))?;
     let wanted = Answers {
         moves: 2,
         dealt: Some(51),
@@ -372,40 +385,40 @@ fn the_end_of_a_turn_clears_a_full_table(rt: HostRuntime) -> Result<(), Fail> {
         is_open: false,
         is_kept: true,
     };
-    let phase = Some(PhaseId::at(1));
-    let answers = calls_each(&game, rt.alloc(), phase, &before, 1, Some(0), &after)?;
-    assert_eq!(rt; answers, wanted);
+    assert_eq!(rt; lays(&game, rt.alloc())?, wanted);
     Ok(())
 }
 
 /// What Blind Bid answers where the first seat outbids the second.
-const OUTBID: Answers = Answers {
-    moves: 2,
-    dealt: Some(0),
-    offers: 20,
-    undoes: false,
-    played: Played {
-        is_wanted: true,
-        words: 0,
-        events: 0,
-    },
-    hooks: Hooks {
-        game_end: true,
-        ..IDLE
-    },
-    end: Some(Outcome::Winner(0)),
-    ends: false,
-    order: 0,
-    is_open: false,
-    is_kept: true,
-};
+fn outbids(game: &BlindBid, alloc: Global) -> Result<Answers, Fail> {
+    let before = bids(alloc, None)?;
+    let after = bids(alloc, Some(50))?;
+    calls_each(game, alloc, None, &before, 0, Some(50), &after)
+}
 
 #[test]
 fn the_end_of_the_match_shows_the_bids(rt: HostRuntime) -> Result<(), Fail> {
     let game = BlindBid::new(rt.alloc())?;
-    let before = bids(rt.alloc(), None)?;
-    let after = bids(rt.alloc(), Some(50))?;
-    let answers = calls_each(&game, rt.alloc(), None, &before, 0, Some(50), &after)?;
-    assert_eq!(rt; answers, OUTBID);
+    let wanted = Answers {
+        moves: 2,
+        dealt: Some(0),
+        offers: 20,
+        undoes: false,
+        played: Played {
+            is_wanted: true,
+            words: 0,
+            events: 0,
+        },
+        hooks: Hooks {
+            game_end: true,
+            ..IDLE
+        },
+        end: Some(Outcome::Winner(0)),
+        ends: false,
+        order: 0,
+        is_open: false,
+        is_kept: true,
+    };
+    assert_eq!(rt; outbids(&game, rt.alloc())?, wanted);
     Ok(())
 }
