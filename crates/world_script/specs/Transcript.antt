@@ -93,21 +93,17 @@ abbrev pub told : ℕ → Option Answer → List ℕ
 told session None = []
 told session (Some answer) = answer_line session answer
 
--- what a request prints that was served
-abbrev pub served_text : History → ℕ → Result (RoomCall GameKind) Answer → List ℕ
-served_text h session (Err answer) = answer_line session answer
-served_text h session (Ok call) = told session (answer_of (reply any_rules 0 h (calls false session call)))
-
--- what a request prints, with the ticket of an act
-abbrev pub request_text : Mark → History → ℕ → Option ℕ → Result (RoomCall GameKind) Answer → List ℕ
-request_text Served h session ticket call = served_text h session call
-request_text WasUnread h session ticket call = answer_line session (Again ticket)
-request_text Starved h session ticket call = answer_line session (Again ticket)
-
 abbrev pub has_starved : Mark → Bool
 has_starved Served = false
 has_starved WasUnread = false
 has_starved Starved = true
+
+-- what a request prints, with the ticket of an act: it is told the answer that needs no call, and that it may be made again only where
+-- its call starved
+abbrev pub request_text : Mark → History → ℕ → Option ℕ → Result (RoomCall GameKind) Answer → List ℕ
+request_text mark h session ticket (Err answer) = answer_line session answer
+request_text mark h session ticket (Ok call) =
+    if has_starved mark then answer_line session (Again ticket) else told session (answer_of (reply any_rules 0 h (calls false session call)))
 
 -- a request makes the entry of its call, if it makes one
 abbrev pub history_asked : Mark → ℕ → Result (RoomCall GameKind) Answer → History → History
