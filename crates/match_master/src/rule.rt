@@ -7,11 +7,9 @@ ghost use Rattle.wire_json.specs.Resolve.{act_of};
 ghost use Rattle.match_master.specs.Rule.{public, first_broken, seat_rules, is_undo_or_redo, is_alone, is_kind, is_allowed, has_act, ignores_number};
 
 use game_sheet::{Act, Ctx, EventKind, MoveId, Number, Seat, Sheet};
+use reducer::MOST_ACTIONS;
 use stage_map::{is_active, moves_of};
 use wire_json::{Asked, Reason, resolve};
-
-/// How many actions a match accepts at most.
-pub const MOST_ACTIONS: Number = 4096;
 
 /// The first public rule that an action breaks, if it breaks one. It takes no memory.
 ///

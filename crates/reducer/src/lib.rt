@@ -9,4 +9,5 @@ mod steps;
 mod waypoint;
 
 pub use fold::{StartNo, start, step};
+pub use machine::MOST_ACTIONS;
 pub use state::State;

@@ -14,8 +14,8 @@ use phase_flow::{Table, bounds_grow};
 use std::alloc::Global;
 use undo_redo::Machine;
 
-/// How many actions a match accepts.
-const MOST: u32 = 4096;
+/// How many actions a match accepts at most.
+pub const MOST_ACTIONS: u32 = 4096;
 
 /// The machine of a game: an action of a seat leads from one waypoint of a match to the next.
 ///
@@ -77,7 +77,7 @@ fn walk<X: Game>(
     ensures value { IfOk result (λ next. next ≡ walked (X.rules game.now) from.now deed.now) }
     ensures fits { IfOk result (λ next. IfSome next (Fits (X.rules game.now))) }
 {
-    if from.count >= MOST || deed.seat >= from.table.ctx.seats {
+    if from.count >= MOST_ACTIONS || deed.seat >= from.table.ctx.seats {
         return Ok(None);
     }
     match perform(alloc, game, from, deed.seat, &deed.act) {
