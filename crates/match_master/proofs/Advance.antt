@@ -1,5 +1,5 @@
 -- What each call does to what a Book holds is what the call makes of the count, the match, the attachments and their lines.
-use Rattle.std.proofs.Common.{◌≡◌, ◌==◌, ℕ, ◌+◌, List, [], ◌∷◌, ◌++◌, Bool, true, false, if◌then◌else◌, nat_eq, MatchBool, Option, Some, None, option_map, Result, Ok, Err, refl, sym, ap, ◌∙◌, subst, arith, append_assoc}
+use Rattle.std.proofs.Common.{◌≡◌, ◌==◌, ℕ, ◌+◌, List, [], ◌∷◌, ◌++◌, length, Bool, true, false, if◌then◌else◌, nat_eq, MatchBool, Option, Some, None, option_map, Result, Ok, Err, refl, sym, ap, ◌∙◌, subst, arith, append_assoc}
 use Rattle.std.specs.Map.{lookup}
 use Rattle.std.proofs.lemmas.Bool.Decides.{nat_tests}
 use Rattle.game_trait.specs.Rules.{Rules}
@@ -14,9 +14,9 @@ use Rattle.match_master.specs.Does.{Does, Detaches, SubmitDoes, attached_in, vie
 use Rattle.match_master.specs.Held.{Held, Holds, Advances, stored, is_starved, answer_to}
 use Rattle.match_master.specs.Lines.{ok_line, no_line}
 use Rattle.match_master.specs.Match.{Match, number_of}
-use Rattle.match_master.specs.Shown.{Shown, gained, with_gained, tell_all, say, say_at}
+use Rattle.match_master.specs.Shown.{Shown, begun, gained, with_gained, tell_all, say, say_at}
 use Rattle.match_master.specs.Steps.{and_own, told, told_where, begun_where, marked, sync_of, update_of}
-use Rattle.match_master.specs.Stream.{Piece, Line, waiting}
+use Rattle.match_master.specs.Stream.{Piece, Sync, Line, waiting, of_sync}
 use Rattle.match_master.specs.Verdict.{broken, accept}
 use Rattle.match_master.proofs.SessionLaws.{lookup-put, lookup-tell_all}
 
@@ -34,21 +34,28 @@ pass_is p q h = grind (arith, nat_tests)
 turned : (p q : ℕ) → (q == p) ≡ (p == q)
 turned p q = grind (arith, nat_tests)
 
-attachment_stored : (a : Option Attachment) (bytes : List ℕ) → option_map (λ (s : Shown). s.attachment) (stored a bytes) ≡ a
-attachment_stored None bytes = refl
-attachment_stored (Some a) bytes = refl
+attachment_stored : (a : Option Attachment) (ps : List Piece) → option_map (λ (s : Shown). s.attachment) (stored a ps) ≡ a
+attachment_stored None ps = refl
+attachment_stored (Some a) ps = refl
 
-viewer_stored : (a : Option Attachment) (bytes : List ℕ) → option_map (λ (s : Shown). s.attachment.viewer) (stored a bytes) ≡ option_map (λ (b : Attachment). b.viewer) a
-viewer_stored None bytes = refl
-viewer_stored (Some a) bytes = refl
+viewer_stored : (a : Option Attachment) (ps : List Piece) → option_map (λ (s : Shown). s.attachment.viewer) (stored a ps) ≡ option_map (λ (b : Attachment). b.viewer) a
+viewer_stored None ps = refl
+viewer_stored (Some a) ps = refl
+
+-- an attachment for which nothing waits
+abbrev handed_out : Attachment → Shown
+handed_out a = record { attachment = a; bytes = []; of_sync = 0 }
+
+sync_alone : (line : List ℕ) → length line ≡ of_sync (Sync line ∷ [])
+sync_alone line = omega arith
 
 module _ {X G : Type 0} (rules : X → Rules G) where
   looks_at : (old : Held X G) (serials : ℕ) (standing : Option (Match X G)) (attached : ℕ → Option Attachment) (pieces : ℕ → List Piece) → Holds rules old serials standing attached pieces → (pass : ℕ)
       → viewer_in old pass ≡ option_map (λ (a : Attachment). a.viewer) (attached pass)
-  looks_at old serials standing attached pieces h pass = ap (option_map (λ (s : Shown). s.attachment.viewer)) (h.sessions_held pass) ∙ viewer_stored (attached pass) (waiting (pieces pass))
+  looks_at old serials standing attached pieces h pass = ap (option_map (λ (s : Shown). s.attachment.viewer)) (h.sessions_held pass) ∙ viewer_stored (attached pass) (pieces pass)
 
   is_attached : (old : Held X G) (serials : ℕ) (standing : Option (Match X G)) (attached : ℕ → Option Attachment) (pieces : ℕ → List Piece) → Holds rules old serials standing attached pieces → (pass : ℕ) → attached_in old pass ≡ attached pass
-  is_attached old serials standing attached pieces h pass = ap (option_map (λ (s : Shown). s.attachment)) (h.sessions_held pass) ∙ attachment_stored (attached pass) (waiting (pieces pass))
+  is_attached old serials standing attached pieces h pass = ap (option_map (λ (s : Shown). s.attachment)) (h.sessions_held pass) ∙ attachment_stored (attached pass) (pieces pass)
 
   holds_same : (old : Held X G) (serials : ℕ) (standing : Option (Match X G)) (attached : ℕ → Option Attachment) (pieces : ℕ → List Piece) → Holds rules old serials standing attached pieces
       → (new : Held X G) → new ≡ old → Holds rules new serials standing attached pieces
@@ -60,7 +67,7 @@ module _ {X G : Type 0} (rules : X → Rules G) where
   holds_by held serials standing attached pieces pass h = record {
     serials_held = h.serials_held;
     match_held = h.match_held;
-    sessions_held = λ q. h.sessions_held q ∙ ap (λ a. stored a (waiting (pieces q))) (sym (same_if (pass == q) (attached q)));
+    sessions_held = λ q. h.sessions_held q ∙ ap (λ a. stored a (pieces q)) (sym (same_if (pass == q) (attached q)));
   }
 
   holds_created : (old : Held X G) (serials : ℕ) (standing : Option (Match X G)) (attached : ℕ → Option Attachment) (pieces : ℕ → List Piece) → Holds rules old serials standing attached pieces
@@ -112,7 +119,7 @@ module _ {X G : Type 0} (rules : X → Rules G) where
     sessions_held = λ q. d.gone q ∙ kept (pass == q) q;
   }
     where
-      kept : (b : Bool) (q : ℕ) → (if b then None else lookup (nat_eq q) old.sessions) ≡ stored (if b then None else attached q) (waiting (pieces q))
+      kept : (b : Bool) (q : ℕ) → (if b then None else lookup (nat_eq q) old.sessions) ≡ stored (if b then None else attached q) (pieces q)
       kept true q = refl
       kept false q = h.sessions_held q
 
@@ -129,20 +136,20 @@ module _ {X G : Type 0} (rules : X → Rules G) where
 
   taken_advances : (old : Held X G) (serials : ℕ) (standing : Option (Match X G)) (attached : ℕ → Option Attachment) (pieces : ℕ → List Piece) → Holds rules old serials standing attached pieces
       → (pass : ℕ) (a : Option Attachment) → attached pass ≡ a
-      → (taken_of (stored a (waiting (pieces pass))) ≡ answer_to rules old.room serials standing a (pieces pass) Take)
-      × Holds rules (after_take old pass (stored a (waiting (pieces pass)))) serials standing (λ q. if pass == q then attached q else attached q) (λ q. marked rules old.room (pass == q) (attached q) (pieces q))
+      → (taken_of (stored a (pieces pass)) ≡ answer_to rules old.room serials standing a (pieces pass) Take)
+      × Holds rules (after_take old pass (stored a (pieces pass))) serials standing (λ q. if pass == q then attached q else attached q) (λ q. marked rules old.room (pass == q) (attached q) (pieces q))
   taken_advances old serials standing attached pieces h pass None e =
       (refl, record { serials_held = h.serials_held; match_held = h.match_held; sessions_held = λ q. kept (pass == q) q refl })
     where
-      kept : (b : Bool) (q : ℕ) → (pass == q) ≡ b → lookup (nat_eq q) old.sessions ≡ stored (if b then attached q else attached q) (waiting (marked rules old.room b (attached q) (pieces q)))
+      kept : (b : Bool) (q : ℕ) → (pass == q) ≡ b → lookup (nat_eq q) old.sessions ≡ stored (if b then attached q else attached q) (marked rules old.room b (attached q) (pieces q))
       kept false q f = h.sessions_held q
       kept true q f =
           let none : attached q ≡ None = sym (ap attached (pass_is pass q f)) ∙ e in
           h.sessions_held q ∙ rw none refl
   taken_advances old serials standing attached pieces h pass (Some a) e =
-      (refl, record { serials_held = h.serials_held; match_held = h.match_held; sessions_held = λ q. lookup-put old.sessions pass q (record { attachment = a; bytes = [] }) ∙ kept (pass == q) q refl })
+      (refl, record { serials_held = h.serials_held; match_held = h.match_held; sessions_held = λ q. lookup-put old.sessions pass q (handed_out a) ∙ kept (pass == q) q refl })
     where
-      kept : (b : Bool) (q : ℕ) → (pass == q) ≡ b → (if b then Some (record { attachment = a; bytes = [] }) else lookup (nat_eq q) old.sessions) ≡ stored (if b then attached q else attached q) (waiting (marked rules old.room b (attached q) (pieces q)))
+      kept : (b : Bool) (q : ℕ) → (pass == q) ≡ b → (if b then Some (handed_out a) else lookup (nat_eq q) old.sessions) ≡ stored (if b then attached q else attached q) (marked rules old.room b (attached q) (pieces q))
       kept false q f = h.sessions_held q
       kept true q f =
           let some : attached q ≡ Some a = sym (ap attached (pass_is pass q f)) ∙ e in
@@ -165,12 +172,12 @@ module _ {X G : Type 0} (rules : X → Rules G) where
       → Holds rules old serials standing (λ q. if pass == q then attached_by (attached q) serial (attach standing (attached q) serial claim) else attached q) (λ q. begun_where rules old.room (pass == q) standing (attached q) serial claim (pieces q))
   not_begun old serials None attached pieces h pass serial claim why e = record { serials_held = h.serials_held; match_held = h.match_held; sessions_held = λ q. h.sessions_held q ∙ kept (pass == q) q refl }
     where
-      kept : (b : Bool) (q : ℕ) → (pass == q) ≡ b → stored (attached q) (waiting (pieces q)) ≡ stored (if b then attached_by (attached q) serial (attach {X = X} {G = G} None (attached q) serial claim) else attached q) (waiting (begun_where rules old.room b None (attached q) serial claim (pieces q)))
+      kept : (b : Bool) (q : ℕ) → (pass == q) ≡ b → stored (attached q) (pieces q) ≡ stored (if b then attached_by (attached q) serial (attach {X = X} {G = G} None (attached q) serial claim) else attached q) (begun_where rules old.room b None (attached q) serial claim (pieces q))
       kept false q f = refl
       kept true q f = let same : attach {X = X} {G = G} None (attached q) serial claim ≡ Err why = ap (λ p. attach {X = X} {G = G} None (attached p) serial claim) (sym (pass_is pass q f)) ∙ e in rw same refl
   not_begun old serials (Some m) attached pieces h pass serial claim why e = record { serials_held = h.serials_held; match_held = h.match_held; sessions_held = λ q. h.sessions_held q ∙ kept (pass == q) q refl }
     where
-      kept : (b : Bool) (q : ℕ) → (pass == q) ≡ b → stored (attached q) (waiting (pieces q)) ≡ stored (if b then attached_by (attached q) serial (attach (Some m) (attached q) serial claim) else attached q) (waiting (begun_where rules old.room b (Some m) (attached q) serial claim (pieces q)))
+      kept : (b : Bool) (q : ℕ) → (pass == q) ≡ b → stored (attached q) (pieces q) ≡ stored (if b then attached_by (attached q) serial (attach (Some m) (attached q) serial claim) else attached q) (begun_where rules old.room b (Some m) (attached q) serial claim (pieces q))
       kept false q f = refl
       kept true q f = let same : attach (Some m) (attached q) serial claim ≡ Err why = ap (λ p. attach (Some m) (attached p) serial claim) (sym (pass_is pass q f)) ∙ e in rw same refl
 
@@ -181,13 +188,14 @@ module _ {X G : Type 0} (rules : X → Rules G) where
   is_begun old serials m attached pieces h pass serial claim viewer e = record {
     serials_held = h.serials_held;
     match_held = h.match_held;
-    sessions_held = λ q. lookup-put old.sessions pass q (record { attachment = begun_by viewer serial; bytes = sync_of rules old.room m (seat_of viewer) }) ∙ kept (pass == q) q refl;
+    sessions_held = λ q. lookup-put old.sessions pass q (begun (begun_by viewer serial) (sync_of rules old.room m (seat_of viewer))) ∙ kept (pass == q) q refl;
   }
     where
-      kept : (b : Bool) (q : ℕ) → (pass == q) ≡ b → (if b then Some (record { attachment = begun_by viewer serial; bytes = sync_of rules old.room m (seat_of viewer) }) else lookup (nat_eq q) old.sessions)
-          ≡ stored (if b then attached_by (attached q) serial (attach (Some m) (attached q) serial claim) else attached q) (waiting (begun_where rules old.room b (Some m) (attached q) serial claim (pieces q)))
+      kept : (b : Bool) (q : ℕ) → (pass == q) ≡ b → (if b then Some (begun (begun_by viewer serial) (sync_of rules old.room m (seat_of viewer))) else lookup (nat_eq q) old.sessions)
+          ≡ stored (if b then attached_by (attached q) serial (attach (Some m) (attached q) serial claim) else attached q) (begun_where rules old.room b (Some m) (attached q) serial claim (pieces q))
       kept false q f = h.sessions_held q
-      kept true q f = let same : attach (Some m) (attached q) serial claim ≡ Ok viewer = ap (λ p. attach (Some m) (attached p) serial claim) (sym (pass_is pass q f)) ∙ e in rw same refl
+      kept true q f = let same : attach (Some m) (attached q) serial claim ≡ Ok viewer = ap (λ p. attach (Some m) (attached p) serial claim) (sym (pass_is pass q f)) ∙ e in
+          rw same (ap (λ n. let t : Shown = record { attachment = begun_by viewer serial; bytes = sync_of rules old.room m (seat_of viewer); of_sync = n } in Some t) (sync_alone (sync_of rules old.room m (seat_of viewer))))
 
   attach_holds : (old : Held X G) (serials : ℕ) (standing : Option (Match X G)) (attached : ℕ → Option Attachment) (pieces : ℕ → List Piece) → Holds rules old serials standing attached pieces
       → (pass serial : ℕ) (claim : Viewer) (r : Result Viewer RoomReply) → attach standing (attached pass) serial claim ≡ r
@@ -226,19 +234,25 @@ module _ {X G : Type 0} (rules : X → Rules G) where
   told_is room m c s b (Some a) ps = refl
 
   -- a refusal says nothing to another
-  unsaid : (room : ℕ) (m : Match X G) (viewer : Viewer) (s : Submission) (reason : Reason) (a : Option Attachment) (ps : List Piece) → stored a (waiting ps) ≡ stored a (waiting (told_as room m viewer s (Some reason) false a ps))
+  unsaid : (room : ℕ) (m : Match X G) (viewer : Viewer) (s : Submission) (reason : Reason) (a : Option Attachment) (ps : List Piece) → stored a ps ≡ stored a (told_as room m viewer s (Some reason) false a ps)
   unsaid room m viewer s reason None ps = refl
   unsaid room m viewer s reason (Some a) ps = refl
+
+  sync_told : (b : Bool) (said line : List ℕ) (ps : List Piece) → of_sync ps ≡ of_sync (and_own b said (Line line ∷ ps))
+  sync_told true said line ps = refl
+  sync_told false said line ps = refl
 
   ok_told : (b : Bool) (said line : List ℕ) (ps : List Piece) → waiting ps ++ gained b said line ≡ waiting (and_own b said (Line line ∷ ps))
   ok_told true said line ps = sym (append_assoc (waiting ps) line said)
   ok_told false said line ps = refl
 
   all_told : (room : ℕ) (m : Match X G) (viewer : Viewer) (s : Submission) (b : Bool) (a : Option Attachment) (ps : List Piece)
-      → option_map (with_gained b (ok_line (number_of m + 1) s.ticket) (update_of rules room (accept rules m viewer s))) (stored a (waiting ps)) ≡ stored a (waiting (told_as room m viewer s None b a ps))
+      → option_map (with_gained b (ok_line (number_of m + 1) s.ticket) (update_of rules room (accept rules m viewer s))) (stored a ps) ≡ stored a (told_as room m viewer s None b a ps)
   all_told room m viewer s b None ps = refl
   all_told room m viewer s b (Some a) ps =
-      ap (λ bytes. let t : Shown = record { attachment = a; bytes = bytes } in Some t) (ok_told b (ok_line (number_of m + 1) s.ticket) (update_of rules room (accept rules m viewer s) (seat_of a.viewer)) ps)
+      ap (λ bytes. let t : Shown = record { attachment = a; bytes = bytes; of_sync = of_sync ps } in Some t) (ok_told b (ok_line (number_of m + 1) s.ticket) (update_of rules room (accept rules m viewer s) (seat_of a.viewer)) ps)
+      ∙ ap (λ n. let t : Shown = record { attachment = a; bytes = waiting (and_own b (ok_line (number_of m + 1) s.ticket) (Line (update_of rules room (accept rules m viewer s) (seat_of a.viewer)) ∷ ps)); of_sync = n } in Some t)
+      (sync_told b (ok_line (number_of m + 1) s.ticket) (update_of rules room (accept rules m viewer s) (seat_of a.viewer)) ps)
 
   submit_holds : (old : Held X G) (serials : ℕ) (m : Match X G) (attached : ℕ → Option Attachment) (pieces : ℕ → List Piece) → Holds rules old serials (Some m) attached pieces
       → (pass : ℕ) (c : Attachment) → attached pass ≡ Some c → (s : Submission) (o : Option Reason)
@@ -254,19 +268,19 @@ module _ {X G : Type 0} (rules : X → Rules G) where
       line = no_line (number_of m) reason s.ticket
 
       own : Shown
-      own = record { attachment = c; bytes = waiting (pieces pass) ++ line }
+      own = record { attachment = c; bytes = waiting (pieces pass) ++ line; of_sync = of_sync (pieces pass) }
 
-      own_is : Some own ≡ stored (attached pass) (waiting (told_as old.room m c.viewer s (Some reason) true (attached pass) (pieces pass)))
-      own_is = sym (ap (λ a. stored a (waiting (told_as old.room m c.viewer s (Some reason) true a (pieces pass)))) e)
+      own_is : Some own ≡ stored (attached pass) (told_as old.room m c.viewer s (Some reason) true (attached pass) (pieces pass))
+      own_is = sym (ap (λ a. stored a (told_as old.room m c.viewer s (Some reason) true a (pieces pass))) e)
 
       kept : (b : Bool) (q : ℕ) → (pass == q) ≡ b → (if b then Some own else lookup (nat_eq q) old.sessions)
-          ≡ stored (if b then attached q else attached q) (waiting (told_as old.room m c.viewer s (Some reason) b (attached q) (pieces q)))
+          ≡ stored (if b then attached q else attached q) (told_as old.room m c.viewer s (Some reason) b (attached q) (pieces q))
       kept false q f = h.sessions_held q ∙ unsaid old.room m c.viewer s reason (attached q) (pieces q)
-      kept true q f = subst (λ p. Some own ≡ stored (attached p) (waiting (told_as old.room m c.viewer s (Some reason) true (attached p) (pieces p)))) (pass_is pass q f) own_is
+      kept true q f = subst (λ p. Some own ≡ stored (attached p) (told_as old.room m c.viewer s (Some reason) true (attached p) (pieces p))) (pass_is pass q f) own_is
 
       told_at : (q : ℕ) → lookup (nat_eq q) (say pass line old.sessions)
-          ≡ stored (if pass == q then attached q else attached q) (waiting (told_as old.room m c.viewer s (Some reason) (pass == q) (attached q) (pieces q)))
-      told_at q = ap (λ o. lookup (nat_eq q) (say_at pass line o old.sessions)) (h.sessions_held pass ∙ ap (λ a. stored a (waiting (pieces pass))) e)
+          ≡ stored (if pass == q then attached q else attached q) (told_as old.room m c.viewer s (Some reason) (pass == q) (attached q) (pieces q))
+      told_at q = ap (λ o. lookup (nat_eq q) (say_at pass line o old.sessions)) (h.sessions_held pass ∙ ap (λ a. stored a (pieces pass)) e)
           ∙ lookup-put old.sessions pass q own ∙ kept (pass == q) q refl
   submit_holds old serials m attached pieces h pass c e s None = record {
     serials_held = h.serials_held;
@@ -275,12 +289,12 @@ module _ {X G : Type 0} (rules : X → Rules G) where
   }
     where
       told_at : (q : ℕ) → lookup (nat_eq q) (tell_all pass (ok_line (number_of m + 1) s.ticket) (update_of rules old.room (accept rules m c.viewer s)) old.sessions)
-          ≡ stored (if pass == q then attached q else attached q) (waiting (told_as old.room m c.viewer s None (pass == q) (attached q) (pieces q)))
+          ≡ stored (if pass == q then attached q else attached q) (told_as old.room m c.viewer s None (pass == q) (attached q) (pieces q))
       told_at q = lookup-tell_all old.sessions pass q (ok_line (number_of m + 1) s.ticket) (update_of rules old.room (accept rules m c.viewer s))
           ∙ ap (option_map (with_gained (q == pass) (ok_line (number_of m + 1) s.ticket) (update_of rules old.room (accept rules m c.viewer s)))) (h.sessions_held q)
           ∙ all_told old.room m c.viewer s (q == pass) (attached q) (pieces q)
-          ∙ ap (λ b. stored (attached q) (waiting (told_as old.room m c.viewer s None b (attached q) (pieces q)))) (turned pass q)
-          ∙ ap (λ a. stored a (waiting (told_as old.room m c.viewer s None (pass == q) (attached q) (pieces q)))) (sym (same_if (pass == q) (attached q)))
+          ∙ ap (λ b. stored (attached q) (told_as old.room m c.viewer s None b (attached q) (pieces q))) (turned pass q)
+          ∙ ap (λ a. stored a (told_as old.room m c.viewer s None (pass == q) (attached q) (pieces q))) (sym (same_if (pass == q) (attached q)))
 
   submit_by : (old : Held X G) (serials : ℕ) (standing : Option (Match X G)) (attached : ℕ → Option Attachment) (pieces : ℕ → List Piece) → Holds rules old serials standing attached pieces
       → (pass : ℕ) (s : Submission) (reply : RoomReply) (new : Held X G) (a : Option Attachment) → attached pass ≡ a → SubmitDoes rules old pass s reply new (option_map (λ (b : Attachment). b.viewer) a) standing
@@ -312,7 +326,7 @@ module _ {X G : Type 0} (rules : X → Rules G) where
       by_telling k = record {
         serials_held = k.serials_held;
         match_held = k.match_held;
-        sessions_held = λ q. k.sessions_held q ∙ ap (λ ps. stored (if pass == q then attached q else attached q) (waiting ps)) (told_is old.room m c s (pass == q) (attached q) (pieces q));
+        sessions_held = λ q. k.sessions_held q ∙ ap (stored (if pass == q then attached q else attached q)) (told_is old.room m c s (pass == q) (attached q) (pieces q));
       }
 
   pub submit_advances : (old : Held X G) (serials : ℕ) (standing : Option (Match X G)) (attached : ℕ → Option Attachment) (pieces : ℕ → List Piece) → Holds rules old serials standing attached pieces

@@ -26,7 +26,7 @@ use Rattle.match_master.specs.Held.{Held, kept_of, is_starved}
 use Rattle.match_master.specs.Judged.{IsAccepted}
 use Rattle.match_master.specs.Lines.{newest, ok_line}
 use Rattle.match_master.specs.Match.{Match, number_of, table_of, entry_on, log_of}
-use Rattle.match_master.specs.Shown.{Shown, tell_all}
+use Rattle.match_master.specs.Shown.{Shown, begun, tell_all}
 use Rattle.match_master.specs.Viewer.{Viewer, seat_of}
 use Rattle.match_master.specs.Steps.{sync_of, update_of}
 use Rattle.match_master.specs.Verdict.{broken}
@@ -133,15 +133,15 @@ module _ {X G : Type 0} (rules : X → Rules G) where
 
   pub let_in : (old : Held X G) (pass serial : ℕ) (viewer : Viewer) (reply : RoomReply) (new : Held X G) (at : Option Attachment) (st : Option (Match X G)) → old.kept ≡ option_map (kept_of rules) st
       → attach_at (place_in old.kept) at serial viewer ≡ Ok viewer
-      → IfSome old.kept (λ k. Does old reply new answer.Attached (record old { sessions = insert_entry nat_eq old.sessions pass (record { attachment = begun_by viewer k.serial; bytes = sync_text rules old.room k (seat_of viewer) }) }))
+      → IfSome old.kept (λ k. Does old reply new answer.Attached (record old { sessions = insert_entry nat_eq old.sessions pass (begun (begun_by viewer k.serial) (sync_text rules old.room k (seat_of viewer))) }))
       → Does old reply new (attach_reply (attach st at serial viewer)) (after_attach rules old pass serial st (attach st at serial viewer))
   let_in old pass serial viewer reply new at None h e d = absurd (nobody at serial viewer viewer (sym (attach_as old at serial viewer None h) ∙ e))
   let_in old pass serial viewer reply new at (Some m) h e d =
       let admitted : attach (Some m) at serial viewer ≡ Ok viewer = sym (attach_as old at serial viewer (Some m) h) ∙ e in
       subst (λ r. Does old reply new (attach_reply r) (after_attach rules old pass serial (Some m) r)) (sym admitted)
-      (subst (λ n. Does old reply new answer.Attached (record old { sessions = insert_entry nat_eq old.sessions pass (record { attachment = begun_by viewer n; bytes = sync_of rules old.room m (seat_of viewer) }) }))
+      (subst (λ n. Does old reply new answer.Attached (record old { sessions = insert_entry nat_eq old.sessions pass (begun (begun_by viewer n) (sync_of rules old.room m (seat_of viewer))) }))
       (serial_is m at serial viewer viewer admitted)
-      (subst (λ o. IfSome o (λ k. Does old reply new answer.Attached (record old { sessions = insert_entry nat_eq old.sessions pass (record { attachment = begun_by viewer k.serial; bytes = sync_text rules old.room k (seat_of viewer) }) }))) h d))
+      (subst (λ o. IfSome o (λ k. Does old reply new answer.Attached (record old { sessions = insert_entry nat_eq old.sessions pass (begun (begun_by viewer k.serial) (sync_text rules old.room k (seat_of viewer))) }))) h d))
 
   nothing_done : (b : Bool) (old : Held X G) (why : RoomReply) → MatchBool b (old ≡ old) ((why ≡ why) × (old ≡ old))
   nothing_done true old why = refl

@@ -7,7 +7,7 @@ use Rattle.reducer.specs.Accepted.{Accepted as Deed}
 use Rattle.match_master.specs.Match.{Match, number_of}
 use Rattle.match_master.specs.Lines.{snap, ok_line}
 use Rattle.match_master.specs.declared.submission.Submission.{Submission}
-use Rattle.match_master.specs.Stream.{Accepted, Item, Submitted, Piece, Line, number_at, number_after, oldest, at_number, updates, later_updates, up_to_items, says, broken_on, reached, start_of, stream}
+use Rattle.match_master.specs.Stream.{Accepted, Item, Submitted, Piece, Sync, Line, number_at, number_after, oldest, at_number, updates, later_updates, up_to_items, says, broken_on, reached, start_of, stream}
 use Rattle.match_master.specs.Reply.{name_of}
 use Rattle.match_master.specs.Sight.{shown_too}
 use Rattle.match_master.specs.Steps.{update_of, sync_of}
@@ -62,7 +62,7 @@ module _ {X G : Type 0} (rules : X → Rules G) (room : ℕ) where
   reached_by n start [] m viewer a h = h
   reached_by n start (item ∷ own) m viewer a h = a.1
 
-  pub follows_begun : (m : Match X G) (viewer : Viewer) → Follows m viewer (Line (sync_of rules room m (seat_of viewer)) ∷ []) (snap rules m (seat_of viewer) ∷ []) []
+  pub follows_begun : (m : Match X G) (viewer : Viewer) → Follows m viewer (Sync (sync_of rules room m (seat_of viewer)) ∷ []) (snap rules m (seat_of viewer) ∷ []) []
   unfolding stream
   follows_begun m viewer = record {
     rest = [];

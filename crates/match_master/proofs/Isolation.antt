@@ -17,7 +17,7 @@ use Rattle.match_master.specs.Reply.{name_of, waits, lines_waiting}
 use Rattle.match_master.specs.Sent.{lines, handed_out, sent, stream_at, stream_of}
 use Rattle.match_master.specs.Sight.{sight}
 use Rattle.match_master.specs.Steps.{pieces}
-use Rattle.match_master.specs.Stream.{Item, Submitted, Took, Piece, Line, Mark, number_after, oldest, updates, up_to_items, says, reached, start_of, stream, waiting}
+use Rattle.match_master.specs.Stream.{Item, Submitted, Took, Piece, Sync, Line, Mark, number_after, oldest, updates, up_to_items, says, reached, start_of, stream, waiting}
 use Rattle.match_master.specs.Viewer.{Viewer}
 use Rattle.match_master.proofs.Follows.{Follows, reached_by, oldest_upto}
 use Rattle.match_master.proofs.Joins.{Joined, joins, found_present}
@@ -25,12 +25,14 @@ use Rattle.match_master.proofs.UpdateLaws.{AllUpTo, AreFalling, AreInOrder, belo
 
 lines-append : (ps qs : List Piece) → lines (ps ++ qs) ≡ lines qs ++ lines ps
 lines-append [] qs = sym (append-nil (lines qs))
+lines-append (Sync line ∷ ps) qs = ap (λ x. x ++ line) (lines-append ps qs) ∙ append_assoc (lines qs) (lines ps) line
 lines-append (Line line ∷ ps) qs = ap (λ x. x ++ line) (lines-append ps qs) ∙ append_assoc (lines qs) (lines ps) line
 lines-append (Mark ∷ ps) qs = lines-append ps qs
 
 -- a list of lines is what was handed out and then what waits
 parted : (ps : List Piece) → lines ps ≡ handed_out ps ++ waiting ps
 parted [] = refl
+parted (Sync line ∷ ps) = ap (λ x. x ++ line) (parted ps) ∙ append_assoc (handed_out ps) (waiting ps) line
 parted (Line line ∷ ps) = ap (λ x. x ++ line) (parted ps) ∙ append_assoc (handed_out ps) (waiting ps) line
 parted (Mark ∷ ps) = sym (append-nil (lines ps))
 

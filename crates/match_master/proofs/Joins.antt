@@ -23,7 +23,7 @@ use Rattle.match_master.specs.Attachment.{Attachment}
 use Rattle.match_master.specs.Viewer.{Viewer, seat_of, fits}
 use Rattle.match_master.specs.Calls.{create, created, joined, with_roster, attach, attached_by, accepted_unless, submitted}
 use Rattle.match_master.specs.History.{standing, attached, serials, standing_after, attached_after}
-use Rattle.match_master.specs.Stream.{Unasked, Accepted, Refused, Item, Submitted, Took, Piece, Line, Mark, at_number, says_verdict, broken_on}
+use Rattle.match_master.specs.Stream.{Unasked, Accepted, Refused, Item, Submitted, Took, Piece, Sync, Line, Mark, at_number, says_verdict, broken_on}
 use Rattle.match_master.specs.Reply.{name_of}
 use Rattle.match_master.specs.Sight.{sight, shown_to, shown_too}
 use Rattle.match_master.specs.Own.{own, did, did_where, answer_unless}
@@ -185,8 +185,8 @@ module _ {X G : Type 0} (rules : X → Rules G) (room : ℕ) where
       → Joined (Some m) (attached_by None serial r) (begun rules room (Some m) r ps) (shown_to rules (attached_by None serial r) (Some m) shown) did
   attach_step m serial (Err why) ps shown did h k = (refl, k)
   attach_step m serial (Ok viewer) ps shown did h k =
-      subst (λ t. Follows rules room m viewer (Line (sync_of rules room m (seat_of viewer)) ∷ []) (shown_too rules m (seat_of viewer) t) did) (sym h)
-      (subst (λ d. Follows rules room m viewer (Line (sync_of rules room m (seat_of viewer)) ∷ []) (snap rules m (seat_of viewer) ∷ []) d) (sym k) (follows_begun rules room m viewer))
+      subst (λ t. Follows rules room m viewer (Sync (sync_of rules room m (seat_of viewer)) ∷ []) (shown_too rules m (seat_of viewer) t) did) (sym h)
+      (subst (λ d. Follows rules room m viewer (Sync (sync_of rules room m (seat_of viewer)) ∷ []) (snap rules m (seat_of viewer) ∷ []) d) (sym k) (follows_begun rules room m viewer))
 
   attached_step : (st : Option (Match X G)) (at : Option Attachment) (ps : List Piece) (shown : List Snap) (did : List Item) (serial : ℕ) (claim : Viewer) → Joined st at ps shown did
       → Joined st (attached_by at serial (attach st at serial claim)) (begun rules room st (attach st at serial claim) ps) (shown_to rules (attached_by at serial (attach st at serial claim)) st shown) did

@@ -7,7 +7,7 @@ use Rattle.std.proofs.lemmas.Bool.Decides.{nat_tests}
 use Rattle.std.proofs.lemmas.Bool.{true≢false}
 use Rattle.match_master.specs.declared.session.Session.{Session}
 use Rattle.match_master.specs.Attachment.{Attachment}
-use Rattle.match_master.specs.Shown.{Shown, shown_of, shown_entry, all_shown, attachment_of, gained, with_gained, tell, tell_all, tell_at, tell_to, AreReadyTo, AreReadyFrom, Removes, TakesOut, say, say_at}
+use Rattle.match_master.specs.Shown.{Shown, shown_of, shown_entry, all_shown, attachment_of, emptied, gained, with_gained, tell, tell_all, tell_at, tell_to, AreReadyTo, AreReadyFrom, Removes, TakesOut, say, say_at}
 use Rattle.match_master.specs.Viewer.{seat_of}
 
 -- a place holds an attachment, and this says whether it is the pass's own
@@ -38,16 +38,18 @@ ready_to (x ∷ es) zero pass said lines v w own at e h r =
 ready_to (x ∷ es) (suc i) pass said lines v w own at e h r = (r.0, ready_to es i pass said lines v w own (record { held = at.held; owned = at.owned }) e h r.1)
 
 -- the write at a place sends what stands ready there
-pub told_at : (es : List (ℕ × Session)) (i pass : ℕ) (said : List ℕ) (lines : Lines) (v w : Session) → slice_get (values_of es) i ≡ Some v → attachment_of w ≡ attachment_of v → (w.lines).waiting ≡ (v.lines).waiting ++ (v.lines).ready
+pub told_at : (es : List (ℕ × Session)) (i pass : ℕ) (said : List ℕ) (lines : Lines) (v w : Session) → slice_get (values_of es) i ≡ Some v → attachment_of w ≡ attachment_of v → (w.lines).waiting ≡ (v.lines).waiting ++ (v.lines).ready → (w.lines).of_sync ≡ (v.lines).of_sync
     → AreReadyFrom i pass said lines es → all_shown (set_value_at es i w) ≡ tell_at i pass said lines (all_shown es)
-told_at [] i pass said lines v w held a h r = refl
-told_at (x ∷ es) zero pass said lines v w held a h r =
+told_at [] i pass said lines v w held a h n r = refl
+told_at (x ∷ es) zero pass said lines v w held a h n r =
     let sent : (w.lines).waiting ≡ (x.1.lines).waiting ++ gained (x.0 == pass) said (lines (seat_of x.1.viewer))
     = h ∙ ap (λ (u : Session). (u.lines).waiting ++ (u.lines).ready) (sym (some_is x.1 v held)) ∙ ap (λ l. (x.1.lines).waiting ++ l) r.0 in
     let same : attachment_of w ≡ attachment_of x.1 = a ∙ ap attachment_of (sym (some_is x.1 v held)) in
-    ap (λ b. let s : Shown = record { attachment = attachment_of w; bytes = b } in (x.0, s) ∷ all_shown es) sent
-    ∙ ap (λ t. let s : Shown = record { attachment = t; bytes = (x.1.lines).waiting ++ gained (x.0 == pass) said (lines (seat_of x.1.viewer)) } in (x.0, s) ∷ all_shown es) same
-told_at (x ∷ es) (suc i) pass said lines v w held a h r = ap (λ l. shown_entry x ∷ l) (told_at es i pass said lines v w held a h r)
+    let many : (w.lines).of_sync ≡ (x.1.lines).of_sync = n ∙ ap (λ (u : Session). (u.lines).of_sync) (sym (some_is x.1 v held)) in
+    ap (λ b. let s : Shown = record { attachment = attachment_of w; bytes = b; of_sync = (w.lines).of_sync } in (x.0, s) ∷ all_shown es) sent
+    ∙ ap (λ t. let s : Shown = record { attachment = t; bytes = (x.1.lines).waiting ++ gained (x.0 == pass) said (lines (seat_of x.1.viewer)); of_sync = (w.lines).of_sync } in (x.0, s) ∷ all_shown es) same
+    ∙ ap (λ k. let s : Shown = record { attachment = attachment_of x.1; bytes = (x.1.lines).waiting ++ gained (x.0 == pass) said (lines (seat_of x.1.viewer)); of_sync = k } in (x.0, s) ∷ all_shown es) many
+told_at (x ∷ es) (suc i) pass said lines v w held a h n r = ap (λ l. shown_entry x ∷ l) (told_at es i pass said lines v w held a h n r)
 
 pub ready_after : (es : List (ℕ × Session)) (i pass : ℕ) (said : List ℕ) (lines : Lines) (w : Session) → AreReadyFrom i pass said lines es → AreReadyFrom (suc i) pass said lines (set_value_at es i w)
 ready_after [] i pass said lines w r = tt
@@ -157,7 +159,7 @@ none_of None h = refl
 none_of (Some v) h = absurd (true≢false (sym h))
 
 -- what a Take does, where the key stands at a place
-pub taken_out : (es : List (ℕ × Session)) (pass i : ℕ) (v w : Session) → lookup (nat_eq pass) es ≡ Some v → position (nat_eq pass) (keys_of es) ≡ Some i → shown_of w ≡ record { attachment = attachment_of v; bytes = [] }
+pub taken_out : (es : List (ℕ × Session)) (pass i : ℕ) (v w : Session) → lookup (nat_eq pass) es ≡ Some v → position (nat_eq pass) (keys_of es) ≡ Some i → shown_of w ≡ emptied (shown_of v)
     → TakesOut pass (v.lines).waiting v.end (lookup (nat_eq pass) (all_shown es)) (all_shown es) (all_shown (set_value_at es i w))
 taken_out es pass i v w found at emptied =
     subst (λ o. TakesOut pass (v.lines).waiting v.end o (all_shown es) (all_shown (set_value_at es i w))) (sym (lookup_shown es pass ∙ ap (option_map shown_of) found))
@@ -165,21 +167,13 @@ taken_out es pass i v w found at emptied =
 
 -- what saying something to a pass alone does, where the key stands at a place
 pub said_own : (es : List (ℕ × Session)) (pass i : ℕ) (said : List ℕ) (v w : Session) → lookup (nat_eq pass) es ≡ Some v → position (nat_eq pass) (keys_of es) ≡ Some i
-    → shown_of w ≡ record { attachment = attachment_of v; bytes = (v.lines).waiting ++ said } → all_shown (set_value_at es i w) ≡ say pass said (all_shown es)
+    → shown_of w ≡ record { attachment = attachment_of v; bytes = (v.lines).waiting ++ said; of_sync = (v.lines).of_sync } → all_shown (set_value_at es i w) ≡ say pass said (all_shown es)
 said_own es pass i said v w found at told =
     ap all_shown (put_at es pass i w at) ∙ shown_put es pass w ∙ ap (insert_entry nat_eq (all_shown es) pass) told
     ∙ sym (ap (λ o. say_at pass said o (all_shown es)) (lookup_shown es pass ∙ ap (option_map shown_of) found))
 
 pub said_nobody : (es : List (ℕ × Session)) (pass : ℕ) (said : List ℕ) → lookup (nat_eq pass) es ≡ None → all_shown es ≡ say pass said (all_shown es)
 said_nobody es pass said none = sym (ap (λ o. say_at pass said o (all_shown es)) (lookup_shown es pass ∙ ap (option_map shown_of) none))
-
--- whether a key is there
-pub is_some_shown : (es : List (ℕ × Session)) (pass : ℕ) → is_some (lookup (nat_eq pass) (all_shown es)) ≡ is_some (lookup (nat_eq pass) es)
-is_some_shown es pass = ap is_some (lookup_shown es pass) ∙ by (lookup (nat_eq pass) es)
-  where
-    by : (o : Option Session) → is_some (option_map shown_of o) ≡ is_some o
-    by None = refl
-    by (Some v) = refl
 
 shown_none : (b : Bool) (o : Option Session) → option_map shown_of (if b then None else o) ≡ (if b then None else option_map shown_of o)
 shown_none true o = refl
@@ -200,9 +194,11 @@ entry_at [] i v h = absurd (none_is v h)
 entry_at (x ∷ es) zero v h = (x.0, ap (λ u. Some (x.0, u)) (some_is x.1 v h))
 entry_at (x ∷ es) (suc i) v h = entry_at es i v h
 
-pub shown_is : (v w : Session) → attachment_of w ≡ attachment_of v → (w.lines).waiting ≡ (v.lines).waiting → shown_of w ≡ shown_of v
-shown_is v w a b =
-    ap (λ (t : Attachment). let s : Shown = record { attachment = t; bytes = (w.lines).waiting } in s) a ∙ ap (λ l. let s : Shown = record { attachment = attachment_of v; bytes = l } in s) b
+pub shown_is : (v w : Session) → attachment_of w ≡ attachment_of v → (w.lines).waiting ≡ (v.lines).waiting → (w.lines).of_sync ≡ (v.lines).of_sync → shown_of w ≡ shown_of v
+shown_is v w a b n =
+    ap (λ (t : Attachment). let s : Shown = record { attachment = t; bytes = (w.lines).waiting; of_sync = (w.lines).of_sync } in s) a
+    ∙ ap (λ l. let s : Shown = record { attachment = attachment_of v; bytes = l; of_sync = (w.lines).of_sync } in s) b
+    ∙ ap (λ k. let s : Shown = record { attachment = attachment_of v; bytes = (v.lines).waiting; of_sync = k } in s) n
 
 -- what follows from a success
 pub on_ok : {A E : Type 0} (r : Result A E) (P Q : Type 0) → OnOk r P → (P → Q) → OnOk r Q

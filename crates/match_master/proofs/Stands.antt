@@ -8,13 +8,13 @@ use Rattle.match_master.specs.declared.call.RoomCall.{RoomCall}
 use Rattle.match_master.specs.declared.call.RoomCall.TheVariants.{Create, Join, Attach, Submit, Take, Detach}
 use Rattle.match_master.specs.declared.reply.RoomReply.{RoomReply}
 use Rattle.match_master.specs.declared.reply.RoomReply.TheVariants as answer
-use Rattle.match_master.specs.Held.{Held, Holds, Advances, StandsFor, stored, stored_bytes, is_starved, answer_to, bytes_waiting, kept_of}
+use Rattle.match_master.specs.Held.{Held, Holds, Advances, StandsFor, stored, is_starved, answer_to, kept_of}
 use Rattle.match_master.specs.History.{serials, standing, attached, serials_after, standing_after, attached_after}
 use Rattle.match_master.specs.Match.{Match}
 use Rattle.match_master.specs.Refusal.{Refuses}
-use Rattle.match_master.specs.Reply.{waits, reply, reply_to, taken}
+use Rattle.match_master.specs.Reply.{reply, reply_to, taken}
+use Rattle.match_master.specs.Sent.{stream_of}
 use Rattle.match_master.specs.Steps.{pieces, pieces_after}
-use Rattle.match_master.specs.Stream.{waiting}
 use Rattle.match_master.specs.declared.submission.Submission.{Submission}
 use Rattle.match_master.specs.Attachment.{Attachment}
 use Rattle.match_master.specs.Viewer.{Viewer}
@@ -22,7 +22,7 @@ use Rattle.match_master.specs.Calls.{create, create_reply, joined, join_reply, a
 use Rattle.match_master.specs.Does.{Does, Detaches, SubmitDoes, attached_in, viewer_in, after_create, after_join, after_attach, after_take, taken_of}
 use Rattle.match_master.proofs.Advance.{create_advances, join_advances, attach_advances, submit_advances, take_advances, detach_advances}
 use Rattle.match_master.proofs.Refusing.{refuses}
-use Rattle.match_master.proofs.Waiting.{waits_is}
+use Rattle.match_master.proofs.Waiting.{kept_is, waits_is}
 
 starved_is : (r : RoomReply) → is_starved r ≡ true → r ≡ answer.NoMemory
 starved_is answer.NoMemory h = refl
@@ -44,13 +44,6 @@ starved_is answer.Unauthorized h = absurd (true≢false (sym h))
 starved_is answer.NotAttached h = absurd (true≢false (sym h))
 
 module _ {X G : Type 0} (rules : X → Rules G) (room : ℕ) where
-  stored_is : (a : Option Attachment) (bytes : List ℕ) → stored_bytes a (bytes_waiting rules a bytes) ≡ stored a bytes
-  stored_is None bytes = refl
-  stored_is (Some a) bytes = refl
-
-  pub kept_is : (h : List (Entry (RoomCall X))) (pass : ℕ) → stored_bytes (attached rules room h pass) (waits rules room h pass) ≡ stored (attached rules room h pass) (waiting (pieces rules room h pass))
-  kept_is h pass = ap (stored_bytes (attached rules room h pass)) (waits_is rules room h pass) ∙ stored_is (attached rules room h pass) (waiting (pieces rules room h pass))
-
   answer_is : (h : List (Entry (RoomCall X))) (pass : ℕ) (call : RoomCall X)
       → answer_to rules room (serials rules room h) (standing rules room h) (attached rules room h pass) (pieces rules room h pass) call ≡ reply_to rules room h pass call
   answer_is h pass (Create game seats seed) = refl
@@ -61,9 +54,9 @@ module _ {X G : Type 0} (rules : X → Rules G) (room : ℕ) where
   answer_is h pass Detach = refl
 
   pub holds_of : (held : Held X G) (h : List (Entry (RoomCall X))) → held.room ≡ room → held.serials ≡ serials rules room h → held.kept ≡ option_map (kept_of rules) (standing rules room h)
-      → ((pass : ℕ) → lookup (nat_eq pass) held.sessions ≡ stored_bytes (attached rules room h pass) (waits rules room h pass))
+      → ((pass : ℕ) → lookup (nat_eq pass) held.sessions ≡ stored (attached rules room h pass) (stream_of rules room h pass))
       → Holds rules held (serials rules room h) (standing rules room h) (attached rules room h) (pieces rules room h)
-  holds_of held h r s m e = record { serials_held = s; match_held = m; sessions_held = λ pass. e pass ∙ kept_is h pass }
+  holds_of held h r s m e = record { serials_held = s; match_held = m; sessions_held = λ pass. e pass ∙ kept_is rules room h pass }
 
 module _ {X G : Type 0} (rules : X → Rules G) where
   pub stands_at : (held : Held X G) (h : List (Entry (RoomCall X))) (room : ℕ) → held.room ≡ room → Holds rules held (serials rules room h) (standing rules room h) (attached rules room h) (pieces rules room h) → StandsFor rules held h

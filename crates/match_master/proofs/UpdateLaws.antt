@@ -45,12 +45,6 @@ pub by_more : (m n : ℕ) (own : List Item) → m ≤ n → AllBy m own → AllB
 by_more m n [] h a = tt
 by_more m n (item ∷ own) h a = (omega arith, omega arith, by_more m n own h a.2)
 
-pub filter_skip : {A : Type 0} (p : A → Bool) (x : A) (xs : List A) → p x ≡ false → filter p (x ∷ xs) ≡ filter p xs
-filter_skip p x xs e = rw e refl
-
-pub filter_take : {A : Type 0} (p : A → Bool) (x : A) (xs : List A) → p x ≡ true → filter p (x ∷ xs) ≡ x ∷ filter p xs
-filter_take p x xs e = rw e refl
-
 -- the tests of `updates` and `later_updates`, decided
 above_false : (low n : ℕ) → n ≤ low → nat_lt low n ≡ false
 above_false low n h = grind (arith, nat_tests)
@@ -105,9 +99,6 @@ at_newer : (n : ℕ) (s : Snap) (sight : List Snap) → n < s.number → at_numb
 at_newer n s sight h =
     let apart : (s.number == n) ≡ false = grind (arith, nat_tests) in
     rw apart refl
-
-pub oldest_newer : (s t : Snap) (sight : List Snap) → oldest (s ∷ t ∷ sight) ≡ oldest (t ∷ sight)
-oldest_newer s t sight = refl
 
 module _ (name : Name) (sheet : Sheet) (viewer : Viewer) where
   -- each item fell at no smaller a number than the one before it had come to

@@ -22,7 +22,7 @@ use Rattle.match_master.specs.Calls.{verdict_reply}
 use Rattle.match_master.specs.Held.{Held, kept_of, is_starved}
 use Rattle.match_master.specs.Lines.{sync_line, ok_line, no_line}
 use Rattle.match_master.specs.Match.{Match, number_of}
-use Rattle.match_master.specs.Shown.{Shown, tell_all, say, Removes}
+use Rattle.match_master.specs.Shown.{Shown, begun, emptied, tell_all, say, Removes}
 use Rattle.match_master.specs.Steps.{sync_of, update_of}
 use Rattle.match_master.specs.Verdict.{broken, accept}
 use Rattle.match_master.specs.Viewer.{Viewer, seat_of}
@@ -85,12 +85,12 @@ module _ {X G : Type 0} (rules : X → Rules G) where
   after_attach held pass serial None viewer = held
   after_attach held pass serial (Some m) (Err why) = held
   after_attach held pass serial (Some m) (Ok viewer) = record held {
-    sessions = insert_entry nat_eq held.sessions pass (record { attachment = begun_by viewer serial; bytes = sync_of rules held.room m (seat_of viewer) });
+    sessions = insert_entry nat_eq held.sessions pass (begun (begun_by viewer serial) (sync_of rules held.room m (seat_of viewer)));
   }
 
 abbrev pub after_take : {X G : Type 0} → Held X G → ℕ → Option Shown → Held X G
 after_take held pass None = held
-after_take held pass (Some shown) = record held { sessions = insert_entry nat_eq held.sessions pass (record shown { bytes = [] }) }
+after_take held pass (Some shown) = record held { sessions = insert_entry nat_eq held.sessions pass (emptied shown) }
 
 abbrev pub taken_of : Option Shown → RoomReply
 taken_of None = answer.NotAttached

@@ -14,10 +14,11 @@ use Rattle.match_master.specs.Calls.{create, create_reply, joined, join_reply, a
 use Rattle.room_desk.specs.Entry.{Entry}
 use Rattle.match_master.specs.History.{serials_after, standing_after, attached_after, serials, standing, attached}
 use Rattle.match_master.specs.Match.{Match, log_of}
-use Rattle.match_master.specs.Reply.{taken, waits}
+use Rattle.match_master.specs.Reply.{taken}
+use Rattle.match_master.specs.Sent.{stream_of}
 use Rattle.match_master.specs.Shown.{Shown}
 use Rattle.match_master.specs.Steps.{pieces_after}
-use Rattle.match_master.specs.Stream.{Piece, waiting}
+use Rattle.match_master.specs.Stream.{Piece, waiting, of_sync}
 
 pub record Held (X G : Type 0) : Type 0 where
   pub room : ℕ
@@ -54,10 +55,10 @@ may_starve (Submit name key number ticket asked) = true
 may_starve Take = false
 may_starve Detach = false
 
--- what is kept of an attachment, and what waits
-abbrev pub stored : Option Attachment → List ℕ → Option Shown
-stored None bytes = None
-stored (Some a) bytes = Some (record { attachment = a; bytes = bytes })
+-- what is kept of an attachment with these lines
+abbrev pub stored : Option Attachment → List Piece → Option Shown
+stored None pieces = None
+stored (Some a) pieces = Some (record { attachment = a; bytes = waiting pieces; of_sync = of_sync pieces })
 
 module _ {X G : Type 0} (rules : X → Rules G) where
   -- what holds of each match that is kept
@@ -77,7 +78,7 @@ module _ {X G : Type 0} (rules : X → Rules G) where
   pub record Holds (held : Held X G) (serials : ℕ) (standing : Option (Match X G)) (attached : ℕ → Option Attachment) (pieces : ℕ → List Piece) : Type 0 where
     pub serials_held : held.serials ≡ serials
     pub match_held : held.kept ≡ option_map kept_of standing
-    pub sessions_held : (pass : ℕ) → lookup (nat_eq pass) held.sessions ≡ stored (attached pass) (waiting (pieces pass))
+    pub sessions_held : (pass : ℕ) → lookup (nat_eq pass) held.sessions ≡ stored (attached pass) (pieces pass)
 
   abbrev pub bytes_waiting : Option Attachment → List ℕ → Option (List ℕ)
   bytes_waiting None bytes = None
@@ -103,15 +104,9 @@ module _ {X G : Type 0} (rules : X → Rules G) (room : ℕ) where
       (λ q. if pass == q then attached_after standing (attached q) call else attached q)
       (λ q. pieces_after rules room standing (attached pass) (pass == q) (attached q) (pieces q) call))
 
--- what is kept of an attachment for which these bytes wait
-abbrev pub stored_bytes : Option Attachment → Option (List ℕ) → Option Shown
-stored_bytes None bytes = None
-stored_bytes (Some a) None = None
-stored_bytes (Some a) (Some bytes) = Some (record { attachment = a; bytes = bytes })
-
 -- a Book stands for a history of its room: it holds how many matches the history made, what stands by it, and of each pass who
 -- looks and what waits of its stream
 pub record StandsFor {X G : Type 0} (rules : X → Rules G) (held : Held X G) (h : List (Entry (RoomCall X))) : Type 0 where
   pub serials_held : held.serials ≡ serials rules held.room h
   pub match_held : held.kept ≡ option_map (kept_of rules) (standing rules held.room h)
-  pub sessions_held : (pass : ℕ) → lookup (nat_eq pass) held.sessions ≡ stored_bytes (attached rules held.room h pass) (waits rules held.room h pass)
+  pub sessions_held : (pass : ℕ) → lookup (nat_eq pass) held.sessions ≡ stored (attached rules held.room h pass) (stream_of rules held.room h pass)

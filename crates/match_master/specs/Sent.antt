@@ -1,5 +1,5 @@
 -- The lines of a session's stream: all of them, and those that its Takes handed out.
-use Rattle.std.specs.Prelude.{ℕ, List, [], ◌∷◌, ◌++◌, Option, Some, None}
+use Rattle.std.specs.Prelude.{ℕ, List, [], ◌∷◌, ◌++◌, Option, Some, None, option_map}
 use Rattle.game_trait.specs.Rules.{Rules}
 use Rattle.room_desk.specs.Entry.{Entry}
 use Rattle.match_master.specs.declared.call.RoomCall.{RoomCall}
@@ -9,17 +9,19 @@ use Rattle.match_master.specs.Match.{Match}
 use Rattle.match_master.specs.Own.{own}
 use Rattle.match_master.specs.Reply.{name_of}
 use Rattle.match_master.specs.Sight.{sight}
-use Rattle.match_master.specs.Stream.{Piece, Line, Mark, stream}
+use Rattle.match_master.specs.Stream.{Piece, Sync, Line, Mark, stream, counted}
 
 -- the bytes of all lines, in order
 abbrev pub lines : List Piece → List ℕ
 lines [] = []
+lines (Sync line ∷ pieces) = lines pieces ++ line
 lines (Line line ∷ pieces) = lines pieces ++ line
 lines (Mark ∷ pieces) = lines pieces
 
 -- the bytes of the lines up to the last mark
 abbrev pub handed_out : List Piece → List ℕ
 handed_out [] = []
+handed_out (Sync line ∷ pieces) = handed_out pieces
 handed_out (Line line ∷ pieces) = handed_out pieces
 handed_out (Mark ∷ pieces) = lines pieces
 
@@ -36,3 +38,7 @@ module _ {X G : Type 0} (rules : X → Rules G) (room : ℕ) where
   -- what a session's Takes handed out
   abbrev pub sent : List (Entry (RoomCall X)) → ℕ → List ℕ
   sent h pass = handed_out (stream_of h pass)
+
+  -- how many of the bytes that wait for a pass count as waiting; none where it isn't attached
+  abbrev pub count_of : List (Entry (RoomCall X)) → ℕ → Option ℕ
+  count_of h pass = option_map (λ (a : Attachment). counted (stream_of h pass)) (attached rules room h pass)

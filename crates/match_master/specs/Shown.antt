@@ -1,5 +1,5 @@
--- What is kept of an attachment: who looks at which match, and the bytes that wait.
-use Rattle.std.specs.Prelude.{◌≡◌, ◌==◌, ℕ, zero, suc, Bool, if◌then◌else◌, List, [], ◌∷◌, ◌++◌, map, Option, Some, None, nat_eq}
+-- What is kept of an attachment: who looks at which match, the bytes that wait, and how many of them are the sync line's.
+use Rattle.std.specs.Prelude.{◌≡◌, ◌==◌, ℕ, zero, suc, Bool, if◌then◌else◌, ◌+◌, List, [], ◌∷◌, ◌++◌, length, map, Option, Some, None, nat_eq}
 use Rattle.std.specs.Map.{lookup}
 use Rattle.indexmap.specs.IndexMap.{insert_entry}
 use Rattle.game_sheet.specs.declared.act.Bye.{Bye}
@@ -10,12 +10,21 @@ use Rattle.match_master.specs.declared.session.Session.{Session}
 pub record Shown : Type 0 where
   pub attachment : Attachment
   pub bytes : List ℕ
+  pub of_sync : ℕ
+
+-- an attachment as it begins: its sync line waits
+abbrev pub begun : Attachment → List ℕ → Shown
+begun a line = record { attachment = a; bytes = line; of_sync = length line }
+
+-- what waited was handed out
+abbrev pub emptied : Shown → Shown
+emptied s = record s { bytes = []; of_sync = 0 }
 
 abbrev pub attachment_of : Session → Attachment
 attachment_of s = record { viewer = s.viewer; serial = s.serial; protocol = s.protocol; end = s.end }
 
 abbrev pub shown_of : Session → Shown
-shown_of s = record { attachment = attachment_of s; bytes = (s.lines).waiting }
+shown_of s = record { attachment = attachment_of s; bytes = (s.lines).waiting; of_sync = (s.lines).of_sync }
 
 abbrev pub shown_entry : ℕ × Session → ℕ × Shown
 shown_entry e = (e.0, shown_of e.1)
@@ -75,8 +84,15 @@ say pass said entries = say_at pass said (lookup (nat_eq pass) entries) entries
 -- what waited is handed out with the end of the stream, and nothing waits any more; without an attachment there is nothing to take
 abbrev pub TakesOut : ℕ → List ℕ → Option Bye → Option Shown → List (ℕ × Shown) → List (ℕ × Shown) → Type 0
 TakesOut pass bytes end None before after = ⊥
-TakesOut pass bytes end (Some shown) before after = (bytes ≡ shown.bytes) × (end ≡ shown.attachment.end) × (after ≡ insert_entry nat_eq before pass (record shown { bytes = [] }))
+TakesOut pass bytes end (Some shown) before after = (bytes ≡ shown.bytes) × (end ≡ shown.attachment.end) × (after ≡ insert_entry nat_eq before pass (emptied shown))
 
 -- a pass is attached no more, and every other one as it was
 abbrev pub Removes : ℕ → List (ℕ × Shown) → List (ℕ × Shown) → Type 0
 Removes pass before after = (q : ℕ) → lookup (nat_eq q) after ≡ (if pass == q then None else lookup (nat_eq q) before)
+
+-- a count of the bytes that wait, without the sync line's; none where there is no attachment
+abbrev pub IsCount : Option ℕ → Option Shown → Type 0
+IsCount None None = Unit {0}
+IsCount (Some n) None = ⊥
+IsCount None (Some shown) = ⊥
+IsCount (Some n) (Some shown) = n + shown.of_sync ≡ length shown.bytes

@@ -12,7 +12,7 @@ use Rattle.match_master.specs.Viewer.{Viewer, seat_of}
 use Rattle.match_master.specs.declared.submission.Submission.{Submission}
 use Rattle.match_master.specs.Verdict.{broken, accept}
 use Rattle.match_master.specs.Lines.{snap, sync_line, update_line, ok_line, no_line}
-use Rattle.match_master.specs.Stream.{Piece, Line, Mark}
+use Rattle.match_master.specs.Stream.{Piece, Sync, Line, Mark}
 use Rattle.match_master.specs.Calls.{attach}
 use Rattle.match_master.specs.Reply.{name_of}
 use Rattle.match_master.specs.History.{standing, attached}
@@ -33,7 +33,7 @@ module _ {X G : Type 0} (rules : X → Rules G) (room : ℕ) where
   abbrev pub begun : Option (Match X G) → Result Viewer RoomReply → List Piece → List Piece
   begun None viewer pieces = pieces
   begun (Some m) (Err why) pieces = pieces
-  begun (Some m) (Ok viewer) pieces = Line (sync_of m (seat_of viewer)) ∷ []
+  begun (Some m) (Ok viewer) pieces = Sync (sync_of m (seat_of viewer)) ∷ []
 
   -- what a verdict adds: the update for each viewer, and the verdict for the session's own
   abbrev pub told : Match X G → Viewer → Submission → Option Reason → Bool → Option ℕ → List Piece → List Piece

@@ -1,7 +1,7 @@
 -- The stream of a session, made of the match's name, the sheet, who looks with which key, what that viewer was shown and what the
 -- session did, and of nothing else.
 -- Lists have the latest first: snapshots, items and pieces.
-use Rattle.std.specs.Prelude.{ℕ, ◌+◌, ◌==◌, List, [], ◌∷◌, ◌++◌, Bool, ◌&&◌, if◌then◌else◌, nat_lt, nat_le, filter, map, Option, Some, None}
+use Rattle.std.specs.Prelude.{ℕ, ◌+◌, ◌==◌, List, [], ◌∷◌, ◌++◌, length, Bool, ◌&&◌, if◌then◌else◌, nat_lt, nat_le, filter, map, Option, Some, None}
 use Rattle.game_sheet.specs.MatchName.{Name}
 use Rattle.game_sheet.specs.declared.sheet.Sheet.{Sheet}
 use Rattle.player_sight.specs.SnapshotData.{Snap}
@@ -22,8 +22,9 @@ pub data Item : Type 0 where
   Submitted : ℕ → Submission → Bool → GameAnswer → Item
   Took : ℕ → Item
 
--- a line, or the place at which a Take handed out what was there
+-- the line that begins a session, a later line, or the place at which a Take handed out what was there
 pub data Piece : Type 0 where
+  Sync : List ℕ → Piece
   Line : List ℕ → Piece
   Mark : Piece
 
@@ -90,7 +91,7 @@ module _ (name : Name) (sheet : Sheet) (viewer : Viewer) where
 
   abbrev pub first_piece : Option Snap → List Piece
   first_piece None = []
-  first_piece (Some s) = Line (sync_line sheet name (seat_of viewer) s) ∷ []
+  first_piece (Some s) = Sync (sync_line sheet name (seat_of viewer) s) ∷ []
 
   abbrev pub start_of : Option Snap → ℕ
   start_of None = 0
@@ -109,5 +110,20 @@ module _ (name : Name) (sheet : Sheet) (viewer : Viewer) where
 -- the bytes of the lines since the last mark
 abbrev pub waiting : List Piece → List ℕ
 waiting [] = []
+waiting (Sync line ∷ pieces) = waiting pieces ++ line
 waiting (Line line ∷ pieces) = waiting pieces ++ line
 waiting (Mark ∷ pieces) = []
+
+-- how many of them count as waiting: those of the sync line do not
+abbrev pub counted : List Piece → ℕ
+counted [] = 0
+counted (Sync line ∷ pieces) = counted pieces
+counted (Line line ∷ pieces) = counted pieces + length line
+counted (Mark ∷ pieces) = 0
+
+-- and how many are of the sync line
+abbrev pub of_sync : List Piece → ℕ
+of_sync [] = 0
+of_sync (Sync line ∷ pieces) = of_sync pieces + length line
+of_sync (Line line ∷ pieces) = of_sync pieces
+of_sync (Mark ∷ pieces) = 0

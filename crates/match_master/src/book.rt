@@ -17,6 +17,8 @@ ghost use Rattle.match_master.specs.Refusal.{Refuses};
 ghost use Rattle.match_master.specs.Reply.{reply};
 ghost use Rattle.match_master.specs.Held.{Held, StandsFor, kept_of, is_starved, may_starve};
 ghost use Rattle.match_master.specs.Does.{Does, Detaches, SubmitDoes, attached_in, viewer_in, with_refused, with_accepted, after_create, after_join, after_attach, after_take, taken_of, sync_text};
+ghost use Rattle.match_master.specs.Sent.{count_of};
+ghost use Rattle.match_master.specs.Shown.{begun};
 ghost use Rattle.match_master.specs.Viewer.{seat_of};
 ghost use Rattle.seat_roster.specs.Roster.{free_seats};
 
@@ -123,6 +125,13 @@ impl<X: Game + Drop> Book<X> {
         ensures { (h : List (Made (Asks X))) → StandsFor X.rules self.now h → result ≡ is_some (attached X.rules self.now.room h pass) }
     {
         session::is_attached(&self.sessions, pass)
+    }
+
+    /// How many bytes wait for a pass, its sync line not counted; none where it isn't attached. It takes no memory.
+    pub fn waiting(&self, pass: u32) -> Option<usize>
+        ensures { (h : List (Made (Asks X))) → StandsFor X.rules self.now h → result ≡ count_of X.rules self.now.room h pass }
+    {
+        session::count(&self.sessions, pass)
     }
 
     /// Makes a match where none stands.
@@ -305,7 +314,7 @@ impl<X: Game + Drop> Book<X> {
         requires { IsSome self.old.kept }
         ensures room { self.new.room ≡ self.old.room }
         ensures does { IfSome self.old.kept (λ k. Does self.old result self.new answer.Attached
-            (record self.old { sessions = insert_entry nat_eq self.old.sessions pass (record { attachment = begun_by viewer k.serial; bytes = sync_text X.rules self.old.room k (seat_of viewer) }) })) }
+            (record self.old { sessions = insert_entry nat_eq self.old.sessions pass (begun (begun_by viewer k.serial) (sync_text X.rules self.old.room k (seat_of viewer))) })) }
     {
         let Some(kept) = &self.kept else {
             unreachable!();

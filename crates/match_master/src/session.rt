@@ -5,7 +5,8 @@ ghost use Rattle.std.specs.Map.{lookup};
 ghost use Rattle.std.specs.Option.{option_copied};
 ghost use Rattle.indexmap.specs.IndexMap.{insert_entry};
 ghost use Rattle.match_master.specs.Attachment.{begun_by};
-ghost use Rattle.match_master.specs.Shown.{Shown, all_shown, attachment_of, AreReadyTo, AreReadyFrom, Removes, TakesOut, gained, say, tell_all, tell_at};
+ghost use Rattle.match_master.specs.Shown.{Shown, IsCount, all_shown, begun, attachment_of, AreReadyTo, AreReadyFrom, Removes, TakesOut, gained, say, tell_all, tell_at};
+ghost use Rattle.match_master.specs.Outgoing.{begun_with};
 ghost use Rattle.match_master.specs.Viewer.{seat_of};
 ghost use Rattle.match_master.specs.declared.session.Session.{Session as Attached};
 
@@ -31,17 +32,17 @@ pub struct Session {
 }
 
 impl Session {
-    /// The attachment of a viewer to the match of a serial, for which these lines wait.
-    fn begun(viewer: Option<(Seat, Key)>, serial: u64, lines: Vec<u8>) -> Self
+    /// The attachment of a viewer to the match of a serial, for which a sync line waits.
+    fn begun(viewer: Option<(Seat, Key)>, serial: u64, sync: Vec<u8>) -> Self
         ensures attachment { attachment_of result ≡ begun_by viewer serial }
-        ensures lines { (result.lines).waiting ≡ lines.items }
+        ensures lines { result.lines ≡ begun_with sync.items }
     {
         Session {
             viewer,
             serial,
             protocol: Protocol::One,
             end: None,
-            lines: Outbox::with(lines),
+            lines: Outbox::with(sync),
         }
     }
 
@@ -81,18 +82,29 @@ pub fn viewer_of(sessions: &Sessions, pass: u32) -> Option<&Option<(Seat, Key)>>
     }
 }
 
-/// Attaches a pass that isn't attached, with the bytes that wait for it first.
+/// How many bytes wait for a pass, its sync line not counted; none where it isn't attached.
+#[tactic(auto, using(crate::proofs::SessionLaws::lookup_shown))]
+pub fn count(sessions: &Sessions, pass: u32) -> Option<usize>
+    ensures { IsCount result (lookup (nat_eq pass) (all_shown sessions.now.entries)) }
+{
+    match sessions.get(&pass) {
+        None => None,
+        Some(session) => Some(session.lines.count()),
+    }
+}
+
+/// Attaches a pass that isn't attached, with its sync line.
 pub fn attach(
     sessions: &mut Sessions,
     pass: u32,
     viewer: Option<(Seat, Key)>,
     serial: u64,
-    lines: Vec<u8>,
+    sync: Vec<u8>,
 ) -> Result<(), NoMemory>
-    ensures ok { OnOk result (all_shown sessions.new.entries ≡ insert_entry nat_eq (all_shown sessions.old.entries) pass (record { attachment = begun_by viewer serial; bytes = lines.items })) }
+    ensures ok { OnOk result (all_shown sessions.new.entries ≡ insert_entry nat_eq (all_shown sessions.old.entries) pass (begun (begun_by viewer serial) sync.items)) }
     ensures err { OnErr result (all_shown sessions.new.entries ≡ all_shown sessions.old.entries) }
 {
-    match sessions.insert(pass, Session::begun(viewer, serial, lines)) {
+    match sessions.insert(pass, Session::begun(viewer, serial, sync)) {
         Ok(_) => Ok(()),
         Err(_) => Err(NoMemory),
     }
@@ -176,6 +188,7 @@ pub fn prepare_at(
 fn prepare(session: &mut Session, own: bool, said: &[u8], line: &[u8]) -> Result<(), NoMemory>
     ensures attachment { attachment_of session.new ≡ attachment_of session.old }
     ensures waiting { (session.new.lines).waiting ≡ (session.old.lines).waiting }
+    ensures of_sync { (session.new.lines).of_sync ≡ (session.old.lines).of_sync }
     ensures ready { OnOk result ((session.new.lines).ready ≡ gained own said.now line.now) }
 {
     session.lines.prepare(line, if own { said } else { &[] })

@@ -112,6 +112,25 @@ fn a_detached_pass_takes_nothing(rt: HostRuntime) -> Result<(), Fail> {
 }
 
 #[test]
+fn a_sync_line_does_not_count_as_waiting(rt: HostRuntime) -> Result<(), Fail> {
+    let alloc = rt.alloc();
+    if let Some(mut book) = blind_bid(alloc, 2) {
+        assert!(rt; book.waiting(0).is_none());
+        assert!(rt; attach(&mut book, 0));
+        assert!(rt; book.waiting(0) == Some(0));
+        assert!(rt;
+            plays(&mut book, alloc, 0, 7, "boast", Some(1)) == Some(Err(Reason::WrongNumber))
+        );
+        assert!(rt; book.waiting(0) == Some(60));
+        assert!(rt; times(&takes(&mut book, 0), "wrong-number") == 1);
+        assert!(rt; book.waiting(0) == Some(0));
+        return Ok(());
+    }
+    assert!(rt; false);
+    Ok(())
+}
+
+#[test]
 fn a_turn_ends_after_its_least_count_of_moves(rt: HostRuntime) -> Result<(), Fail> {
     let alloc = rt.alloc();
     if let Some(mut book) = high_hand(alloc) {

@@ -10,7 +10,7 @@ returns-clause-many c = length-set c.args.sessions.now.entries c.args.place c.pr
 pub returns-clause-same : goal.returns-clause-same
 returns-clause-same c =
     shown_same c.args.sessions.now.entries c.args.place c.in-Some.session.now c.prepare.new.session (sym c.in-Some.ensures.value)
-    (shown_is c.in-Some.session.now c.prepare.new.session c.prepare.ensures.attachment c.prepare.ensures.waiting)
+    (shown_is c.in-Some.session.now c.prepare.new.session c.prepare.ensures.attachment c.prepare.ensures.waiting c.prepare.ensures.of_sync)
 
 pub returns-clause-ready : goal.returns-clause-ready
 returns-clause-ready c =

@@ -8,7 +8,7 @@ returns-clause-many c = length-set c.args.sessions.now.entries c.args.place _
 
 pub returns-clause-told : goal.returns-clause-told
 returns-clause-told c = λ lines ready.
-    told_at c.args.sessions.now.entries c.args.place c.args.pass c.args.said.now lines c.in-Some.session.now _ (sym c.in-Some.ensures.value) refl (ap (λ (o : Outgoing). o.waiting) c.send.ensures) ready
+    told_at c.args.sessions.now.entries c.args.place c.args.pass c.args.said.now lines c.in-Some.session.now _ (sym c.in-Some.ensures.value) refl (ap (λ (o : Outgoing). o.waiting) c.send.ensures) (ap (λ (o : Outgoing). o.of_sync) c.send.ensures) ready
 
 pub returns-clause-ready : goal.returns-clause-ready
 returns-clause-ready c = λ lines ready. rw add-one (ready_after c.args.sessions.now.entries c.args.place c.args.pass c.args.said.now lines _ ready)
