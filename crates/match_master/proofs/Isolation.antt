@@ -162,17 +162,22 @@ module _ {X G : Type 0} (rules : X → Rules G) (room : ℕ) where
   }
 
 module _ {X G Y H : Type 0} (rules : X → Rules G) (others : Y → Rules H) where
-  same_streams : (n1 n2 : Name) (s1 s2 : Sheet) (v1 v2 : Viewer) (g1 g2 : List Snap) (w1 w2 : List Item) → n1 ≡ n2 → s1 ≡ s2 → v1 ≡ v2 → g1 ≡ g2 → w1 ≡ w2 → lines (stream n1 s1 v1 g1 w1) ≡ lines (stream n2 s2 v2 g2 w2)
+  same_streams : (n1 n2 : Name) (s1 s2 : Sheet) (v1 v2 : Viewer) (g1 g2 : List Snap) (w1 w2 : List Item) → n1 ≡ n2 → s1 ≡ s2 → v1 ≡ v2 → g1 ≡ g2 → w1 ≡ w2 → stream n1 s1 v1 g1 w1 ≡ stream n2 s2 v2 g2 w2
   same_streams n1 n2 s1 s2 v1 v2 g1 g2 w1 w2 a b c d e = rw (a, b, c, d, e) refl
 
   pub told_the_same : (room : ℕ) (h : List (Entry (RoomCall X))) (pass other_room : ℕ) (k : List (Entry (RoomCall Y))) (other : ℕ) → AreAlike rules others room h pass other_room k other → AreToldTheSame rules others room h pass other_room k other
   told_the_same room h pass other_room k other al =
       let same : lines (stream_of rules room h pass) ≡ lines (stream_of others other_room k other)
       = all_lines rules room h pass al.m al.a al.one
-      ∙ same_streams (name_of rules room al.m) (name_of others other_room al.n) (rules al.m.game).sheet (others al.n.game).sheet al.a.viewer al.b.viewer (sight rules room h pass) (sight others other_room k other)
-      (without_takes (own rules room h pass)) (without_takes (own others other_room k other)) al.name al.sheet al.viewer al.shown al.did
+      ∙ ap lines (same_streams (name_of rules room al.m) (name_of others other_room al.n) (rules al.m.game).sheet (others al.n.game).sheet al.a.viewer al.b.viewer (sight rules room h pass) (sight others other_room k other)
+      (without_takes (own rules room h pass)) (without_takes (own others other_room k other)) al.name al.sheet al.viewer al.shown al.did)
       ∙ sym (all_lines others other_room k other al.n al.b al.two) in
       record {
         all = same;
+        same_takes = λ e. ap handed_out
+            (stream_is rules room h pass al.m al.a (standing rules room h) (attached rules room h pass) al.one.stands al.one.looks
+            ∙ same_streams (name_of rules room al.m) (name_of others other_room al.n) (rules al.m.game).sheet (others al.n.game).sheet al.a.viewer al.b.viewer (sight rules room h pass) (sight others other_room k other)
+            (own rules room h pass) (own others other_room k other) al.name al.sheet al.viewer al.shown e
+            ∙ sym (stream_is others other_room k other al.n al.b (standing others other_room k) (attached others other_room k other) al.two.stands al.two.looks));
         taken = λ p q. all_sent rules room h pass al.m al.a al.one p ∙ same ∙ sym (all_sent others other_room k other al.n al.b al.two q);
       }

@@ -41,9 +41,11 @@ module _ {X G Y H : Type 0} (rules : X → Rules G) (others : Y → Rules H) whe
     pub shown : sight rules room h pass ≡ sight others other_room k other
     pub did : without_takes (own rules room h pass) ≡ without_takes (own others other_room k other)
 
-  -- two sessions are told the same: their lines are equal, and so is what they were sent where nothing waits for either, as after a Take
+  -- two sessions are told the same: their lines are equal, and so is what they were sent where their Takes are the same too, and where
+  -- nothing waits for either, as after a Take
   pub record AreToldTheSame (room : ℕ) (h : List (Entry (RoomCall X))) (pass : ℕ) (other_room : ℕ) (k : List (Entry (RoomCall Y))) (other : ℕ) : Type 0 where
     pub all : lines (stream_of rules room h pass) ≡ lines (stream_of others other_room k other)
+    pub same_takes : own rules room h pass ≡ own others other_room k other → sent rules room h pass ≡ sent others other_room k other
     pub taken : waits rules room h pass ≡ Some [] → waits others other_room k other ≡ Some [] → sent rules room h pass ≡ sent others other_room k other
 
 module _ {X G : Type 0} (rules : X → Rules G) (room : ℕ) where
