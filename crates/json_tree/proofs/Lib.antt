@@ -3,3 +3,4 @@ pub mod Canonicals
 pub mod FieldLaws
 pub mod Rows
 pub mod LineLaws
+pub mod WritableRows

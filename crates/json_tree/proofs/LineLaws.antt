@@ -11,7 +11,7 @@ use Rattle.serde_json.specs.Written.{has_float, members_have_float}
 use Rattle.json_tree.specs.declared.lines.LineFault.{LineFault}
 use Rattle.json_tree.specs.declared.lines.LineFault.TheVariants.{TooLong, NotJson, NotObject, Float}
 use Rattle.json_tree.specs.Canonical.{MembersAreCanonical}
-use Rattle.json_tree.specs.Lines.{newline, IsLineOf, object_in, object_read, line_read}
+use Rattle.json_tree.specs.Lines.{newline, IsLineOf, IsTextOf, object_in, object_read, line_read, text_read}
 use Rattle.json_tree.proofs.Canonicals.{canonical_read}
 
 -- ---- from the line to the answer
@@ -110,3 +110,21 @@ line_again bound line ms h = read_text bound line h.short h.utf8 ∙ ap object_r
 
 pub canonical_line : (bound : ℕ) (line : List ℕ) (ms : Members) → IsLineOf bound line ms → MembersAreCanonical ms
 canonical_line bound line ms h = canonical_read line (object ms) h.is
+
+-- what a text holds is read of it, and what is read of it it holds
+pub text_again : (line : List ℕ) (ms : Members) → IsTextOf line ms → text_read line ≡ Ok ms
+text_again line ms h = rw (is_utf8-from_IsUtf8 line h.utf8) (ap object_read h.is ∙ rw (h.no_float) refl)
+
+pub whole_text_is : (line : List ℕ) (ms : Members) → text_read line ≡ Ok ms → IsTextOf line ms
+whole_text_is line ms e =
+    let t = text (is_utf8 line) line ms refl e in
+    let o = object_is (read line) ms t.1 in
+    record { utf8 = t.0; is = o.0; no_float = o.1 }
+
+pub canonical_text : (line : List ℕ) (ms : Members) → IsTextOf line ms → MembersAreCanonical ms
+canonical_text line ms h = canonical_read line (object ms) h.is
+
+-- a bound that the line doesn't pass takes nothing away
+pub within_bound : (bound : ℕ) (line : List ℕ) → length line ≤ bound → line_read bound line ≡ text_read line
+unfolding line_read
+within_bound bound line h = rw (le-ltb bound (length line) h) refl

@@ -4,3 +4,4 @@ pub mod Steps
 pub mod Fields
 pub mod Lines
 pub mod DataCode
+pub mod Writable

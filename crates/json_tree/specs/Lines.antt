@@ -19,6 +19,12 @@ pub record IsLineOf (bound : ℕ) (line : List ℕ) (ms : Members) : Type 0 wher
   pub is : read line ≡ Some (object ms)
   pub no_float : members_have_float ms ≡ false
 
+-- `serde_json` reads the text as this object, in which no number is a float
+pub record IsTextOf (line : List ℕ) (ms : Members) : Type 0 where
+  pub utf8 : IsUtf8 line
+  pub is : read line ≡ Some (object ms)
+  pub no_float : members_have_float ms ≡ false
+
 -- the same, of the data
 abbrev pub IsLine : ℕ → List ℕ → Data → Type 0
 IsLine bound line d = (ms : Members) × (d ≡ object ms) × IsLineOf bound line ms
@@ -35,9 +41,13 @@ abbrev pub object_read : Option Data → Result Members LineFault
 object_read None = Err NotJson
 object_read (Some d) = object_in d
 
--- the members of the object that a line holds, or its first fault
+-- the members of the object that a text holds, or its first fault
+abbrev pub text_read : List ℕ → Result Members LineFault
+text_read line = if is_utf8 line then object_read (read line) else Err NotJson
+
+-- the same of a line that may be too long
 unfoldable pub line_read : ℕ → List ℕ → Result Members LineFault
-line_read bound line = if nat_lt bound (length line) then Err TooLong else (if is_utf8 line then object_read (read line) else Err NotJson)
+line_read bound line = if nat_lt bound (length line) then Err TooLong else text_read line
 
 abbrev pub IsFaultOf : LineFault → Result Members LineFault → Type 0
 IsFaultOf TooLong read = read ≡ Err TooLong
