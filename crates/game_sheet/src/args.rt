@@ -2,19 +2,30 @@
 
 ghost use Rattle.std.specs.Prelude.{◌≡◌, ◌<◌, ◌≤◌, ◌∷◌, ◌++◌, [], length};
 
+use crate::short::Short;
 use std::marker::Model;
 
-/// At most eight numbers of 32 bits with sign. Contracts see their list.
+/// One argument: a whole number of 32 bits with sign, or a short text.
+#[derive(Clone, Copy, PartialEq, Eq, Debug)]
+pub enum Arg {
+    /// A whole number.
+    Whole(i32),
+    /// A text.
+    Text(Short),
+}
+
+/// At most eight arguments. Contracts see their list.
 #[derive(Drop)]
 pub struct Args {
-    items: [i32; 8],
+    items: [Arg; 8],
     len: usize,
 }
 
 impl Model for Args {
-    ghost use Rattle.std.specs.Prelude.{List, ℤ, take, ◌≤◌};
+    ghost use Rattle.std.specs.Prelude.{List, take, ◌≤◌};
+    ghost use Rattle.game_sheet.specs.declared.args.Arg.{Arg};
 
-    ghost Value = { List ℤ };
+    ghost Value = { List Arg };
 
     ghost view = { λ a. take a.len a.items };
 
@@ -30,28 +41,29 @@ impl Args {
         ensures { result ≡ [] }
     {
         Args {
-            items: [0; 8],
+            items: [Arg::Whole(0); 8],
             len: 0,
         }
     }
 
-    /// How many arguments there are.
+    /// How many arguments there are, at most 8.
     pub fn len(&self) -> usize
         ensures count { result ≡ length self.now }
         ensures most { result ≤ 8 }
     {
-        self.len
+        self.as_slice().len()
     }
 
     /// The arguments in order.
-    pub fn as_slice(&self) -> &[i32]
-        ensures { result.now ≡ self.now }
+    pub fn as_slice(&self) -> &[Arg]
+        ensures value { result.now ≡ self.now }
+        ensures most { length self.now ≤ 8 }
     {
         &self.items[..self.len]
     }
 
     /// Adds an argument at the end.
-    pub fn push(&mut self, argument: i32)
+    pub fn push(&mut self, argument: Arg)
         requires { length self.old < 8 }
         ensures { self.new ≡ self.old ++ argument ∷ [] }
     {
@@ -63,9 +75,10 @@ impl Args {
     pub fn copy(&self) -> Self
         ensures { result ≡ self.now }
     {
-        Args {
-            items: self.items,
-            len: self.len,
+        let mut copied = Args::new();
+        for argument in self.as_slice() {
+            copied.push(*argument);
         }
+        copied
     }
 }

@@ -14,12 +14,13 @@ mod match_name;
 mod memory;
 mod refusal;
 mod sheet;
+mod short;
 #[cfg(test)]
 mod tests;
 mod text;
 
 pub use act::{Act, Bye, Event, EventKind, Outcome};
-pub use args::Args;
+pub use args::{Arg, Args};
 pub use bytes::Bytes;
 pub use check::{SheetFault, check_sheet, unbroken};
 pub use ctx::Ctx;
@@ -31,4 +32,5 @@ pub use match_name::MatchName;
 pub use memory::NoMemory;
 pub use refusal::{GameNo, GameRule};
 pub use sheet::{MoveRow, Order, PhaseRow, Place, Sheet, SpecRow, StageRow, TurnRow};
+pub use short::Short;
 pub use text::Text;

@@ -12,7 +12,7 @@ pub struct Sheet {
     pub name: Text,
     /// The least number of seats, from 1.
     pub min_seats: u8,
-    /// The greatest number of seats, up to 8.
+    /// The greatest number of seats, up to 16.
     pub max_seats: u8,
     /// The moves, 1 to 64.
     pub moves: List<MoveRow>,
