@@ -68,7 +68,7 @@ pub record SheetFits (sheet : Sheet) : Type 0 where
   pub passes : broken sheet ≡ 0
   pub least : 1 ≤ sheet.min_seats
   pub in_order : sheet.min_seats ≤ sheet.max_seats
-  pub most : sheet.max_seats ≤ 8
+  pub most : sheet.max_seats ≤ 16
   pub some_move : 1 ≤ length sheet.moves
   pub moves : length sheet.moves ≤ 64
   pub phases : length sheet.phases ≤ 16

@@ -46,9 +46,9 @@ is_limit min_moves max_moves = nat_le 1 max_moves && nat_le min_moves max_moves
 abbrev pub name_fits : Sheet → Bool
 name_fits sheet = is_name is_game_letter sheet.name
 
--- 2. there are 1 to 8 seats, the least count not above the greatest
+-- 2. there are 1 to 16 seats, the least count not above the greatest
 abbrev pub seats_fit : Sheet → Bool
-seats_fit sheet = nat_le 1 sheet.min_seats && nat_le sheet.min_seats sheet.max_seats && nat_le sheet.max_seats 8
+seats_fit sheet = nat_le 1 sheet.min_seats && nat_le sheet.min_seats sheet.max_seats && nat_le sheet.max_seats 16
 
 -- 3. there are 1 to 64 moves with distinct names
 abbrev pub moves_fit : Sheet → Bool

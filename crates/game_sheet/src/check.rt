@@ -10,7 +10,7 @@ ghost use Rattle.game_sheet.specs.declared.sheet.TurnRow.{TurnRow};
 ghost use Rattle.game_sheet.specs.SheetFits.{SheetFits};
 ghost use Rattle.game_sheet.specs.SheetRules.{are_distinct, are_named, broken, first_broken, is_game_letter, is_limit, is_name, is_once, is_there, kept, list_fits, lists_fit, moves_fit, name_fits, nexts_fit, order_fits, orders_fit, phases_fit, place_fits, seats_fit, spec_fits, specs_fit, stages_fit, turn_fits, turns_fit, where_given};
 
-use crate::ids::{MoveId, PhaseId, Seat, SpecId, StageId};
+use crate::ids::{MOST_SEATS, MoveId, PhaseId, Seat, SpecId, StageId};
 use crate::list::List;
 use crate::sheet::{MoveRow, Order, PhaseRow, Place, Sheet, SpecRow, StageRow, TurnRow};
 
@@ -24,7 +24,7 @@ pub struct SheetFault {
 /// Whether a sheet keeps the ten rules of sheets; the fault names the first that it breaks. It takes no memory.
 ///
 /// 1. The name is 1 to 32 lower-case letters, digits and dashes.
-/// 2. There are 1 to 8 seats, the least count not above the greatest.
+/// 2. There are 1 to 16 seats, the least count not above the greatest.
 /// 3. There are 1 to 64 moves, whose names are 1 to 32 letters and digits and distinct.
 /// 4. There are at most 16 phases, named likewise.
 /// 5. There are at most 16 stages, named likewise.
@@ -121,7 +121,7 @@ fn are_letters(name: &[u8]) -> bool
 fn seats_fit(sheet: &Sheet) -> bool
     ensures { result ≡ seats_fit sheet.now }
 {
-    sheet.min_seats >= 1 && sheet.min_seats <= sheet.max_seats && sheet.max_seats <= 8
+    sheet.min_seats >= 1 && sheet.min_seats <= sheet.max_seats && sheet.max_seats <= MOST_SEATS
 }
 
 /// A row of a table, which has a name.

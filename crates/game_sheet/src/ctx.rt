@@ -11,15 +11,15 @@ use std::alloc::Global;
 /// What every viewer sees of a match besides the game's own state.
 #[derive(Drop)]
 pub struct Ctx {
-    /// How many seats the match has, 1 to 8.
+    /// How many seats the match has, 1 to 16.
     pub seats: u8,
     /// Which turn it is, counted over the whole match.
     pub turn: u32,
     /// The seat whose turn it is.
     pub current: Seat,
-    /// The play order in force.
+    /// The play order in force: 1 to 64 seats, each below `seats`.
     pub order: List<Seat>,
-    /// The place of the current seat in the play order.
+    /// The place of the current seat in the play order, below its length.
     pub pos: u8,
     /// The phase, if any.
     pub phase: Option<PhaseId>,

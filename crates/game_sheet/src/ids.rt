@@ -7,8 +7,14 @@ use std::marker::Model;
 /// A player's place at the table, from 0.
 pub type Seat = u8;
 
+/// The greatest count of seats that a match may have.
+pub const MOST_SEATS: u8 = 16;
+
 /// How many actions a match has accepted.
 pub type Number = u32;
+
+/// How many actions a match accepts at most.
+pub const MOST_ACTIONS: Number = 4096;
 
 /// The place of a move in a sheet's table of moves.
 #[derive(Clone, Copy, PartialEq, Eq, Debug)]

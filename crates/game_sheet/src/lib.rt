@@ -25,7 +25,7 @@ pub use bytes::Bytes;
 pub use check::{SheetFault, check_sheet, unbroken};
 pub use ctx::Ctx;
 pub use event_queue::{Crowded, EventQueue};
-pub use ids::{MoveId, Number, PhaseId, Seat, SpecId, StageId};
+pub use ids::{MOST_ACTIONS, MOST_SEATS, MoveId, Number, PhaseId, Seat, SpecId, StageId};
 pub use key::Key;
 pub use list::List;
 pub use match_name::MatchName;

@@ -212,7 +212,7 @@ fn spoiled_tables(alloc: Global, nr: u8) -> Result<Sheet, NoMemory> {
         0 => with_name(alloc, ""),
         1 => with_name(alloc, "Piles"),
         2 => with_seats(alloc, 5, 4),
-        3 => with_seats(alloc, 2, 9),
+        3 => with_seats(alloc, 2, 17),
         4 => with_moves(alloc, many_moves(alloc, 0)?),
         5 => with_moves(alloc, moves(alloc, &["take", "pass", "take"])?),
         6 => with_phases(alloc, phases(alloc, &["draw", "play 2"], false)?),
@@ -249,7 +249,7 @@ fn at_a_bound(alloc: Global, nr: u8) -> Result<Sheet, NoMemory> {
     match nr {
         0 => with_name(alloc, "a-game-of-32-letters-or-digits-9"),
         1 => with_name(alloc, "a-game-of-33-letters-or-digits-10"),
-        2 => with_seats(alloc, 8, 8),
+        2 => with_seats(alloc, 16, 16),
         3 => with_moves(alloc, many_moves(alloc, 32)?),
         4 => with_moves(alloc, many_moves(alloc, 33)?),
         5 => with_phases(
