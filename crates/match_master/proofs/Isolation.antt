@@ -5,7 +5,7 @@ use Rattle.game_sheet.specs.MatchName.{Name}
 use Rattle.game_sheet.specs.declared.sheet.Sheet.{Sheet}
 use Rattle.game_trait.specs.Rules.{Rules}
 use Rattle.player_sight.specs.SnapshotData.{Snap}
-use Rattle.room_desk.specs.Entry.{Entry}
+use Rattle.room_object.specs.Entry.{Entry}
 use Rattle.match_master.specs.declared.call.RoomCall.{RoomCall}
 use Rattle.match_master.specs.Alike.{without_takes, IsSession, AreAlike, AreToldTheSame, IsToldOf}
 use Rattle.match_master.specs.Attachment.{Attachment}

@@ -1,7 +1,7 @@
 -- What waits for a pass is what is kept for it.
 use Rattle.std.proofs.Common.{◌≡◌, ◌+◌, ℕ, List, [], ◌∷◌, ◌++◌, length, Option, Some, None, option_map, refl, sym, ap, ◌∙◌, arith, length-append}
 use Rattle.game_trait.specs.Rules.{Rules}
-use Rattle.room_desk.specs.Entry.{Entry}
+use Rattle.room_object.specs.Entry.{Entry}
 use Rattle.match_master.specs.declared.call.RoomCall.{RoomCall}
 use Rattle.match_master.specs.Attachment.{Attachment}
 use Rattle.match_master.specs.Held.{bytes_waiting, stored}

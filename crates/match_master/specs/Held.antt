@@ -11,7 +11,7 @@ use Rattle.match_master.specs.declared.reply.RoomReply.{RoomReply}
 use Rattle.match_master.specs.declared.reply.RoomReply.TheVariants as answer
 use Rattle.match_master.specs.Attachment.{Attachment}
 use Rattle.match_master.specs.Calls.{create, create_reply, joined, join_reply, attach, attach_reply, detach_reply, submit_reply}
-use Rattle.room_desk.specs.Entry.{Entry}
+use Rattle.room_object.specs.Entry.{Entry}
 use Rattle.match_master.specs.History.{serials_after, standing_after, attached_after, serials, standing, attached}
 use Rattle.match_master.specs.Match.{Match, log_of}
 use Rattle.match_master.specs.Reply.{taken}

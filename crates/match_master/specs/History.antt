@@ -2,7 +2,7 @@
 -- and who is attached. An entry that was refused for want of memory changes nothing.
 use Rattle.std.specs.Prelude.{ℕ, ◌==◌, List, [], ◌∷◌, if◌then◌else◌, Option, None}
 use Rattle.game_trait.specs.Rules.{Rules}
-use Rattle.room_desk.specs.Entry.{Entry}
+use Rattle.room_object.specs.Entry.{Entry}
 use Rattle.match_master.specs.declared.call.RoomCall.{RoomCall}
 use Rattle.match_master.specs.declared.call.RoomCall.TheVariants.{Create, Join, Attach, Submit, Take, Detach}
 use Rattle.match_master.specs.Attachment.{Attachment}

@@ -2,7 +2,7 @@
 -- that says why.
 use Rattle.std.specs.Prelude.{◌≡◌, ◌≢◌, ℕ, List, ◌∷◌, ◌++◌, Some}
 use Rattle.game_trait.specs.Rules.{Rules}
-use Rattle.room_desk.specs.Entry.{Entry}
+use Rattle.room_object.specs.Entry.{Entry}
 use Rattle.wire_json.specs.declared.reason.Reason.{Reason}
 use Rattle.wire_json.specs.declared.verdict.Verdict.{Verdict}
 use Rattle.wire_json.specs.declared.verdict.Verdict.TheVariants as verdict

@@ -3,7 +3,7 @@ use Rattle.std.specs.Prelude.{ℕ, List, [], if◌then◌else◌, Option, Some, 
 use Rattle.game_trait.specs.Rules.{Rules}
 use Rattle.game_sheet.specs.MatchName.{Name}
 use Rattle.game_sheet.specs.declared.act.Bye.{Bye}
-use Rattle.room_desk.specs.Entry.{Entry}
+use Rattle.room_object.specs.Entry.{Entry}
 use Rattle.match_master.specs.declared.call.RoomCall.{RoomCall}
 use Rattle.match_master.specs.declared.call.RoomCall.TheVariants.{Create, Join, Attach, Submit, Take, Detach}
 use Rattle.match_master.specs.declared.reply.RoomReply.{RoomReply}

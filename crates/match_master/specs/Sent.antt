@@ -1,7 +1,7 @@
 -- The lines of a session's stream: all of them, and those that its Takes handed out.
 use Rattle.std.specs.Prelude.{ℕ, List, [], ◌∷◌, ◌++◌, Option, Some, None, option_map}
 use Rattle.game_trait.specs.Rules.{Rules}
-use Rattle.room_desk.specs.Entry.{Entry}
+use Rattle.room_object.specs.Entry.{Entry}
 use Rattle.match_master.specs.declared.call.RoomCall.{RoomCall}
 use Rattle.match_master.specs.Attachment.{Attachment}
 use Rattle.match_master.specs.History.{standing, attached}

@@ -2,7 +2,7 @@
 use Rattle.std.specs.Prelude.{ℕ, ◌==◌, List, [], ◌∷◌, if◌then◌else◌, Option, Some, None}
 use Rattle.game_trait.specs.Rules.{Rules}
 use Rattle.player_sight.specs.SnapshotData.{Snap}
-use Rattle.room_desk.specs.Entry.{Entry}
+use Rattle.room_object.specs.Entry.{Entry}
 use Rattle.match_master.specs.declared.call.RoomCall.{RoomCall}
 use Rattle.match_master.specs.Attachment.{Attachment}
 use Rattle.match_master.specs.Match.{Match, number_of}

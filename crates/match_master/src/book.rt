@@ -11,7 +11,7 @@ ghost use Rattle.match_master.specs.Attachment.{Attachment, begun_by};
 ghost use Rattle.match_master.specs.Calls.{create, create_reply, joined, join_reply, refused_as, attach, attach_at, attach_reply, unless_barred, detach_reply};
 ghost use Rattle.match_master.specs.History.{attached};
 ghost use Rattle.match_master.specs.Match.{Match};
-ghost use Rattle.room_desk.specs.Entry.{Entry as Made};
+ghost use Rattle.room_object.specs.Entry.{Entry as Made};
 ghost use Rattle.match_master.specs.declared.call.RoomCall.{RoomCall as Asks};
 ghost use Rattle.match_master.specs.Refusal.{Refuses};
 ghost use Rattle.match_master.specs.Reply.{reply};

@@ -1,7 +1,7 @@
 //! Laws of rooms, over every history. There is nothing to run.
 
 ghost use Rattle.std.specs.Prelude.{ℕ, List};
-ghost use Rattle.room_desk.specs.Entry.{Entry};
+ghost use Rattle.room_object.specs.Entry.{Entry};
 ghost use Rattle.match_master.specs.Alike.{AreAlike, AreToldTheSame, IsSession, IsToldOf};
 ghost use Rattle.match_master.specs.Attachment.{Attachment};
 ghost use Rattle.match_master.specs.Match.{Match};

@@ -6,7 +6,7 @@ use crate::book::Book;
 use crate::call::RoomCall;
 use crate::reply::RoomReply;
 use game_trait::Game;
-use room_desk::Object;
+use room_object::Object;
 
 impl<X: Game + Drop> Object for Book<X> {
     ghost use Rattle.match_master.specs.Held.{StandsFor, is_starved, may_starve};

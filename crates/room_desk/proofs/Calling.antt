@@ -1,7 +1,7 @@
 -- A seat from the drawing of its ticket to the turn.
 use Rattle.std.proofs.Common.{◌≡◌, ℕ, true, false, List, [], ◌∷◌, ◌++◌, Option, Some, None, refl, sym, ap, ◌∙◌, subst}
 use Rattle.atomic_table.specs.Table.{Me, rest}
-use Rattle.room_desk.specs.Entry.{Entry}
+use Rattle.room_object.specs.Entry.{Entry}
 use Rattle.room_desk.specs.History.{of_pass}
 use Rattle.room_desk.specs.Turns.{View, past, view}
 use Rattle.room_desk.specs.Plays.{Takes, Entered, Tells}

@@ -6,7 +6,7 @@ use mathlib.Core.Option as maybe
 use native.Mathlib.Decide.{ℕ_discrete}
 use lib.ListN.{get_elem?}
 use Rattle.atomic_table.specs.Table.{State, Me, Final, Seen}
-use Rattle.room_desk.specs.Entry.{Entry}
+use Rattle.room_object.specs.Entry.{Entry}
 use Rattle.room_desk.specs.History.{DeskId, Held, held, dealt, Unites, of_pass, Begins}
 use Rattle.room_desk.specs.Turns.{Past, View, Turns, Desked, Has, pasts_of, tickets_of, how_many, view}
 use Rattle.room_desk.specs.Plays.{United, past_of}

@@ -4,7 +4,7 @@ use Rattle.std.proofs.Math.Nat.{mod-add-mod}
 use mathlib.Core.Option.{some, none}
 use lib.ListN.{get_elem?}
 use Rattle.atomic_table.specs.Table.{State, Me, Allows, step, stepped, keeps}
-use Rattle.room_desk.specs.Entry.{Entry}
+use Rattle.room_object.specs.Entry.{Entry}
 use Rattle.room_desk.specs.Turns.{View, Fits, Turns, Desked, pasts_of, tickets_of, how_many, view, fresh}
 use Rattle.room_desk.specs.Plays.{Draws}
 use Rattle.room_desk.proofs.Totals.{total_set, only_one}

@@ -4,7 +4,7 @@ use mathlib.Core.Option.{some, none, some-injective}
 use mathlib.Core.Option as maybe
 use lib.ListN.{get_elem?}
 use Rattle.atomic_table.specs.Table.{State, Me, Allows, step, stepped, takes, gives}
-use Rattle.room_desk.specs.Entry.{Entry}
+use Rattle.room_object.specs.Entry.{Entry}
 use Rattle.room_desk.specs.History.{DeskId, held, dealt, of_pass}
 use Rattle.room_desk.specs.Turns.{Past, View, Fits, Turns, Desked, Has, total, pasts_of, tickets_of, past, view, fresh, untold}
 use Rattle.room_desk.specs.Plays.{Reaches, Opens}

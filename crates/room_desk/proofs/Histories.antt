@@ -1,7 +1,7 @@
 -- Histories that begin with one another, and the entries of one pass in them.
 use Rattle.std.proofs.Common.{◌≡◌, ◌≢◌, ℕ, cond, List, [], ◌∷◌, ◌++◌, length, refl, ap, sym, ◌∙◌, arith, eqb, eq-eqb, ne_eqb, length-append}
 use Rattle.std.proofs.lemmas.List.Elements.{filter-append}
-use Rattle.room_desk.specs.Entry.{Entry}
+use Rattle.room_object.specs.Entry.{Entry}
 use Rattle.room_desk.specs.History.{of_pass, Begins}
 
 module _ {C : Type 0} where

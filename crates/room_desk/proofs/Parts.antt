@@ -6,7 +6,7 @@ use native.Mathlib.Decide.{ℕ_discrete}
 use lib.ListN.{get_elem?}
 use Rattle.atomic_table.specs.Table.{Splits, Joins}
 use Rattle.atomic_table.proofs.Lists.{set_here, set_else, at_longer, at_last}
-use Rattle.room_desk.specs.Entry.{Entry}
+use Rattle.room_object.specs.Entry.{Entry}
 use Rattle.room_desk.specs.History.{of_pass, Begins}
 use Rattle.room_desk.specs.Turns.{Past, View, Fits, Desked, Holder, Has, pasts_of, tickets_of, how_many, past}
 use Rattle.room_desk.specs.Plays.{left_of, right_of, other_pasts, first_past, joined, spent}

@@ -8,7 +8,7 @@ use native.Mathlib.Decide.{ℕ_discrete}
 use lib.ListN.{get_elem?}
 use Rattle.atomic_table.specs.Table.{State, Me, Allows, step, stepped, gives, put_back}
 use Rattle.atomic_table.proofs.Lists.{set_here}
-use Rattle.room_desk.specs.Entry.{Entry}
+use Rattle.room_object.specs.Entry.{Entry}
 use Rattle.room_desk.specs.History.{of_pass, Begins}
 use Rattle.room_desk.specs.Turns.{Past, View, Fits, Turns, Desked, Holder, Has, pasts_of, tickets_of, how_many, past, view, number_in, seen_in}
 use Rattle.room_desk.specs.Plays.{Passes}

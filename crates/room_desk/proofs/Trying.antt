@@ -8,9 +8,10 @@ use lib.ListN.{get_elem?}
 use prog.Atomic.{either}
 use Rattle.atomic_table.specs.Table.{State, Me, Act, Allows, Valid, step, stepped, keeps, takes, carried_after}
 use Rattle.atomic_table.proofs.Lists.{set_here, set_again, one_turn}
-use Rattle.room_desk.specs.Entry.{Entry}
+use Rattle.room_object.specs.Entry.{Entry}
 use Rattle.room_desk.specs.History.{of_pass, Begins}
 use Rattle.room_desk.specs.Turns.{Past, View, Fits, Turns, Desked, Has, AtHome, pasts_of, tickets_of, past, view, number_in, seen_in}
+use Rattle.room_desk.specs.declared.desk.TheConstants.{MOST_PASSES}
 use Rattle.room_desk.specs.Plays.{Tries, Takes}
 use Rattle.room_desk.proofs.Totals.{total_set, total_less, length_at}
 use Rattle.room_desk.proofs.Seats.{each_set, at_once, apart_set, holder_set}
@@ -19,7 +20,7 @@ use Rattle.room_desk.proofs.Draw.{opened}
 
 module _ {C O : Type 0} (number : O → ℕ) (stands_for : O → List (Entry C) → Type 0) where
   -- no more tickets are out than there are passes
-  pub few_out : (count : ℕ) (s : State (Option O) (View C)) (g : Turns number stands_for count s) → g.drawn ≤ 32 + length g.log
+  pub few_out : (count : ℕ) (s : State (Option O) (View C)) (g : Turns number stands_for count s) → g.drawn ≤ MOST_PASSES + length g.log
   few_out count s g =
       let less = total_less tickets_of pasts_of s.views (λ j u e. (g.fits j u e).owned) in
       let sum = g.pasts in let out = g.tickets in let small = g.small in omega arith

@@ -2,7 +2,7 @@
 -- A history is the list of its entries, the latest first.
 use Rattle.std.specs.Prelude.{ℕ, ◌≡◌, ◌==◌, zero, suc, List, [], ◌∷◌, ◌++◌, filter, All, Any}
 use Rattle.atomic_table.specs.Seated.{TableId}
-use Rattle.room_desk.specs.Entry.{Entry}
+use Rattle.room_object.specs.Entry.{Entry}
 
 -- which desk it is, and the number of its object
 pub record DeskId : Type 0 where

@@ -1,4 +1,3 @@
-pub mod Entry
 pub mod History
 pub mod Turns
 pub mod Plays

@@ -1,7 +1,7 @@
 -- What each step on a desk's table tells the caller that makes it, and how seats are split and joined.
 use Rattle.std.specs.Prelude.{ℕ, ◌≡◌, ◌%◌, ◌^◌, ◌==◌, true, false, List, [], ◌∷◌, ◌++◌, Option, Some, None, MatchBool}
 use Rattle.atomic_table.specs.Table.{Me, Step}
-use Rattle.room_desk.specs.Entry.{Entry}
+use Rattle.room_object.specs.Entry.{Entry}
 use Rattle.room_desk.specs.History.{Held, of_pass, Begins}
 use Rattle.room_desk.specs.Turns.{Past, View, Has, past, view, number_in, seen_in}
 

@@ -4,8 +4,9 @@ use mathlib.Core.Option.{some, none}
 use mathlib.Core.Option as maybe
 use lib.ListN.{get_elem?}
 use Rattle.atomic_table.specs.Table.{State}
-use Rattle.room_desk.specs.Entry.{Entry}
+use Rattle.room_object.specs.Entry.{Entry}
 use Rattle.room_desk.specs.History.{of_pass, Begins}
+use Rattle.room_desk.specs.declared.desk.TheConstants.{MOST_PASSES}
 
 -- the number of a pass, and the history that was seen under it
 pub record Past (C : Type 0) : Type 0 where
@@ -96,7 +97,7 @@ module _ {C O : Type 0} (number : O → ℕ) (stands_for : O → List (Entry C) 
     pub words : s.words ≡ (drawn % 2 ^ 64) ∷ (length log % 2 ^ 64) ∷ []
     -- the seats have all passes, and the tickets of the turns to come, each once
     pub pasts : total pasts_of s.views ≡ count
-    pub small : count ≤ 32
+    pub small : count ≤ MOST_PASSES
     pub tickets : total tickets_of s.views + length log ≡ drawn
     pub fits : (j : ℕ) (v : View C) → get_elem? s.views j ≡ some v → Fits name log drawn seat_of j v
     pub apart : (i j : ℕ) (v w : View C) (t : ℕ) → get_elem? s.views i ≡ some v → get_elem? s.views j ≡ some w → v.ticket ≡ Some t → w.ticket ≡ Some t → i ≡ j
@@ -106,7 +107,7 @@ module _ {C O : Type 0} (number : O → ℕ) (stands_for : O → List (Entry C) 
 
   -- a desk whose object isn't in its slot yet: there is one seat, and both words are 0
   abbrev pub Unopened : ℕ → Bool → maybe.Option (Option O) → State (Option O) (View C) → Type 0
-  Unopened count taken home s = (s.words ≡ 0 ∷ 0 ∷ []) × (s.views ≡ view None (fresh 0 count) None taken ∷ []) × (s.homes ≡ home ∷ []) × (0 < count) × (count ≤ 32)
+  Unopened count taken home s = (s.words ≡ 0 ∷ 0 ∷ []) × (s.views ≡ view None (fresh 0 count) None taken ∷ []) × (s.homes ≡ home ∷ []) × (0 < count) × (count ≤ MOST_PASSES)
 
   -- the rule: the desk isn't open, its slot being at home or taken to put the object in, or it is open
   abbrev pub Desked : ℕ → State (Option O) (View C) → Type 0

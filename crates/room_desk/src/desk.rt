@@ -1,12 +1,12 @@
 //! A desk: an object, and the order in which threads make calls on it.
 
 ghost use Rattle.std.specs.Prelude.{◌≡◌, ◌+◌, ◌<◌, ◌≤◌, ◌↔◌, ◌++◌, List, [], None, Some, false, length, map, All, IfOk, IfErr, IsErr, vec_len};
-ghost use Rattle.room_desk.specs.Entry.{Entry};
+ghost use Rattle.room_object.specs.Entry.{Entry};
 ghost use Rattle.room_desk.specs.History.{dealt, Unites};
 ghost use Rattle.room_desk.specs.Turns.{fresh, view};
 ghost use Rattle.room_desk.specs.Plays.{past_of, United};
 
-use crate::object::Object;
+use room_object::Object;
 use crate::pass::Pass;
 use crate::turns::{Beginning, Open, Part, Reach, Turns, Unite};
 use crate::view::View;
@@ -15,6 +15,9 @@ use game_sheet::NoMemory;
 use std::alloc::Global;
 use std::marker::Model;
 use std::snapshot::Snapshot;
+
+/// The most passes of a desk.
+pub const MOST_PASSES: u32 = 65_536;
 
 /// A desk. Contracts see it as which it is, its object's number, and how many passes it was set up with.
 #[derive(Drop)]
@@ -46,13 +49,13 @@ pub struct PassesOut<O: Object> {
 }
 
 impl<O: Object> Desk<O> {
-    /// Sets up a desk over an object that has taken no call, with 1 to 32 passes, numbered from 0. Without memory the object is dropped.
+    /// Sets up a desk over an object that has taken no call, with 1 to `MOST_PASSES` passes, numbered from 0. Without memory the object is dropped.
     pub fn set_up(
         alloc: Global,
         object: O,
         passes: u32,
     ) -> Result<(Desk<O>, Vec<Pass<O>>), NoMemory>
-        requires count { (0 < passes) × (passes ≤ 32) }
+        requires count { (0 < passes) × (passes ≤ MOST_PASSES) }
         requires empty { O.stands_for object [] }
         ensures desk { IfOk result (λ r. (r.0.passes ≡ passes) × (r.0.desk.object ≡ O.number object)) }
         ensures passes { IfOk result (λ r. r.1.items ≡ dealt r.0.desk passes) }
@@ -69,7 +72,7 @@ impl<O: Object> Desk<O> {
         object: O,
         passes: u32,
     ) -> Result<(Desk<O>, Seat<Option<O>, View<O::Call>>), NoMemory>
-        requires count { (0 < passes) × (passes ≤ 32) }
+        requires count { (0 < passes) × (passes ≤ MOST_PASSES) }
         requires empty { O.stands_for object [] }
         ensures desk { IfOk result (λ r. (r.0.passes ≡ passes) × (r.0.desk.object ≡ O.number object)) }
         ensures seat { IfOk result (λ r. (r.1.table_id ≡ r.0.desk.table) × (r.1.me ≡ (view (Some (O.number object)) (fresh 0 passes) None false, []))) }

@@ -2,15 +2,10 @@
 #![tactic(auto)]
 
 mod desk;
-mod object;
 mod pass;
 mod turn;
 mod turns;
 mod view;
 
-pub use desk::{Desk, PassesOut};
-pub use object::Object;
+pub use desk::{Desk, MOST_PASSES, PassesOut};
 pub use pass::Pass;
-
-#[cfg(test)]
-mod tests;

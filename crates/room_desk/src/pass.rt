@@ -3,7 +3,7 @@
 ghost use Rattle.std.specs.Prelude.{◌≡◌, ◌∷◌, [], Some, None, false};
 ghost use Rattle.room_desk.specs.Turns.{past, view};
 
-use crate::object::Object;
+use room_object::Object;
 use crate::view::View;
 use atomic_table::Seat;
 use std::marker::Model;

@@ -6,13 +6,13 @@
 //! nothing of the system. No clause speaks of waiting.
 
 ghost use Rattle.std.specs.Prelude.{◌≡◌, ℕ, ◌∷◌, ◌++◌, ◌%◌, ◌^◌, [], Some, None, true, false};
-ghost use Rattle.room_desk.specs.Entry.{entry};
+ghost use Rattle.room_object.specs.Entry.{entry};
 ghost use Rattle.room_desk.specs.History.{Called, held};
 ghost use Rattle.room_desk.specs.Turns.{past, view, number_in, seen_in};
 ghost use Rattle.room_desk.specs.Plays.{noted, Rests, Takes, Waits, Entered, Tells};
 
 use crate::desk::Desk;
-use crate::object::Object;
+use room_object::Object;
 use crate::pass::Pass;
 use crate::turns::{Asked, Draw, PassOn, Said, Try};
 use crate::view::View;

@@ -1,6 +1,6 @@
 //! The rule of a desk's table, and what each of its steps tells.
 
-use crate::object::Object;
+use room_object::Object;
 use crate::view::View;
 use atomic_table::{Join, Play, Split, TableRule};
 use std::marker::{Brand, PhantomData};
@@ -76,7 +76,7 @@ impl<O: Object, J: Said<O::Call>> Play<Option<O>, View<O::Call>> for PassOn<J> {
 /// The entry that passing the turn on adds. The proof of each call picks it.
 pub trait Said<C> {
     ghost use Rattle.std.specs.Prelude.{List};
-    ghost use Rattle.room_desk.specs.Entry.{Entry};
+    ghost use Rattle.room_object.specs.Entry.{Entry};
 
     ghost said: { List (Entry C) };
 }

@@ -1,7 +1,7 @@
 use Rattle.std.proofs.Common.{refl, ap, sym, ◌∙◌, arith, subst, List, ◌∷◌, [], ◌+◌, ◌++◌, ◌%◌, ◌^◌, Some, None, Option, false}
 use mathlib.Core.Option.{none}
 use Rattle.atomic_table.specs.Table.{Me, Allows, step}
-use Rattle.room_desk.specs.Entry.{Entry, entry}
+use Rattle.room_object.specs.Entry.{Entry, entry}
 use Rattle.room_desk.specs.History.{SetUp}
 use Rattle.room_desk.specs.Turns.{View, Desked, view, past, seen_in, number_in}
 use Rattle.room_desk.specs.Plays.{Passes}

@@ -1,5 +1,5 @@
 use Rattle.std.proofs.Common.{ap, ◌∙◌, map, ◌≡◌, ◌∷◌, ◌++◌, refl, List, ℕ}
-use Rattle.room_desk.specs.Entry.{Entry, entry}
+use Rattle.room_object.specs.Entry.{Entry, entry}
 use Rattle.room_desk.specs.Turns.{seen_in}
 use Rattle.room_desk.proofs.Calling.{tells}
 use Rattle.room_desk.proofs.Histories.{one_more}

@@ -1,5 +1,5 @@
 use Rattle.std.proofs.Common.{map}
-use Rattle.room_desk.specs.Entry.{entry}
+use Rattle.room_object.specs.Entry.{entry}
 use Rattle.room_desk.proofs.desk.Desk.turn.Given as goal
 
 -- what is passed on is the call that the turn is for, with its reply's want of memory

@@ -1,12 +1,12 @@
 //! What a desk keeps: an object that takes one call at a time and stands for the list of the calls that it took.
 
 ghost use Rattle.std.specs.Prelude.{◌≡◌, ◌∷◌, true};
-ghost use Rattle.room_desk.specs.Entry.{Entry};
+ghost use Rattle.room_object.specs.Entry.{Entry};
 
 /// An object under a desk. Its answers are those of one history, the list of its entries, latest first.
 pub trait Object: Drop {
     ghost use Rattle.std.specs.Prelude.{ℕ, Bool, List};
-    ghost use Rattle.room_desk.specs.Entry.{Entry};
+    ghost use Rattle.room_object.specs.Entry.{Entry};
 
     /// What is asked of it.
     type Call: Drop;

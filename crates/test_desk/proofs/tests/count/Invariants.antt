@@ -1,5 +1,5 @@
 use Rattle.std.proofs.Common.{◌≡◌}
-use Rattle.room_desk.proofs.tests.count.Given as goal
+use Rattle.test_desk.proofs.tests.count.Given as goal
 
 -- the pass stays one of its desk
 abbrev pub invariant-loop : goal.invariant-loop

@@ -2,7 +2,8 @@
 
 ghost use Rattle.std.specs.Prelude.{◌≡◌, All};
 
-use super::*;
+use room_desk::{Desk, Pass, PassesOut};
+use room_object::Object;
 use std::alloc::Global;
 use std::process::Abort;
 use std::sync::Wait;
