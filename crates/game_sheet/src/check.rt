@@ -12,7 +12,8 @@ ghost use Rattle.game_sheet.specs.SheetRules.{are_distinct, are_named, broken, f
 
 use crate::ids::{MOST_SEATS, MoveId, PhaseId, Seat, SpecId, StageId};
 use crate::list::List;
-use crate::sheet::{MoveRow, Order, PhaseRow, Place, Sheet, SpecRow, StageRow, TurnRow};
+use crate::names::Named;
+use crate::sheet::{Order, PhaseRow, Place, Sheet, SpecRow, StageRow, TurnRow};
 
 /// A sheet breaks a rule.
 #[derive(Clone, Copy, PartialEq, Eq, Debug)]
@@ -122,40 +123,6 @@ fn seats_fit(sheet: &Sheet) -> bool
     ensures { result ≡ seats_fit sheet.now }
 {
     sheet.min_seats >= 1 && sheet.min_seats <= sheet.max_seats && sheet.max_seats <= MOST_SEATS
-}
-
-/// A row of a table, which has a name.
-trait Named {
-    ghost use Rattle.std.specs.Prelude.{◌≡◌, List, ℕ};
-
-    ghost name: { Self → List ℕ };
-
-    fn name(&self) -> &str
-        ensures { result.now ≡ name self.now };
-}
-
-impl Named for MoveRow {
-    ghost name = { λ row. row.name };
-
-    fn name(&self) -> &str {
-        self.name.as_str()
-    }
-}
-
-impl Named for PhaseRow {
-    ghost name = { λ row. row.name };
-
-    fn name(&self) -> &str {
-        self.name.as_str()
-    }
-}
-
-impl Named for StageRow {
-    ghost name = { λ row. row.name };
-
-    fn name(&self) -> &str {
-        self.name.as_str()
-    }
 }
 
 fn are_named<Row: Named>(rows: &[Row]) -> bool

@@ -12,12 +12,14 @@ mod key;
 mod list;
 mod match_name;
 mod memory;
+mod names;
 mod refusal;
 mod sheet;
 mod short;
 #[cfg(test)]
 mod tests;
 mod text;
+mod viewer;
 
 pub use act::{Act, Bye, Event, EventKind, Outcome};
 pub use args::{Arg, Args};
@@ -34,3 +36,4 @@ pub use refusal::{GameNo, GameRule};
 pub use sheet::{MoveRow, Order, PhaseRow, Place, Sheet, SpecRow, StageRow, TurnRow};
 pub use short::Short;
 pub use text::Text;
+pub use viewer::{Viewer, seat_of};
