@@ -1,7 +1,7 @@
 //! A tape of random words for one action after another.
 
-ghost use Rattle.std.specs.Prelude.{◌≡◌, ◌+◌, ◌-◌, ◌<◌, ◌≤◌, ◌^◌, Some, None, [], ◌∷◌, length, IfOk, OnOk, OnErr, IfSome, IsPermutation};
-ghost use Rattle.dice_words.specs.Dice.{Rolled, shuffled};
+ghost use Rattle.std.specs.Prelude.{◌≡◌, ◌+◌, ◌-◌, ◌<◌, ◌≤◌, ◌^◌, Some, None, [], ◌∷◌, length, IfOk, OnOk, OnErr, IfSome, IsPermutation, option_map, slice_get};
+ghost use Rattle.dice_words.specs.Dice.{Rolled, die, shuffled};
 ghost use Rattle.dice_words.specs.Strip.{live, blank, begun, place_of, Follows};
 
 use crate::spent::Spent;
@@ -88,6 +88,35 @@ impl Tape {
         Ok(stream.next())
     }
 
+    /// The next word, which stays the next one. It is `Spent` exactly where the action has no word left.
+    pub fn peek(&mut self) -> Result<u32, Spent>
+        ensures next { IfOk result (λ word. slice_get self.old.left 0 ≡ Some word) }
+        ensures spent { OnErr result (self.old.left ≡ []) }
+        ensures kept { self.new ≡ self.old }
+    {
+        let Some(stream) = &mut self.stream else {
+            return Err(Spent);
+        };
+        if self.used == MOST_WORDS {
+            return Err(Spent);
+        }
+        let place = stream.place();
+        let word = stream.next();
+        stream.go_to(place);
+        Ok(word)
+    }
+
+    /// The face that a die with `n` faces would show, whose word stays the next one. It is `Spent` exactly where the action has no word left.
+    pub fn peek_die(&mut self, n: u32) -> Result<u32, Spent>
+        requires { 1 ≤ n }
+        ensures shown { IfOk result (λ face. option_map (die n) (slice_get self.old.left 0) ≡ Some face) }
+        ensures spent { OnErr result (self.old.left ≡ []) }
+        ensures kept { self.new ≡ self.old }
+    {
+        let word = self.peek()?;
+        Ok(face(n, word))
+    }
+
     /// A die with `n` faces, from 1 to `n`, rolled by the next word: 1 and the whole part of the word times `n` over 2^32.
     ///
     /// It is `Spent` exactly where the action has no word left, and the tape then stays as it was.
@@ -102,7 +131,7 @@ impl Tape {
         ensures follows { Follows self.old self.new }
     {
         let word = self.word()?;
-        Ok(1 + (u64::from(word) * u64::from(n) / (1 << 32)) as u32)
+        Ok(face(n, word))
     }
 
     /// Shuffles a list: each place i from the last down to 1 is exchanged with the place one below a die of i + 1 faces.
@@ -158,6 +187,16 @@ impl Tape {
             self.used = 0;
         }
     }
+}
+
+/// The face of a die with `n` faces that a word shows.
+fn face(n: u32, word: u32) -> u32
+    requires { 1 ≤ n }
+    ensures value { result ≡ die n word }
+    ensures at_least { 1 ≤ result }
+    ensures at_most { result ≤ n }
+{
+    1 + (u64::from(word) * u64::from(n) / (1 << 32)) as u32
 }
 
 #[cfg(test)]

@@ -3,7 +3,5 @@ pub mod Gives
 pub mod InSheet
 pub mod Lawful
 pub mod Offers
-pub mod Pot
-pub mod PotLaws
 pub mod Queues
 pub mod Rules

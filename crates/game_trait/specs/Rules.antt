@@ -1,7 +1,8 @@
 -- What a game means: its sheet, and each of its functions over states of the type G, the context and the words that the action has left.
 -- Seats, places in the sheet's tables and arguments are plain numbers here. A hook that leaves the state gives the same state.
-use Rattle.std.specs.Prelude.{ℕ, ℤ, Bool, true, false, List, [], Option, None}
+use Rattle.std.specs.Prelude.{ℕ, Bool, true, false, List, [], Option, None}
 use Rattle.game_sheet.specs.declared.act.Outcome.{Outcome}
+use Rattle.game_sheet.specs.declared.args.Arg.{Arg}
 use Rattle.game_sheet.specs.declared.ctx.Ctx.{Ctx}
 use Rattle.game_sheet.specs.declared.sheet.Sheet.{Sheet}
 use Rattle.game_trait.specs.Deed.{Barred, Deed, Done, Lack}
@@ -13,7 +14,7 @@ pub record Rules (G : Type 0) : Type 0 where
   -- the first state, of the number of seats
   pub setup : ℕ → List ℕ → Deed G Lack
   -- the state after a move, of the seat, the place of the move and the arguments
-  pub play : G → Ctx → ℕ → ℕ → List ℤ → List ℕ → Deed G Barred
+  pub play : G → Ctx → ℕ → ℕ → List Arg → List ℕ → Deed G Barred
   -- after a move, of the seat that made it
   pub on_move : G → Ctx → ℕ → List ℕ → Deed G Lack
   -- as a turn begins, and as it ends
@@ -36,7 +37,7 @@ pub record Rules (G : Type 0) : Type 0 where
   -- whether a move, by its place, may be undone once it is made on a state
   pub undoable : G → Ctx → ℕ → Bool
   -- the moves that a seat is offered, each by its place with its arguments
-  pub options : G → Ctx → ℕ → List (ℕ × List ℤ)
+  pub options : G → Ctx → ℕ → List (ℕ × List Arg)
   -- which states are the game's own
   pub own : G → Bool
   -- what of a state is written down
@@ -54,7 +55,7 @@ idle_at g ctx at words = Done g words []
 
 -- a game whose hooks do nothing, in which nothing ends by itself, nothing is hidden or offered and each move may be undone;
 -- another game is this one with some of its parts in their place
-abbrev pub plain : {G : Type 0} → Sheet → (ℕ → List ℕ → Deed G Lack) → (G → Ctx → ℕ → ℕ → List ℤ → List ℕ → Deed G Barred) → (G → Bool) → (G → Data) → (Data → Option G) → Rules G
+abbrev pub plain : {G : Type 0} → Sheet → (ℕ → List ℕ → Deed G Lack) → (G → Ctx → ℕ → ℕ → List Arg → List ℕ → Deed G Barred) → (G → Bool) → (G → Data) → (Data → Option G) → Rules G
 plain sheet setup play own value read = record {
   sheet = sheet;
   setup = setup;

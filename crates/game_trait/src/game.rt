@@ -55,7 +55,7 @@ pub trait Game {
     ) -> Result<Self::G, Halt>
         requires known { id < length (rules self.now).sheet.moves }
         requires queue { events.old ≡ [] }
-        ensures deed { Gives result tape.new.left events.new ((rules self.now).play g.now ctx.now seat id args.now tape.old.left) }
+        ensures deed { Gives result tape.old.left tape.new.left events.new ((rules self.now).play g.now ctx.now seat id args.now tape.old.left) }
         ensures follows { Follows tape.old tape.new };
 
     /// What happens after a seat's move.

@@ -4,8 +4,6 @@
 mod game;
 mod halt;
 mod offers;
-#[cfg(test)]
-mod tests;
 
 pub use game::Game;
 pub use halt::{Halt, HookHalt};
