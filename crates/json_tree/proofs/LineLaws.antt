@@ -11,7 +11,7 @@ use Rattle.serde_json.specs.Written.{has_float, members_have_float}
 use Rattle.json_tree.specs.declared.lines.LineFault.{LineFault}
 use Rattle.json_tree.specs.declared.lines.LineFault.TheVariants.{TooLong, NotJson, NotObject, Float}
 use Rattle.json_tree.specs.Canonical.{MembersAreCanonical}
-use Rattle.json_tree.specs.Lines.{newline, IsLineOf, IsTextOf, object_in, object_read, line_read, text_read}
+use Rattle.json_tree.specs.Lines.{newline, IsLineOf, IsTextOf, IsText, IsLine, object_in, object_read, line_read, text_read}
 use Rattle.json_tree.proofs.Canonicals.{canonical_read}
 
 -- ---- from the line to the answer
@@ -19,21 +19,17 @@ use Rattle.json_tree.proofs.Canonicals.{canonical_read}
 pub newline_utf8 : IsUtf8 newline
 newline_utf8 = (10 ∷ [], (refl, ap (λ (l : List ℕ). l ++ []) (encode_ascii 10 (lit< tt))))
 
-pub is_too_long : (bound : ℕ) (line : List ℕ) → bound < length line → line_read bound line ≡ Err TooLong
-unfolding line_read
-is_too_long bound line h = rw (lt-ltb bound (length line) h) refl
+utf8_read : (text : List ℕ) → IsUtf8 text → text_read text ≡ object_read (read text)
+unfolding text_read
+utf8_read text u = rw (is_utf8-from_IsUtf8 text u) refl
 
-read_text : (bound : ℕ) (line : List ℕ) → length line ≤ bound → IsUtf8 line → line_read bound line ≡ object_read (read line)
-unfolding line_read
-read_text bound line h u = rw (le-ltb bound (length line) h, is_utf8-from_IsUtf8 line u) refl
+unread : (b : Bool) (text : List ℕ) → is_utf8 text ≡ b → (IsUtf8 text → read text ≡ None) → cond b (object_read (read text)) (Err NotJson) ≡ Err NotJson
+unread true text is h = ap object_read (h (IsUtf8-from_is_utf8 text is))
+unread false text is h = refl
 
-unread : (b : Bool) (line : List ℕ) → is_utf8 line ≡ b → (IsUtf8 line → read line ≡ None) → cond b (object_read (read line)) (Err NotJson) ≡ Err NotJson
-unread true line is h = ap object_read (h (IsUtf8-from_is_utf8 line is))
-unread false line is h = refl
-
-pub is_not_json : (bound : ℕ) (line : List ℕ) → length line ≤ bound → (IsUtf8 line → read line ≡ None) → line_read bound line ≡ Err NotJson
-unfolding line_read
-is_not_json bound line h none = rw (le-ltb bound (length line) h) (unread (is_utf8 line) line refl none)
+pub is_not_json : (text : List ℕ) → (IsUtf8 text → read text ≡ None) → text_read text ≡ Err NotJson
+unfolding text_read
+is_not_json text none = unread (is_utf8 text) text refl none
 
 no_object : (d : Data) → is_some (as_object d) ≡ false → object_in d ≡ Err NotObject
 no_object null h = refl
@@ -43,8 +39,8 @@ no_object (string s) h = refl
 no_object (array ds) h = refl
 no_object (object ms) h = absurd (true≢false h)
 
-pub is_no_object : (bound : ℕ) (line : List ℕ) (d : Data) → length line ≤ bound → IsUtf8 line → read line ≡ Some d → is_some (as_object d) ≡ false → line_read bound line ≡ Err NotObject
-is_no_object bound line d h u r o = read_text bound line h u ∙ ap object_read r ∙ no_object d o
+pub is_no_object : (text : List ℕ) (d : Data) → IsUtf8 text → read text ≡ Some d → is_some (as_object d) ≡ false → text_read text ≡ Err NotObject
+is_no_object text d u r o = utf8_read text u ∙ ap object_read r ∙ no_object d o
 
 float_object : (d : Data) → is_some (as_object d) ≡ true → has_float d ≡ true → object_in d ≡ Err Float
 float_object null h f = absurd (false≢true h)
@@ -54,8 +50,8 @@ float_object (string s) h f = absurd (false≢true h)
 float_object (array ds) h f = absurd (false≢true h)
 float_object (object ms) h f = rw (f) refl
 
-pub has_a_float : (bound : ℕ) (line : List ℕ) (d : Data) → length line ≤ bound → IsUtf8 line → read line ≡ Some d → is_some (as_object d) ≡ true → has_float d ≡ true → line_read bound line ≡ Err Float
-has_a_float bound line d h u r o f = read_text bound line h u ∙ ap object_read r ∙ float_object d o f
+pub has_a_float : (text : List ℕ) (d : Data) → IsUtf8 text → read text ≡ Some d → is_some (as_object d) ≡ true → has_float d ≡ true → text_read text ≡ Err Float
+has_a_float text d u r o f = utf8_read text u ∙ ap object_read r ∙ float_object d o f
 
 whole_object : (d : Data) → is_some (as_object d) ≡ true → has_float d ≡ false → (ms : Members) × (d ≡ object ms) × (object_in d ≡ Ok ms)
 whole_object null h f = absurd (false≢true h)
@@ -65,9 +61,9 @@ whole_object (string s) h f = absurd (false≢true h)
 whole_object (array ds) h f = absurd (false≢true h)
 whole_object (object ms) h f = (ms, refl, rw (f) refl)
 
-pub is_object : (bound : ℕ) (line : List ℕ) (d : Data) → length line ≤ bound → IsUtf8 line → read line ≡ Some d → is_some (as_object d) ≡ true → has_float d ≡ false
-    → (ms : Members) × (d ≡ object ms) × (line_read bound line ≡ Ok ms)
-is_object bound line d h u r o f = let whole = whole_object d o f in (whole.0, whole.1, read_text bound line h u ∙ ap object_read r ∙ whole.2)
+pub is_object : (text : List ℕ) (d : Data) → IsUtf8 text → read text ≡ Some d → is_some (as_object d) ≡ true → has_float d ≡ false
+    → (ms : Members) × (d ≡ object ms) × (text_read text ≡ Ok ms)
+is_object text d u r o f = let whole = whole_object d o f in (whole.0, whole.1, utf8_read text u ∙ ap object_read r ∙ whole.2)
 
 -- ---- from the answer to the line
 
@@ -75,9 +71,9 @@ within : (b : Bool) (bound : ℕ) (line : List ℕ) (other : Result Members Line
 within true bound line other ms is e = absurd (cc)
 within false bound line other ms is e = (ltb-false bound (length line) is, e)
 
-text : (b : Bool) (line : List ℕ) (ms : Members) → is_utf8 line ≡ b → cond b (object_read (read line)) (Err NotJson) ≡ Ok ms → IsUtf8 line × (object_read (read line) ≡ Ok ms)
-text true line ms is e = (IsUtf8-from_is_utf8 line is, e)
-text false line ms is e = absurd (cc)
+in_utf8 : (b : Bool) (text : List ℕ) (ms : Members) → is_utf8 text ≡ b → cond b (object_read (read text)) (Err NotJson) ≡ Ok ms → IsUtf8 text × (object_read (read text) ≡ Ok ms)
+in_utf8 true text ms is e = (IsUtf8-from_is_utf8 text is, e)
+in_utf8 false text ms is e = absurd (cc)
 
 abbrev unless : Bool → Members → Result Members LineFault
 unless b ns = cond b (Err Float) (Ok ns)
@@ -95,36 +91,32 @@ object_is (Some (string s)) ms e = absurd (cc)
 object_is (Some (array ds)) ms e = absurd (cc)
 object_is (Some (object ns)) ms e = let both = good (members_have_float ns) ns ms refl e in (ap (λ x. Some (object x)) both.0, both.1)
 
--- what is read of a line, the line holds
-pub line_is : (bound : ℕ) (line : List ℕ) (ms : Members) → line_read bound line ≡ Ok ms → IsLineOf bound line ms
-unfolding line_read
-line_is bound line ms e =
-    let w = within (nat_lt bound (length line)) bound line _ ms refl e in
-    let t = text (is_utf8 line) line ms refl w.1 in
-    let o = object_is (read line) ms t.1 in
-    record { short = w.0; utf8 = t.0; is = o.0; no_float = o.1 }
-
--- what a line holds is read of it
-pub line_again : (bound : ℕ) (line : List ℕ) (ms : Members) → IsLineOf bound line ms → line_read bound line ≡ Ok ms
-line_again bound line ms h = read_text bound line h.short h.utf8 ∙ ap object_read h.is ∙ rw (h.no_float) refl
-
-pub canonical_line : (bound : ℕ) (line : List ℕ) (ms : Members) → IsLineOf bound line ms → MembersAreCanonical ms
-canonical_line bound line ms h = canonical_read line (object ms) h.is
-
--- what a text holds is read of it, and what is read of it it holds
-pub text_again : (line : List ℕ) (ms : Members) → IsTextOf line ms → text_read line ≡ Ok ms
-text_again line ms h = rw (is_utf8-from_IsUtf8 line h.utf8) (ap object_read h.is ∙ rw (h.no_float) refl)
-
-pub whole_text_is : (line : List ℕ) (ms : Members) → text_read line ≡ Ok ms → IsTextOf line ms
-whole_text_is line ms e =
-    let t = text (is_utf8 line) line ms refl e in
-    let o = object_is (read line) ms t.1 in
+-- what is read of a text it holds, and what a text holds is read of it
+pub text_is : (text : List ℕ) (ms : Members) → text_read text ≡ Ok ms → IsTextOf text ms
+unfolding text_read
+text_is text ms e =
+    let t = in_utf8 (is_utf8 text) text ms refl e in
+    let o = object_is (read text) ms t.1 in
     record { utf8 = t.0; is = o.0; no_float = o.1 }
 
-pub canonical_text : (line : List ℕ) (ms : Members) → IsTextOf line ms → MembersAreCanonical ms
-canonical_text line ms h = canonical_read line (object ms) h.is
+pub text_again : (text : List ℕ) (ms : Members) → IsTextOf text ms → text_read text ≡ Ok ms
+text_again text ms h = utf8_read text h.utf8 ∙ ap object_read h.is ∙ rw (h.no_float) refl
 
--- a bound that the line doesn't pass takes nothing away
-pub within_bound : (bound : ℕ) (line : List ℕ) → length line ≤ bound → line_read bound line ≡ text_read line
-unfolding line_read
-within_bound bound line h = rw (le-ltb bound (length line) h) refl
+pub canonical_text : (text : List ℕ) (ms : Members) → IsTextOf text ms → MembersAreCanonical ms
+canonical_text text ms h = canonical_read text (object ms) h.is
+
+-- the same of a line
+pub line_is : (bound : ℕ) (line : List ℕ) (ms : Members) → line_read bound line ≡ Ok ms → IsLineOf bound line ms
+line_is bound line ms e =
+    let w = within (nat_lt bound (length line)) bound line (text_read line) ms refl e in
+    record { short = w.0; text = text_is line ms w.1 }
+
+pub line_again : (bound : ℕ) (line : List ℕ) (ms : Members) → IsLineOf bound line ms → line_read bound line ≡ Ok ms
+line_again bound line ms h = rw (le-ltb bound (length line) h.short) (text_again line ms h.text)
+
+pub canonical_line : (bound : ℕ) (line : List ℕ) (ms : Members) → IsLineOf bound line ms → MembersAreCanonical ms
+canonical_line bound line ms h = canonical_text line ms h.text
+
+-- of the data: a line within the bound is one where its text is
+pub within_bound : (bound : ℕ) (line : List ℕ) (d : Data) → length line ≤ bound → IsText line d → IsLine bound line d
+within_bound bound line d h t = (t.0, t.1, record { short = h; text = t.2 })

@@ -12,20 +12,21 @@ use Rattle.json_tree.specs.declared.lines.LineFault.TheVariants.{TooLong, NotJso
 abbrev pub newline : List ℕ
 newline = 10 ∷ []
 
--- the line is within the bound, and `serde_json` reads it as this object, in which no number is a float
+-- `serde_json` reads the text as this object, in which no number is a float
+pub record IsTextOf (text : List ℕ) (ms : Members) : Type 0 where
+  pub utf8 : IsUtf8 text
+  pub is : read text ≡ Some (object ms)
+  pub no_float : members_have_float ms ≡ false
+
+-- the same of a line that is within the bound
 pub record IsLineOf (bound : ℕ) (line : List ℕ) (ms : Members) : Type 0 where
   pub short : length line ≤ bound
-  pub utf8 : IsUtf8 line
-  pub is : read line ≡ Some (object ms)
-  pub no_float : members_have_float ms ≡ false
-
--- `serde_json` reads the text as this object, in which no number is a float
-pub record IsTextOf (line : List ℕ) (ms : Members) : Type 0 where
-  pub utf8 : IsUtf8 line
-  pub is : read line ≡ Some (object ms)
-  pub no_float : members_have_float ms ≡ false
+  pub text : IsTextOf line ms
 
 -- the same, of the data
+abbrev pub IsText : List ℕ → Data → Type 0
+IsText text d = (ms : Members) × (d ≡ object ms) × IsTextOf text ms
+
 abbrev pub IsLine : ℕ → List ℕ → Data → Type 0
 IsLine bound line d = (ms : Members) × (d ≡ object ms) × IsLineOf bound line ms
 
@@ -42,11 +43,11 @@ object_read None = Err NotJson
 object_read (Some d) = object_in d
 
 -- the members of the object that a text holds, or its first fault
-abbrev pub text_read : List ℕ → Result Members LineFault
-text_read line = if is_utf8 line then object_read (read line) else Err NotJson
+unfoldable pub text_read : List ℕ → Result Members LineFault
+text_read text = if is_utf8 text then object_read (read text) else Err NotJson
 
--- the same of a line that may be too long
-unfoldable pub line_read : ℕ → List ℕ → Result Members LineFault
+-- the same of a line, which may be too long
+abbrev pub line_read : ℕ → List ℕ → Result Members LineFault
 line_read bound line = if nat_lt bound (length line) then Err TooLong else text_read line
 
 abbrev pub IsFaultOf : LineFault → Result Members LineFault → Type 0

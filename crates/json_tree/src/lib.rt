@@ -13,5 +13,5 @@ mod tree;
 
 pub use fields::{FieldFault, extra_field, list_of, natural_of, text_of, whole_of};
 pub use floats::contains_float;
-pub use lines::{LineFault, LineNoMemory, line_of, read_line};
+pub use lines::{LineFault, LineNoMemory, line_of, read_line, read_text};
 pub use tree::Tree;

@@ -4,7 +4,7 @@ ghost use Rattle.serde_json.specs.Data.{depth};
 ghost use Rattle.serde_json.specs.Read.{read, max_depth};
 ghost use Rattle.serde_json.specs.View.{view};
 ghost use Rattle.serde_json.specs.Written.{has_float, compact_text};
-ghost use Rattle.json_tree.specs.Lines.{IsLine, IsReadAs, line_read, newline};
+ghost use Rattle.json_tree.specs.Lines.{IsLine, IsText, IsReadAs, line_read, text_read, newline};
 ghost use Rattle.json_tree.specs.Canonical.{IsCanonical};
 
 use crate::floats::contains_float;
@@ -33,7 +33,7 @@ pub struct LineNoMemory;
 /// The object that a line of at most `bound` bytes holds.
 ///
 /// A newline at the end counts among the bytes, and is a blank to the reader.
-#[tactic(auto, unfolding(crate::specs::Lines::line_read))]
+#[tactic(auto, using(crate::proofs::LineLaws::within_bound))]
 pub fn read_line(alloc: Global, line: &[u8], bound: u64) -> Result<Value, LineFault>
     ensures exact { IsReadAs result (line_read bound line.now) }
     ensures too_long { bound < length line.now → result ≡ Err LineFault.TooLong }
@@ -44,7 +44,20 @@ pub fn read_line(alloc: Global, line: &[u8], bound: u64) -> Result<Value, LineFa
     if line.len() as u64 > bound {
         return Err(LineFault::TooLong);
     }
-    let value = match Value::from_slice(alloc, line) {
+    read_text(alloc, line)
+}
+
+/// The object that a text of any length holds; never `TooLong`.
+///
+/// A newline at its end is a blank to the reader.
+#[tactic(auto, unfolding(crate::specs::Lines::text_read))]
+pub fn read_text(alloc: Global, text: &[u8]) -> Result<Value, LineFault>
+    ensures exact { IsReadAs result (text_read text.now) }
+    ensures found { IfOk result (λ v. IsText text.now (view v)) }
+    ensures no_float { IfOk result (λ v. has_float (view v) ≡ false) }
+    ensures canonical { IfOk result (λ v. IsCanonical (view v)) }
+{
+    let value = match Value::from_slice(alloc, text) {
         Ok(value) => value,
         Err(error) if error.is_memory() => return Err(LineFault::NoMemory),
         Err(_) => return Err(LineFault::NotJson),
