@@ -4,8 +4,6 @@
 mod any_g;
 mod choice;
 mod lifted;
-#[cfg(test)]
-mod tests;
 
 pub use any_g::AnyG;
 pub use choice::{AnyGame, by_name};

@@ -10,6 +10,3 @@ pub use memory::{MemorySink, MemorySource};
 pub use sink::{Put, Sink};
 pub use source::{Piece, Source};
 pub use system::{ReaderSource, WriterSink};
-
-#[cfg(test)]
-mod tests;

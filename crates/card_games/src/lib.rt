@@ -10,8 +10,6 @@ mod high_hand;
 mod json;
 mod lists;
 mod offers;
-#[cfg(test)]
-mod tests;
 
 pub use bids::{Bidding, NoSecret, Sealed};
 pub use blind_bid::{Bids, BlindBid};

@@ -198,6 +198,3 @@ fn face(n: u32, word: u32) -> u32
 {
     1 + (u64::from(word) * u64::from(n) / (1 << 32)) as u32
 }
-
-#[cfg(test)]
-mod tests;

@@ -16,8 +16,6 @@ mod names;
 mod refusal;
 mod sheet;
 mod short;
-#[cfg(test)]
-mod tests;
 mod text;
 mod viewer;
 

@@ -7,8 +7,6 @@
 mod fields;
 mod floats;
 mod lines;
-#[cfg(test)]
-mod tests;
 mod tree;
 
 pub use fields::{FieldFault, extra_field, list_of, natural_of, text_of, whole_of};

@@ -101,6 +101,3 @@ impl Entry {
         }
     }
 }
-
-#[cfg(test)]
-mod tests;

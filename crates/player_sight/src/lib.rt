@@ -18,8 +18,3 @@ pub use entry_read::entry_of;
 pub use shown::Snapshot;
 pub use snapshot_read::from_value;
 pub use snapshots::{snapshot, snapshot_value, to_value};
-
-#[cfg(test)]
-mod read_tests;
-#[cfg(test)]
-mod tests;

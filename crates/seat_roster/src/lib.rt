@@ -4,8 +4,6 @@
 mod name;
 mod refusal;
 mod roster;
-#[cfg(test)]
-mod tests;
 
 pub use refusal::RosterNo;
 pub use roster::Roster;

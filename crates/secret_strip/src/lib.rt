@@ -4,8 +4,6 @@
 mod laws;
 mod part;
 mod split;
-#[cfg(test)]
-mod tests;
 
 pub use laws::{view_of_a_view, view_shows_no_more};
 pub use part::CopyPart;

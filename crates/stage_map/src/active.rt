@@ -354,6 +354,3 @@ fn copied(alloc: Global, stack: &VecDeque<Kept>) -> Result<VecDeque<Kept>, NoMem
     }
     Ok(copy)
 }
-
-#[cfg(test)]
-mod tests;

@@ -7,8 +7,6 @@ mod heap;
 mod pig_game;
 mod rows;
 mod scores;
-#[cfg(test)]
-mod tests;
 mod tic_tac_toe;
 
 pub use board::Board;

@@ -1,20 +1,18 @@
 //! The reducer at small games, whose contexts are told row by row.
 
-mod cards;
+mod edges;
 mod events;
-mod functions;
 mod games;
 mod matches;
 mod orders;
 mod phases;
-mod rolls;
 mod stages;
 mod undo;
 
-use crate::{Cue, Moment, Toy};
+use crate::{Cue, Moment};
 use game_sheet::{Event, GameRule, MoveId, Outcome, PhaseId, Seat, StageId};
 use game_trait::Game;
-use matches::{Action, Fault, Map, Match, View};
+use matches::{Action, Fault, Match, View};
 use std::alloc::Global;
 use std::process::Abort;
 
@@ -25,7 +23,7 @@ const START: View = View {
     pos: 0,
     moves: 0,
     phase: None,
-    map: Map::Null,
+    map: None,
     over: None,
 };
 
@@ -49,38 +47,43 @@ const END_STAGE: Action = Action::Event(Event::EndStage);
 /// An action of a seat, and what comes of it.
 type Row = (Seat, Action, Result<View, Fault>);
 
-/// Plays a match on, an action after the other.
-fn goes_on<X: Game + Drop>(rt: &impl Abort, alloc: Global, match_: &mut Match<X>, rows: &[Row]) {
+/// Plays a match on, an action after the other. An accepted one counts in the state number, a refused one doesn't.
+fn goes_on<X: Game + Drop>(rt: &impl Abort, alloc: Global, played: &mut Match<X>, rows: &[Row]) {
     for (seat, action, then) in rows {
-        assert_eq!(rt; match_.act(alloc, *seat, *action), *then);
+        let (before, by) = (played.number(), if then.is_ok() { 1 } else { 0 });
+        assert_eq!(rt; played.act(alloc, *seat, *action), *then);
+        assert!(rt; played.number().wrapping_sub(before) == by);
     }
 }
 
-/// Plays a match of so many seats from its first view.
-fn seated<X: Game + Drop>(
+/// Plays a match of the least count of seats that its sheet allows, if there is a game, from its first view.
+fn plays<X: Game + Drop>(
     rt: &impl Abort,
     alloc: Global,
-    game: X,
-    seats: u8,
+    game: Result<X, Fault>,
     first: View,
     rows: &[Row],
-) -> Result<Match<X>, Fault> {
-    let mut match_ = Match::begin(alloc, game, seats)?;
-    assert_eq!(rt; match_.view(), first);
-    goes_on(rt, alloc, &mut match_, rows);
-    Ok(match_)
+) -> Result<(), Fault> {
+    ordered(rt, alloc, game, first, rows, &[])
 }
 
-/// The same for a game made of data, of the least count of seats that its sheet allows.
-fn plays(
+/// The same, and the play order at the end, unless it is empty.
+fn ordered<X: Game + Drop>(
     rt: &impl Abort,
     alloc: Global,
-    game: Toy,
+    game: Result<X, Fault>,
     first: View,
     rows: &[Row],
-) -> Result<Match<Toy>, Fault> {
-    let seats = game.sheet.min_seats;
-    seated(rt, alloc, game, seats, first, rows)
+    order: &[Seat],
+) -> Result<(), Fault> {
+    let game = game?;
+    let seats = game.sheet().min_seats;
+    let mut played = Match::begin(alloc, game, seats)?;
+    assert_eq!(rt; played.view(), first);
+    goes_on(rt, alloc, &mut played, rows);
+    assert!(rt; order.is_empty() || played.has_order(order));
+    drop(played);
+    Ok(())
 }
 
 /// The view at the beginning of a turn of the seat at a place of the play order, without a phase or a map.
@@ -106,10 +109,22 @@ fn after(moves: u32, view: View) -> View {
     View { moves, ..view }
 }
 
-/// The same view with one seat on the map.
-fn with_only(seat: Seat, stage: Option<u8>, view: View) -> View {
+/// The same view with one seat on the map, of the first three.
+fn with_only(seat: u8, stage: Option<u8>, view: View) -> View {
+    let mut places = [None; 3];
+    if seat < 3 {
+        places[usize::from(seat)] = Some(stage);
+    }
     View {
-        map: Map::Only(seat, stage),
+        map: Some(places),
+        ..view
+    }
+}
+
+/// The same view with three seats on the map, each in a stage or without one.
+fn with_map(stages: [Option<u8>; 3], view: View) -> View {
+    View {
+        map: Some([Some(stages[0]), Some(stages[1]), Some(stages[2])]),
         ..view
     }
 }

@@ -3,8 +3,6 @@
 
 mod play_order;
 mod position;
-#[cfg(test)]
-mod tests;
 
 pub use play_order::{all_seats, list_from};
 pub use position::{first, next};

@@ -2,8 +2,6 @@
 #![tactic(auto)]
 
 mod acts;
-#[cfg(test)]
-mod answer_tests;
 mod asked;
 mod bye;
 mod client;
@@ -20,8 +18,6 @@ mod refusal;
 mod server;
 mod server_read;
 mod server_write;
-#[cfg(test)]
-mod tests;
 mod verdict;
 mod wire_no;
 

@@ -195,6 +195,3 @@ fn after(byte: u8, front: u16) -> Option<u16>
     let last = digit(byte)?;
     Some(10 * front + last)
 }
-
-#[cfg(test)]
-mod tests;

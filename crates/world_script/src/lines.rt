@@ -176,6 +176,3 @@ fn strip_return(line: &mut Vec<u8>)
         line.truncate(length - 1);
     }
 }
-
-#[cfg(test)]
-mod tests;

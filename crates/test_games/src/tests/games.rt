@@ -1,4 +1,4 @@
-//! The games of the tests: their sheets, with one move, one stage and three phases.
+//! The games of the tests: their sheets, with one move, three stages and three phases.
 
 use super::matches::Fault;
 use crate::{Cue, Ends, Toy};
@@ -81,13 +81,30 @@ pub(crate) fn idle(alloc: Global) -> Result<PhaseRow, NoMemory> {
 pub(crate) fn current_spec(alloc: Global, stage: Option<StageId>, least: u32) -> SpecRow {
     SpecRow {
         current: Some(Place { stage }),
+        min_moves: least,
+        ..no_spec(alloc, false, None)
+    }
+}
+
+/// A spec that puts no seat on the map; whether the map before is kept, and which spec follows.
+pub(crate) fn no_spec(alloc: Global, revert: bool, next: Option<u8>) -> SpecRow {
+    SpecRow {
+        current: None,
         others: None,
         all: None,
         value: List::new(alloc),
-        min_moves: least,
+        min_moves: 0,
         max_moves: None,
-        revert: false,
-        next: None,
+        revert,
+        next: next.map(|place| SpecId::at(place)),
+    }
+}
+
+/// A spec that puts all seats on the map.
+pub(crate) fn all_spec(alloc: Global) -> SpecRow {
+    SpecRow {
+        all: Some(Place { stage: None }),
+        ..no_spec(alloc, false, None)
     }
 }
 
@@ -95,30 +112,25 @@ pub(crate) fn current_spec(alloc: Global, stage: Option<StageId>, least: u32) ->
 pub(crate) fn leading_spec(alloc: Global) -> SpecRow {
     SpecRow {
         current: Some(Place { stage: None }),
-        others: None,
-        all: None,
-        value: List::new(alloc),
-        min_moves: 0,
         max_moves: Some(1),
-        revert: false,
-        next: Some(SpecId::at(1)),
+        ..no_spec(alloc, false, Some(1))
     }
 }
 
-/// A spec that puts the other seats into the stage for one move.
+/// A spec that puts the other seats into the first stage for one move.
 pub(crate) fn following_spec(alloc: Global) -> SpecRow {
     SpecRow {
-        current: None,
-        others: Some(Place {
-            stage: Some(StageId::at(0)),
-        }),
-        all: None,
-        value: List::new(alloc),
-        min_moves: 0,
+        others: in_stage(0),
         max_moves: Some(1),
-        revert: false,
-        next: None,
+        ..no_spec(alloc, false, None)
     }
+}
+
+/// A place in the stage at this place of the sheet.
+pub(crate) fn in_stage(place: u8) -> Option<Place> {
+    Some(Place {
+        stage: Some(StageId::at(place)),
+    })
 }
 
 /// The sheet of a match of so many seats with this first phase.
@@ -165,15 +177,22 @@ fn phases(alloc: Global, first: PhaseRow) -> Result<List<PhaseRow>, NoMemory> {
     Ok(rows)
 }
 
-/// The one stage.
+/// Three stages, of which the first follows the second.
 fn stages(alloc: Global) -> Result<List<StageRow>, NoMemory> {
     let mut rows = List::new(alloc);
-    rows.push(StageRow {
-        name: Text::from_str(alloc, "s")?,
-        next: None,
-        moves: None,
-    })?;
+    rows.push(stage(alloc, "s", None)?)?;
+    rows.push(stage(alloc, "a", Some(StageId::at(0)))?)?;
+    rows.push(stage(alloc, "c", None)?)?;
     Ok(rows)
+}
+
+/// A stage without moves of its own.
+fn stage(alloc: Global, name: &str, next: Option<StageId>) -> Result<StageRow, NoMemory> {
+    Ok(StageRow {
+        name: Text::from_str(alloc, name)?,
+        next,
+        moves: None,
+    })
 }
 
 /// The game of a sheet with these cues and ends.
@@ -203,4 +222,10 @@ pub(crate) fn staged(alloc: Global, spec: SpecRow, cues: &[Cue]) -> Result<Toy, 
     specs.push(spec)?;
     let sheet = sheet(alloc, 2, active_turns(), idle(alloc)?, specs)?;
     game(alloc, sheet, cues, NEVER)
+}
+
+/// A game of so many seats with these specs, of which none stands at a turn.
+pub(crate) fn mapped(alloc: Global, seats: u8, specs: List<SpecRow>) -> Result<Toy, Fault> {
+    let sheet = sheet(alloc, seats, turns(Order::Default), idle(alloc)?, specs)?;
+    game(alloc, sheet, &[], NEVER)
 }

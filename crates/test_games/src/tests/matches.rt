@@ -19,8 +19,6 @@ use std::marker::Model;
 pub(crate) enum Action {
     /// The move at this place of the sheet, without arguments.
     Move(u8),
-    /// The move at this place of the sheet, with one argument.
-    Told(u8, i32),
     /// An event.
     Event(Event),
     /// The last done action is taken back.
@@ -50,16 +48,9 @@ impl From<NoMemory> for Fault {
     }
 }
 
-/// What the map of active players shows.
-#[derive(Clone, Copy, PartialEq, Eq, Debug)]
-pub(crate) enum Map {
-    /// Nothing: the current seat alone may act.
-    Null,
-    /// This seat alone, in the stage at this place of the sheet or without one.
-    Only(Seat, Option<u8>),
-    /// Other seats.
-    Others,
-}
+/// What the map of active players shows of the first three seats: none that isn't listed, else the place of its stage, if it is
+/// in one. Without a map the current seat alone may act.
+pub(crate) type Map = Option<[Option<Option<u8>>; 3]>;
 
 /// What a match has come to.
 #[derive(Clone, Copy, PartialEq, Eq, Debug)]
@@ -126,9 +117,9 @@ impl<X: Game + Drop> Match<X> {
         self.state.ctx().order.as_slice() == order
     }
 
-    /// The state.
-    pub(crate) fn state(&self) -> &State<X::G> {
-        &self.state
+    /// The state number.
+    pub(crate) fn number(&self) -> u32 {
+        self.state.number()
     }
 }
 
@@ -161,20 +152,9 @@ fn act_of(action: Action) -> Act {
             id: MoveId::at(place),
             args: Args::new(),
         },
-        Action::Told(place, argument) => told(place, argument),
         Action::Event(event) => Act::Event(event),
         Action::Undo => Act::Undo,
         Action::Redo => Act::Redo,
-    }
-}
-
-/// A move with one argument.
-fn told(place: u8, argument: i32) -> Act {
-    let mut args = Args::new();
-    args.push(argument);
-    Act::Move {
-        id: MoveId::at(place),
-        args,
     }
 }
 
@@ -200,12 +180,20 @@ fn is_event_there(sheet: &Sheet, event: &Event) -> bool
 /// What the context shows of the map.
 fn map_of(ctx: &Ctx) -> Map {
     match &ctx.active {
-        None => Map::Null,
-        Some(rows) => match rows.as_slice() {
-            [row] => Map::Only(row.0, stage_of(row.1)),
-            _ => Map::Others,
-        },
+        None => None,
+        Some(rows) => Some(places_of(rows.as_slice())),
     }
+}
+
+/// The stages of the first three seats.
+fn places_of(rows: &[(Seat, Option<StageId>)]) -> [Option<Option<u8>>; 3] {
+    let mut places = [None; 3];
+    for (seat, stage) in rows {
+        if *seat < 3 {
+            places[usize::from(*seat)] = Some(stage_of(*stage));
+        }
+    }
+    places
 }
 
 /// The place of a stage in the sheet.

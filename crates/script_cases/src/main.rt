@@ -1,0 +1,46 @@
+//! Plays the scripts of standard input one after the other, and prints what each prints and how it ends.
+//!
+//! A line `== NAME` begins a script, and the next such line ends it. A script that is followed by an empty line ends with a
+//! newline; one that isn't has a last line without one.
+#![tactic(auto)]
+
+use board_links::{MemorySource, WriterSink};
+use game_sheet::List;
+use std::io::{self, Read};
+use world_script::run_script;
+
+fn main(rt: HostRuntime) -> io::Result<()> {
+    let mut text = String::new(rt.alloc());
+    let _count = rt.stdin().read_to_string(&mut text)?;
+    let cases = match text.as_str().strip_prefix("== ") {
+        Some(cases) => cases,
+        None => text.as_str(),
+    };
+    for case in cases.split("\n== ") {
+        play_case(&rt, case)?;
+    }
+    Ok(())
+}
+
+/// Plays the script that stands behind its name.
+fn play_case(rt: &HostRuntime, case: &str) -> io::Result<()> {
+    let (name, script) = match case.split_once('\n') {
+        Some(parts) => parts,
+        None => (case, ""),
+    };
+    println!(rt; "== {name}")?;
+    match Vec::from_slice(rt.alloc(), script.as_bytes()) {
+        Ok(bytes) => play(rt, MemorySource::new(bytes, List::new(rt.alloc()))),
+        Err(_) => println!(rt; "-- no memory"),
+    }
+}
+
+/// Plays the script of a source.
+fn play(rt: &HostRuntime, source: MemorySource) -> io::Result<()> {
+    let mut source = source;
+    let mut sink = WriterSink::new(rt.stdout());
+    let exit = run_script(rt.alloc(), &mut source, &mut sink);
+    drop(sink);
+    drop(source);
+    println!(rt; "-- {exit:?}")
+}

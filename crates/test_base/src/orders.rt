@@ -1,0 +1,96 @@
+//! Each order at the first place of a phase and at the next one, and lists that a game gives as its play order.
+
+use game_sheet::{List, NoMemory, Order, Seat};
+use std::alloc::Global;
+use std::process::Abort;
+use std::test::Fail;
+use turn_order::{all_seats, first, list_from, next};
+
+/// A play order's length and a place of it; then the first place at the match's start and of a later phase, and the next.
+type Row = (u8, u8, u8, u8, Option<u8>);
+
+fn assert_rows(rt: &impl Abort, order: &Order, rows: [Row; 5]) {
+    for (len, pos, start, later, after) in rows {
+        assert!(rt; pos < len);
+        assert_eq!(rt;
+            first(order, true, pos, len),
+            start,
+            "start, {pos} of {len}"
+        );
+        assert_eq!(rt;
+            first(order, false, pos, len),
+            later,
+            "phase, {pos} of {len}"
+        );
+        assert_eq!(rt; next(order, pos, len), after, "next, {pos} of {len}");
+    }
+}
+
+/// Orders that begin at 0 and go round for ever.
+const ROUND: [Row; 5] = [
+    (1, 0, 0, 0, Some(0)),
+    (2, 0, 0, 0, Some(1)),
+    (2, 1, 0, 0, Some(0)),
+    (64, 62, 0, 0, Some(63)),
+    (64, 63, 0, 0, Some(0)),
+];
+
+#[test]
+fn each_order_at_the_first_place_and_the_next(rt: HostRuntime) -> Result<(), Fail> {
+    let by_default = [
+        (1, 0, 0, 0, Some(0)),
+        (2, 0, 0, 1, Some(1)),
+        (2, 1, 0, 0, Some(0)),
+        (64, 62, 0, 63, Some(63)),
+        (64, 63, 0, 0, Some(0)),
+    ];
+    assert_rows(&rt, &Order::Default, by_default);
+    let continued = [
+        (1, 0, 0, 0, Some(0)),
+        (2, 0, 0, 0, Some(1)),
+        (2, 1, 1, 1, Some(0)),
+        (64, 62, 62, 62, Some(63)),
+        (64, 63, 63, 63, Some(0)),
+    ];
+    assert_rows(&rt, &Order::Continue, continued);
+    let once = [
+        (1, 0, 0, 0, None),
+        (2, 0, 0, 0, Some(1)),
+        (2, 1, 0, 0, None),
+        (64, 62, 0, 0, Some(63)),
+        (64, 63, 0, 0, None),
+    ];
+    assert_rows(&rt, &Order::Once, once);
+    assert_rows(&rt, &Order::Reset, ROUND);
+    assert_rows(&rt, &Order::CustomFrom, ROUND);
+    let listed = Order::Custom(List::from_slice(rt.alloc(), &[1, 0])?);
+    assert_rows(&rt, &listed, ROUND);
+    Ok(())
+}
+
+#[test]
+fn a_shorter_play_order_takes_the_old_place_round(rt: HostRuntime) {
+    assert_eq!(rt; first(&Order::Default, false, 5, 4), 2);
+    assert_eq!(rt; first(&Order::Default, false, 255, 64), 0);
+    assert_eq!(rt; first(&Order::Continue, false, 5, 4), 1);
+    assert_eq!(rt; first(&Order::Reset, false, 5, 4), 0);
+}
+
+/// The play order that a list gives in a match of three seats.
+fn in_three(alloc: Global, given: &[Seat]) -> Result<List<Seat>, NoMemory> {
+    list_from(alloc, List::from_slice(alloc, given)?, 3)
+}
+
+#[test]
+fn a_list_that_can_be_no_play_order_gives_way_to_all_seats(rt: HostRuntime) -> Result<(), Fail> {
+    let alloc = rt.alloc();
+    let all: &[Seat] = &[0, 1, 2];
+    assert_eq!(rt; all_seats(alloc, 3)?.as_slice(), all);
+    assert_eq!(rt; in_three(alloc, &[])?.as_slice(), all);
+    assert_eq!(rt; in_three(alloc, &[0, 3])?.as_slice(), all);
+    assert_eq!(rt; in_three(alloc, &[0; 65])?.as_slice(), all);
+    assert_eq!(rt; in_three(alloc, &[0; 64])?.len(), 64);
+    let own: &[Seat] = &[2, 0, 2];
+    assert_eq!(rt; in_three(alloc, own)?.as_slice(), own);
+    Ok(())
+}

@@ -1,0 +1,364 @@
+//! Sheets that break each rule, sheets at the bounds of the rules, and the small types over memory.
+
+use game_sheet::{
+    Bytes, Crowded, Ctx, Event, EventQueue, List, MoveId, MoveRow, NoMemory, Order, Outcome,
+    PhaseId, PhaseRow, Place, Sheet, SpecId, SpecRow, StageId, StageRow, Text, TurnRow,
+    check_sheet,
+};
+use std::alloc::Global;
+use std::process::Abort;
+use std::test::Fail;
+
+fn row(alloc: Global, name: &str) -> Result<MoveRow, NoMemory> {
+    Ok(MoveRow {
+        name: Text::from_str(alloc, name)?,
+        redact: false,
+        client: true,
+        no_limit: false,
+        ignore_stale: false,
+    })
+}
+
+fn moves(alloc: Global, names: &[&str]) -> Result<List<MoveRow>, NoMemory> {
+    let mut rows = List::new(alloc);
+    for name in names {
+        rows.push(row(alloc, name)?)?;
+    }
+    Ok(rows)
+}
+
+/// So many moves, named by a run of the letter a that grows by one.
+fn many_moves(alloc: Global, count: u8) -> Result<List<MoveRow>, NoMemory> {
+    let mut rows = List::new(alloc);
+    let mut name = String::new(alloc);
+    for _row in 0..count {
+        name.push('a')?;
+        rows.push(row(alloc, name.as_str())?)?;
+    }
+    Ok(rows)
+}
+
+fn turn(order: Order, min_moves: u32, max_moves: Option<u32>, active: Option<u8>) -> TurnRow {
+    TurnRow {
+        order,
+        min_moves,
+        max_moves,
+        active: active.map(|place| SpecId::at(place)),
+    }
+}
+
+fn phase(
+    alloc: Global,
+    name: &str,
+    start: bool,
+    own: Option<TurnRow>,
+) -> Result<PhaseRow, NoMemory> {
+    Ok(PhaseRow {
+        name: Text::from_str(alloc, name)?,
+        start,
+        next: None,
+        moves: None,
+        turn: own,
+    })
+}
+
+fn phases(alloc: Global, names: &[&str], start: bool) -> Result<List<PhaseRow>, NoMemory> {
+    let mut rows = List::new(alloc);
+    for name in names {
+        rows.push(phase(alloc, name, start, None)?)?;
+    }
+    Ok(rows)
+}
+
+/// One phase with a turn of its own.
+fn phase_of(alloc: Global, own: TurnRow) -> Result<List<PhaseRow>, NoMemory> {
+    let mut rows = List::new(alloc);
+    rows.push(phase(alloc, "play", true, Some(own))?)?;
+    Ok(rows)
+}
+
+fn stages(alloc: Global, names: &[&str], next: Option<u8>) -> Result<List<StageRow>, NoMemory> {
+    let mut rows = List::new(alloc);
+    for name in names {
+        rows.push(StageRow {
+            name: Text::from_str(alloc, name)?,
+            next: next.map(|place| StageId::at(place)),
+            moves: None,
+        })?;
+    }
+    Ok(rows)
+}
+
+/// One stage with a list of moves of its own.
+fn stage_with(alloc: Global, moves: &[MoveId]) -> Result<List<StageRow>, NoMemory> {
+    let mut rows = List::new(alloc);
+    rows.push(StageRow {
+        name: Text::from_str(alloc, "bid")?,
+        next: None,
+        moves: Some(List::from_slice(alloc, moves)?),
+    })?;
+    Ok(rows)
+}
+
+/// So many specs that list one seat in a stage; each is followed by the spec at a place.
+fn specs(
+    alloc: Global,
+    count: u8,
+    seat: u8,
+    stage: u8,
+    next: Option<u8>,
+) -> Result<List<SpecRow>, NoMemory> {
+    let mut rows = List::new(alloc);
+    for _row in 0..count {
+        let place = Place {
+            stage: Some(StageId::at(stage)),
+        };
+        rows.push(SpecRow {
+            current: None,
+            others: None,
+            all: None,
+            value: List::from_slice(alloc, &[(seat, place)])?,
+            min_moves: 0,
+            max_moves: None,
+            revert: false,
+            next: next.map(|place| SpecId::at(place)),
+        })?;
+    }
+    Ok(rows)
+}
+
+/// A sheet that breaks no rule: two seats at least, two moves, two phases, two stages and two specs.
+fn plain(alloc: Global) -> Result<Sheet, NoMemory> {
+    Ok(Sheet {
+        name: Text::from_str(alloc, "two-piles")?,
+        min_seats: 2,
+        max_seats: 4,
+        moves: moves(alloc, &["take", "pass"])?,
+        base: List::from_slice(alloc, &[MoveId::at(0), MoveId::at(1)])?,
+        turn: turn(Order::Default, 1, Some(1), Some(1)),
+        phases: phases(alloc, &["draw", "play2"], false)?,
+        stages: stages(alloc, &["bid", "wait"], Some(1))?,
+        specs: specs(alloc, 2, 1, 1, None)?,
+        events: List::new(alloc),
+    })
+}
+
+fn with_name(alloc: Global, name: &str) -> Result<Sheet, NoMemory> {
+    let mut sheet = plain(alloc)?;
+    sheet.name = Text::from_str(alloc, name)?;
+    Ok(sheet)
+}
+
+fn with_seats(alloc: Global, min_seats: u8, max_seats: u8) -> Result<Sheet, NoMemory> {
+    let mut sheet = plain(alloc)?;
+    sheet.min_seats = min_seats;
+    sheet.max_seats = max_seats;
+    Ok(sheet)
+}
+
+fn with_moves(alloc: Global, moves: List<MoveRow>) -> Result<Sheet, NoMemory> {
+    let mut sheet = plain(alloc)?;
+    sheet.moves = moves;
+    Ok(sheet)
+}
+
+fn with_base(alloc: Global, base: &[MoveId]) -> Result<Sheet, NoMemory> {
+    let mut sheet = plain(alloc)?;
+    sheet.base = List::from_slice(alloc, base)?;
+    Ok(sheet)
+}
+
+fn with_turn(alloc: Global, turn: TurnRow) -> Result<Sheet, NoMemory> {
+    let mut sheet = plain(alloc)?;
+    sheet.turn = turn;
+    Ok(sheet)
+}
+
+fn with_phases(alloc: Global, phases: List<PhaseRow>) -> Result<Sheet, NoMemory> {
+    let mut sheet = plain(alloc)?;
+    sheet.phases = phases;
+    Ok(sheet)
+}
+
+fn with_stages(alloc: Global, stages: List<StageRow>) -> Result<Sheet, NoMemory> {
+    let mut sheet = plain(alloc)?;
+    sheet.stages = stages;
+    Ok(sheet)
+}
+
+fn with_specs(alloc: Global, specs: List<SpecRow>) -> Result<Sheet, NoMemory> {
+    let mut sheet = plain(alloc)?;
+    sheet.specs = specs;
+    Ok(sheet)
+}
+
+/// An order of so many entries, each this seat.
+fn custom(alloc: Global, entries: u8, seat: u8) -> Result<Order, NoMemory> {
+    let mut seats = List::new(alloc);
+    for _entry in 0..entries {
+        seats.push(seat)?;
+    }
+    Ok(Order::Custom(seats))
+}
+
+/// Seventeen names of phases.
+const SEVENTEEN: [&str; 17] = [
+    "a", "b", "c", "d", "e", "f", "g", "h", "i", "j", "k", "l", "m", "n", "o", "p", "q",
+];
+
+/// Two sheets for each of the first five rules, each plain but for what breaks its rule.
+fn spoiled_tables(alloc: Global, nr: u8) -> Result<Sheet, NoMemory> {
+    match nr {
+        0 => with_name(alloc, ""),
+        1 => with_name(alloc, "Piles"),
+        2 => with_seats(alloc, 5, 4),
+        3 => with_seats(alloc, 2, 17),
+        4 => with_moves(alloc, many_moves(alloc, 0)?),
+        5 => with_moves(alloc, moves(alloc, &["take", "pass", "take"])?),
+        6 => with_phases(alloc, phases(alloc, &["draw", "play 2"], false)?),
+        7 => with_phases(alloc, phases(alloc, &SEVENTEEN, false)?),
+        8 => with_stages(alloc, stages(alloc, &["bid-1", "wait"], None)?),
+        _ => with_stages(alloc, stages(alloc, &["bid", "bid"], None)?),
+    }
+}
+
+/// Two sheets for each of the other five rules.
+fn spoiled_rows(alloc: Global, nr: u8) -> Result<Sheet, NoMemory> {
+    match nr {
+        0 => with_base(alloc, &[MoveId::at(0), MoveId::at(2)]),
+        1 => with_stages(alloc, stage_with(alloc, &[MoveId::at(2)])?),
+        2 => with_phases(alloc, phases(alloc, &["draw", "play"], true)?),
+        3 => with_stages(alloc, stages(alloc, &["bid", "wait"], Some(2))?),
+        4 => with_turn(alloc, turn(Order::Default, 0, Some(0), None)),
+        5 => with_phases(
+            alloc,
+            phase_of(alloc, turn(Order::Default, 3, Some(2), None))?,
+        ),
+        6 => with_turn(alloc, turn(Order::Once, 1, Some(1), None)),
+        7 => with_phases(
+            alloc,
+            phase_of(alloc, turn(custom(alloc, 2, 2)?, 0, None, None))?,
+        ),
+        8 => with_specs(alloc, specs(alloc, 2, 1, 1, Some(1))?),
+        _ => with_specs(alloc, specs(alloc, 2, 2, 1, None)?),
+    }
+}
+
+/// Sheets that stand at a bound or one past it.
+fn at_a_bound(alloc: Global, nr: u8) -> Result<Sheet, NoMemory> {
+    match nr {
+        0 => with_name(alloc, "a-game-of-32-letters-or-digits-9"),
+        1 => with_name(alloc, "a-game-of-33-letters-or-digits-10"),
+        2 => with_seats(alloc, 16, 16),
+        3 => with_moves(alloc, many_moves(alloc, 32)?),
+        4 => with_moves(alloc, many_moves(alloc, 33)?),
+        5 => with_phases(
+            alloc,
+            phase_of(alloc, turn(Order::Once, 1, Some(1), Some(1)))?,
+        ),
+        6 => with_phases(
+            alloc,
+            phase_of(alloc, turn(Order::Default, 1, Some(1), Some(2)))?,
+        ),
+        7 => with_turn(alloc, turn(custom(alloc, 64, 1)?, 0, None, None)),
+        8 => with_turn(alloc, turn(custom(alloc, 65, 1)?, 0, None, None)),
+        9 => with_turn(alloc, turn(custom(alloc, 0, 1)?, 0, None, None)),
+        10 => with_specs(alloc, specs(alloc, 2, 1, 2, None)?),
+        _ => with_specs(alloc, specs(alloc, 2, 1, 1, Some(2))?),
+    }
+}
+
+/// Asserts that a sheet of a table breaks this rule first; 0 is none.
+fn assert_rule(rt: &impl Abort, nr: u8, sheet: &Sheet, rule: u8) {
+    let broken = match check_sheet(sheet) {
+        Ok(()) => 0,
+        Err(fault) => fault.rule,
+    };
+    assert_eq!(rt; broken, rule, "sheet {nr}");
+}
+
+#[test]
+fn each_rule_is_named_by_two_sheets(rt: HostRuntime) -> Result<(), Fail> {
+    for nr in 0..10u8 {
+        assert_rule(&rt, nr, &spoiled_tables(rt.alloc(), nr)?, nr / 2 + 1);
+        assert_rule(&rt, nr, &spoiled_rows(rt.alloc(), nr)?, nr / 2 + 6);
+    }
+    Ok(())
+}
+
+/// The rules that the sheets at a bound break.
+const AT_A_BOUND: [u8; 12] = [0, 1, 0, 0, 3, 0, 8, 0, 9, 9, 10, 10];
+
+#[test]
+fn what_stands_at_a_bound_passes(rt: HostRuntime) -> Result<(), Fail> {
+    for nr in 0..12u8 {
+        assert_rule(
+            &rt,
+            nr,
+            &at_a_bound(rt.alloc(), nr)?,
+            AT_A_BOUND[nr as usize],
+        );
+    }
+    assert_rule(&rt, 12, &plain(rt.alloc())?, 0);
+    Ok(())
+}
+
+#[test]
+fn contexts_are_copied_whole(rt: HostRuntime) -> Result<(), Fail> {
+    let alloc = rt.alloc();
+    let ctx = Ctx {
+        seats: 2,
+        turn: 7,
+        current: 1,
+        order: List::from_slice(alloc, &[1, 0])?,
+        pos: 0,
+        phase: Some(PhaseId::at(3)),
+        active: Some(List::from_slice(alloc, &[(0, Some(StageId::at(2))), (1, None)])?),
+        moves: 5,
+        over: Some(Outcome::Winner(1)),
+    };
+    let copied = ctx.copy(alloc)?;
+    assert_eq!(rt; copied.order.as_slice(), ctx.order.as_slice());
+    assert_eq!(rt; copied.active.map(|rows| rows.len()), Some(2));
+    assert_eq!(rt;
+        (copied.seats, copied.turn, copied.current, copied.pos),
+        (2, 7, 1, 0)
+    );
+    assert_eq!(rt; (copied.phase, copied.moves), (Some(PhaseId::at(3)), 5));
+    assert_eq!(rt; copied.over, Some(Outcome::Winner(1)));
+    Ok(())
+}
+
+/// A copy of a text of these bytes.
+fn copied(alloc: Global, text: &str) -> Result<Text, NoMemory> {
+    Text::from_str(alloc, text)?.copy(alloc)
+}
+
+#[test]
+fn texts_are_copied_whole(rt: HostRuntime) -> Result<(), Fail> {
+    let text = copied(rt.alloc(), "draw")?;
+    assert_eq!(rt; text.as_str(), "draw");
+    assert!(rt; text.is("draw"));
+    assert!(rt; !text.is("Draw"));
+    Ok(())
+}
+
+#[test]
+fn a_queue_takes_sixteen_events(rt: HostRuntime) {
+    let mut queue = EventQueue::new();
+    for _event in 0..16 {
+        assert_eq!(rt; queue.push(Event::EndPhase), Ok(()));
+    }
+    assert_eq!(rt; queue.push(Event::EndStage), Err(Crowded));
+    assert_eq!(rt; queue.list().len(), 16);
+}
+
+#[test]
+fn bytes_come_in_pieces(rt: HostRuntime) -> Result<(), Fail> {
+    let alloc = rt.alloc();
+    assert_eq!(rt; Bytes::none(alloc).count(), 0);
+    let bytes = Bytes::from_vec(Vec::from_slice(alloc, b"one\ntwo")?);
+    assert_eq!(rt; bytes.count(), 1);
+    assert_eq!(rt; bytes.piece(0), b"one\ntwo".as_slice());
+    Ok(())
+}

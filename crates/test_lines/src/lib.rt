@@ -1,0 +1,13 @@
+//! Tests of lines: JSON and its edges, the messages, and the texts of what a player is shown.
+#![tactic(auto)]
+
+#[cfg(test)]
+mod answers;
+#[cfg(test)]
+mod messages;
+#[cfg(test)]
+mod read;
+#[cfg(test)]
+mod shown;
+#[cfg(test)]
+mod trees;
