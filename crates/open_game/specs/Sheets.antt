@@ -1,0 +1,25 @@
+-- The sheet of a game of turns without phases, stages and secrets.
+use Rattle.std.specs.Prelude.{ℕ, true, false, List, [], map, Option, Some, None}
+use Rattle.game_sheet.specs.declared.act.EventKind.{EventKind}
+use Rattle.game_sheet.specs.declared.sheet.MoveRow.{MoveRow}
+use Rattle.game_sheet.specs.declared.sheet.Order.TheVariants.{Default}
+use Rattle.game_sheet.specs.declared.sheet.Sheet.{Sheet}
+
+-- a move that is shown to all, counts toward each limit and may be guessed
+abbrev pub ordinary : List ℕ → MoveRow
+ordinary name = record { name = name; redact = false; client = true; no_limit = false; ignore_stale = false }
+
+-- from the least to the greatest number of seats, with ordinary moves and turns of one of them up to a greatest number
+abbrev pub turns_sheet : List ℕ → ℕ → ℕ → List (List ℕ) → List ℕ → Option ℕ → List EventKind → Sheet
+turns_sheet name least greatest names base max_moves events = record {
+  name = name;
+  min_seats = least;
+  max_seats = greatest;
+  moves = map ordinary names;
+  base = base;
+  turn = record { order = Default; min_moves = 1; max_moves = max_moves; active = None };
+  phases = [];
+  stages = [];
+  specs = [];
+  events = events;
+}
