@@ -1,6 +1,7 @@
 pub mod EventNames
+pub mod Held
+pub mod Lines
 pub mod MatchName
-pub mod Pieces
 pub mod SheetFits
 pub mod SheetNames
 pub mod SheetRules
