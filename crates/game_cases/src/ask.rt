@@ -6,8 +6,9 @@ use crate::hook::print_hook;
 use crate::play::print_play;
 use crate::position::Position;
 use dice_words::Tape;
-use game_sheet::{Arg, Ctx, MoveId, NoMemory, PhaseId};
+use game_sheet::{Args, Ctx, MoveId, NoMemory, PhaseId};
 use game_trait::Game;
+use sheet_json::args_value;
 use std::io;
 
 /// Asks a game each row.
@@ -203,7 +204,7 @@ fn print_options<X: Game>(
     match game.options(rt.alloc(), g, ctx, seat) {
         Ok(offers) => {
             for offer in offers.as_slice() {
-                print_offer(rt, offer.0.place(), offer.1.as_slice())?;
+                print_offer(rt, offer.0.place(), &offer.1)?;
             }
             Ok(())
         }
@@ -211,16 +212,12 @@ fn print_options<X: Game>(
     }
 }
 
-/// Prints an offered move: its place in the sheet and its arguments.
-fn print_offer(rt: &HostRuntime, place: u8, args: &[Arg]) -> io::Result<()> {
-    print!(rt; "  {place}")?;
-    for arg in args {
-        match arg {
-            Arg::Whole(number) => print!(rt; " {number}")?,
-            Arg::Text(text) => print!(rt; " {:?}", text.as_str())?,
-        }
+/// Prints an offered move: its place in the sheet and its arguments, as a JSON list.
+fn print_offer(rt: &HostRuntime, place: u8, args: &Args) -> io::Result<()> {
+    match args_value(rt.alloc(), args) {
+        Ok(list) => println!(rt; "  {place} {list}"),
+        Err(NoMemory) => println!(rt; "  no memory"),
     }
-    println!(rt; "")
 }
 
 /// Prints whether a move may be undone.

@@ -4,9 +4,10 @@ ghost use Rattle.std.specs.Prelude.{◌<◌, ◌≤◌, ◌≡◌, [], length};
 
 use crate::ask::print_state;
 use dice_words::Tape;
-use game_sheet::{Arg, Args, Ctx, EventQueue, MoveId, Seat, Short};
+use game_sheet::{Args, Ctx, EventQueue, MoveId, Seat};
 use game_trait::Game;
 use serde_json::Value;
+use sheet_json::args_of;
 use std::alloc::Global;
 use std::io;
 
@@ -57,37 +58,18 @@ fn move_of(alloc: Global, row: &str) -> Option<(Seat, u8, Args)> {
     let (seat, rest) = row.split_once(' ')?;
     let (place, list) = rest.split_once(' ')?;
     let (seat, place) = (seat.parse::<u8>().ok()?, place.parse::<u8>().ok()?);
-    Some((seat, place, args_of(alloc, list)?))
+    Some((seat, place, args_in(alloc, list)?))
 }
 
 /// The arguments of a JSON list.
-fn args_of(alloc: Global, list: &str) -> Option<Args> {
+fn args_in(alloc: Global, list: &str) -> Option<Args> {
     let Ok(value) = Value::from_str(alloc, list) else {
         return None;
     };
     let args = match &value {
-        Value::Array(items) => listed(items.as_slice()),
+        Value::Array(items) => args_of(items.as_slice()),
         _ => None,
     };
     drop(value);
     args
-}
-
-fn listed(items: &[Value]) -> Option<Args> {
-    let mut args = Args::new();
-    for item in items {
-        if args.len() >= Args::MOST {
-            return None;
-        }
-        args.push(arg_of(item)?);
-    }
-    Some(args)
-}
-
-/// One argument: a whole number of 32 bits, or a short text.
-fn arg_of(item: &Value) -> Option<Arg> {
-    match item.as_str() {
-        Some(text) => Some(Arg::Text(Short::of(text.as_bytes())?)),
-        None => Some(Arg::Whole(i32::try_from(item.as_i64()?).ok()?)),
-    }
 }

@@ -250,7 +250,8 @@ fn client_writes(
     let message = message?;
     let line = write_client(alloc, &message);
     drop(message);
-    assert_eq!(rt; line?.as_slice(), wanted.as_bytes());
+    let line = line?;
+    assert_eq!(rt; line.as_slice(), wanted.as_bytes());
     Ok(())
 }
 
@@ -312,8 +313,14 @@ fn client_lines_are_written_as_they_are_read(rt: HostRuntime) -> Result<(), Fail
 /// The tree of a JSON text without floats.
 fn tree(alloc: Global, text: &str) -> Result<Tree, NoMemory> {
     match Value::from_str(alloc, text) {
-        Ok(value) if !contains_float(&value) => Ok(Tree::new(value)),
-        _ => Err(NoMemory),
+        Ok(value) => {
+            if contains_float(&value) {
+                drop(value);
+                return Err(NoMemory);
+            }
+            Ok(Tree::new(value))
+        }
+        Err(_) => Err(NoMemory),
     }
 }
 
@@ -344,7 +351,8 @@ fn server_writes(
     let message = message?;
     let line = write_server(alloc, &message);
     drop(message);
-    assert_eq!(rt; line?.as_slice(), wanted.as_bytes());
+    let line = line?;
+    assert_eq!(rt; line.as_slice(), wanted.as_bytes());
     assert!(rt; is_again(alloc, wanted)?, "{wanted}");
     Ok(())
 }
@@ -355,7 +363,8 @@ fn is_again(alloc: Global, line: &str) -> Result<bool, NoMemory> {
         Ok(message) => {
             let again = write_server(alloc, &message);
             drop(message);
-            Ok(again?.as_slice() == line.as_bytes())
+            let again = again?;
+            Ok(again.as_slice() == line.as_bytes())
         }
         Err(_) => Ok(false),
     }
