@@ -4,6 +4,7 @@ use Rattle.std.specs.List.{list_all}
 use Rattle.std.proofs.lemmas.Bool.{ltb-true, and_parts}
 use Rattle.game_sheet.specs.declared.act.Event.{Event}
 use Rattle.game_sheet.specs.declared.act.Event.TheVariants.{EndTurn, EndPhase, SetPhase, EndStage, SetStage, SetActive, EndGame}
+use Rattle.game_sheet.specs.declared.act.Outcome.TheVariants.{Winner, Draw, Ended}
 use Rattle.game_sheet.specs.declared.sheet.Sheet.{Sheet}
 use Rattle.game_trait.specs.Deed.{Done, GaveUp}
 use Rattle.game_trait.specs.InSheet.{EventInSheet}
@@ -19,6 +20,7 @@ abbrev pub in_sheet : Sheet → Event → Bool
 in_sheet sheet (SetPhase to) = nat_lt to (length sheet.phases)
 in_sheet sheet (SetStage to) = nat_lt to (length sheet.stages)
 in_sheet sheet (SetActive spec) = nat_lt spec (length sheet.specs)
+in_sheet sheet (EndGame (Winner seat)) = nat_lt seat 16
 in_sheet sheet event = true
 
 abbrev pub are_in_sheet : Sheet → List Cue → Bool
@@ -31,7 +33,9 @@ event_in_sheet sheet (SetPhase to) is = ltb-true to (length sheet.phases) is
 event_in_sheet sheet EndStage is = tt
 event_in_sheet sheet (SetStage to) is = ltb-true to (length sheet.stages) is
 event_in_sheet sheet (SetActive spec) is = ltb-true spec (length sheet.specs) is
-event_in_sheet sheet (EndGame outcome) is = tt
+event_in_sheet sheet (EndGame (Winner seat)) is = ltb-true seat 16 is
+event_in_sheet sheet (EndGame Draw) is = tt
+event_in_sheet sheet (EndGame Ended) is = tt
 
 -- the events of a moment are among those of the cues
 one_more : (sheet : Sheet) (moment : Moment) (cue : Cue) (cues : List Cue) (test : Bool) → in_sheet sheet cue.event ≡ true → AllInSheet sheet (cued moment cues) → AllInSheet sheet (map (λ (cue : Cue). cue.event) (if test then cue ∷ filter (λ (cue : Cue). is_at cue.moment moment) cues else filter (λ (cue : Cue). is_at cue.moment moment) cues))

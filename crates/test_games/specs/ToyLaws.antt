@@ -1,12 +1,17 @@
 -- The small game keeps the laws of games.
-use Rattle.std.specs.Prelude.{◌≡◌, ℕ, ◌+◌, ◌%◌, ◌^◌, if◌then◌else◌, nat_le, nat_lt, IsTrue, Bool, true, false, List, [], ◌∷◌, length, codes, Some, None, IfSome, Result, Ok, Err, IfOk, refl}
+use Rattle.std.specs.Prelude.{◌≡◌, ℕ, ◌<◌, ◌≤◌, ◌+◌, ◌%◌, ◌^◌, if◌then◌else◌, nat_le, nat_lt, IsTrue, Bool, true, false, List, [], ◌∷◌, length, codes, Some, None, IfSome, Result, Ok, Err, IfOk, refl}
 use Rattle.std.specs.Result.{result_ok}
-use Rattle.std.proofs.Common.{ap, subst, sym, lit<}
+use Rattle.std.proofs.Common.{ap, subst, sym, lit<, arith}
 use Rattle.std.proofs.Math.Nat.{le-pred_of_lt, mod-lt}
-use Rattle.std.proofs.lemmas.Bool.{le-leb}
+use Rattle.std.proofs.lemmas.Bool.{le-leb, leb-true}
+use Rattle.json.proofs.Printed.Utf8.{IsUtf8-are_ascii}
+use Rattle.game_sheet.specs.SheetFits.{SheetFits}
 use Rattle.game_sheet.specs.declared.act.Event.{Event}
+use Rattle.game_sheet.specs.declared.act.Outcome.{Outcome}
+use Rattle.game_sheet.specs.declared.act.Outcome.TheVariants.{Draw}
 use Rattle.game_sheet.specs.declared.sheet.Sheet.{Sheet}
 use Rattle.game_trait.specs.Deed.{Done, GaveUp}
+use Rattle.game_trait.specs.InSheet.{OutcomeFits}
 use Rattle.game_trait.specs.Lawful.{GivesOwn, Lawful}
 use Rattle.json_tree.specs.Canonical.{IsCanonical}
 use Rattle.json_tree.specs.Fields.{natural_in}
@@ -17,7 +22,7 @@ use Rattle.json_tree.proofs.FieldLaws.{natural_reads}
 use Rattle.json_tree.proofs.Rows.{row_is}
 use Rattle.serde_json.specs.Data.{Data, null, boolean, number, string, array, object, unsigned, Members, no_members, member}
 use Rattle.serde_json.specs.Find.{get_member}
-use Rattle.test_games.specs.Toy.{count_read, count_value, is_count, queueing, toy_rules}
+use Rattle.test_games.specs.Toy.{count_read, count_value, is_count, is_reached, queueing, toy_rules}
 use Rattle.test_games.specs.declared.cue.Cue.{Cue}
 use Rattle.test_games.specs.declared.toy.Ends.{Ends}
 
@@ -57,8 +62,17 @@ count_reads (object ms) = members_read ms (has_extra (codes "count" ∷ []) ms) 
 read_from : (v : Data) (count : ℕ) → count_read v ≡ Some count → IsReadFrom v count
 read_from v count is = subst (λ o. IfSome o (IsReadFrom v)) is (count_reads v)
 
-pub toy_lawful : (sheet : Sheet) (cues : List Cue) (ends : Ends) → Lawful (toy_rules sheet cues ends)
-toy_lawful sheet cues ends = record {
+count_written : (count : ℕ) → IsTrue (is_count count) → count < 2 ^ 64
+count_written count own = let low : count ≤ 4294967295 = leb-true count 4294967295 own in omega arith
+
+-- no seat wins
+draw_fits : (test : Bool) (outcome : Outcome) → (if test then Some Draw else None) ≡ Some outcome → OutcomeFits outcome
+draw_fits true outcome is = subst (λ o. IfSome o OutcomeFits) is tt
+draw_fits false outcome is = subst (λ o. IfSome o OutcomeFits) is tt
+
+pub toy_lawful : (sheet : Sheet) (cues : List Cue) (ends : Ends) → SheetFits sheet → Lawful (toy_rules sheet cues ends)
+toy_lawful sheet cues ends fits = record {
+  fits = fits;
   setup = λ seats words least most. refl;
   play = λ g ctx seat id args words own. queueing_own _ _ words _ (wrapped_own g);
   on_move = λ g ctx seat words own. queueing_own _ g words _ own;
@@ -70,10 +84,11 @@ toy_lawful sheet cues ends = record {
   view = λ g ctx viewer own. own;
   view_again = λ g ctx viewer own. refl;
   written_object = λ g own. refl;
-  written_float_free = λ g own. refl;
+  written = λ g own. (tt, count_written g own, tt, IsUtf8-are_ascii (codes "count") refl);
   reads_back = λ g own. count_reads_back g own;
   read_own = λ v g is. (read_from v g is).0;
   read_only = λ v g canonical is. (read_from v g is).1 canonical;
+  ends = λ g ctx outcome own is. draw_fits (is_reached ends.game g) outcome is;
   offers_known = λ g ctx seat. tt;
   offers_none = λ g ctx seat none. refl;
 }

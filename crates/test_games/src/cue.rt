@@ -6,7 +6,7 @@ ghost use Rattle.test_games.specs.InSheet.{in_sheet};
 ghost use Rattle.test_games.specs.Moment.{cued, is_at};
 ghost use Rattle.test_games.specs.declared.cue.Moment.TheVariants.{Move as IsMove, PhaseBegin as IsPhaseBegin, PhaseEnd as IsPhaseEnd};
 
-use game_sheet::{Crowded, Event, EventQueue, MoveId, PhaseId, Sheet};
+use game_sheet::{Crowded, Event, EventQueue, MOST_SEATS, MoveId, Outcome, PhaseId, Sheet};
 
 /// When a game's code runs.
 #[derive(Clone, Copy, PartialEq, Eq, Debug)]
@@ -84,7 +84,7 @@ pub struct Cue {
 pub(crate) fn queue(cues: &[Cue], moment: Moment, events: &mut EventQueue) -> Result<(), Crowded>
     requires { events.old ≡ [] }
     ensures ok { OnOk result ((length (cued moment cues.now) ≤ 16) × (events.new ≡ cued moment cues.now)) }
-    ensures err { OnErr result (16 < length (cued moment cues.now)) }
+    ensures err { OnErr result ((16 < length (cued moment cues.now)) × (length events.new ≡ 16)) }
 {
     for cue in cues {
         if cue.moment.is(&moment) {
@@ -101,7 +101,7 @@ pub(crate) fn are_in_sheet(sheet: &Sheet, cues: &[Cue]) -> bool
     cues.iter().all(|cue| in_sheet(sheet, &cue.event))
 }
 
-/// Whether an event's phase, stage or spec is in the sheet.
+/// Whether an event's phase, stage or spec is in the sheet, and the seat that it lets win can be one of a match.
 pub(crate) fn in_sheet(sheet: &Sheet, event: &Event) -> bool
     ensures { result ≡ in_sheet sheet.now event.now }
 {
@@ -109,6 +109,9 @@ pub(crate) fn in_sheet(sheet: &Sheet, event: &Event) -> bool
         Event::SetPhase { to } => (to.place() as usize) < sheet.phases.len(),
         Event::SetStage { to } => (to.place() as usize) < sheet.stages.len(),
         Event::SetActive { spec } => (spec.place() as usize) < sheet.specs.len(),
+        Event::EndGame {
+            outcome: Outcome::Winner(seat),
+        } => *seat < MOST_SEATS,
         _ => true,
     }
 }

@@ -102,7 +102,7 @@ impl Game for Toy {
 
     ghost in_sheet = { λ toy. toy_in_sheet toy.sheet toy.cues toy.ends toy.keeps };
 
-    ghost lawful = { λ toy. toy_lawful toy.sheet toy.cues toy.ends };
+    ghost lawful = { λ toy. toy_lawful toy.sheet toy.cues toy.ends toy.fits };
 
     fn sheet(&self) -> &Sheet {
         &self.sheet
