@@ -68,12 +68,18 @@ fn each_order_at_the_first_place_and_the_next(rt: HostRuntime) -> Result<(), Fai
     Ok(())
 }
 
+/// Where a later phase begins after place 5 of a longer play order, where it has four seats.
+fn shortened(order: Order) -> u8 {
+    let place = first(&order, false, 5, 4);
+    drop(order);
+    place
+}
+
 #[test]
 fn a_shorter_play_order_takes_the_old_place_round(rt: HostRuntime) {
-    assert_eq!(rt; first(&Order::Default, false, 5, 4), 2);
-    assert_eq!(rt; first(&Order::Default, false, 255, 64), 0);
-    assert_eq!(rt; first(&Order::Continue, false, 5, 4), 1);
-    assert_eq!(rt; first(&Order::Reset, false, 5, 4), 0);
+    assert!(rt; shortened(Order::Default) == 2);
+    assert!(rt; shortened(Order::Continue) == 1);
+    assert!(rt; shortened(Order::Reset) == 0);
 }
 
 /// The play order that a list gives in a match of three seats.

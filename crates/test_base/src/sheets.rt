@@ -127,20 +127,46 @@ fn specs(
     Ok(rows)
 }
 
-/// A sheet that breaks no rule: two seats at least, two moves, two phases, two stages and two specs.
-fn plain(alloc: Global) -> Result<Sheet, NoMemory> {
-    Ok(Sheet {
-        name: Text::from_str(alloc, "two-piles")?,
-        min_seats: 2,
-        max_seats: 4,
-        moves: moves(alloc, &["take", "pass"])?,
-        base: List::from_slice(alloc, &[MoveId::at(0), MoveId::at(1)])?,
-        turn: turn(Order::Default, 1, Some(1), Some(1)),
+/// The rows of a sheet.
+#[derive(Drop)]
+struct Rows {
+    phases: List<PhaseRow>,
+    stages: List<StageRow>,
+    specs: List<SpecRow>,
+}
+
+/// Two phases, two stages and two specs.
+fn plain_rows(alloc: Global) -> Result<Rows, NoMemory> {
+    Ok(Rows {
         phases: phases(alloc, &["draw", "play2"], false)?,
         stages: stages(alloc, &["bid", "wait"], Some(1))?,
         specs: specs(alloc, 2, 1, 1, None)?,
+    })
+}
+
+/// A sheet of these rows that breaks no rule but theirs: two seats at least, and two moves.
+fn sheet_of(alloc: Global, rows: Result<Rows, NoMemory>) -> Result<Sheet, NoMemory> {
+    let name = Text::from_str(alloc, "two-piles")?;
+    let base = List::from_slice(alloc, &[MoveId::at(0), MoveId::at(1)])?;
+    let moves = moves(alloc, &["take", "pass"])?;
+    let rows = rows?;
+    Ok(Sheet {
+        name,
+        min_seats: 2,
+        max_seats: 4,
+        moves,
+        base,
+        turn: turn(Order::Default, 1, Some(1), Some(1)),
+        phases: rows.phases,
+        stages: rows.stages,
+        specs: rows.specs,
         events: List::new(alloc),
     })
+}
+
+/// A sheet that breaks no rule.
+fn plain(alloc: Global) -> Result<Sheet, NoMemory> {
+    sheet_of(alloc, plain_rows(alloc))
 }
 
 fn with_name(alloc: Global, name: &str) -> Result<Sheet, NoMemory> {
@@ -244,7 +270,7 @@ fn spoiled_rows(alloc: Global, nr: u8) -> Result<Sheet, NoMemory> {
     }
 }
 
-/// Sheets that stand at a bound or one past it.
+/// Sheets that stand at a bound or one past it, in their names, seats, moves and turns.
 fn at_a_bound(alloc: Global, nr: u8) -> Result<Sheet, NoMemory> {
     match nr {
         0 => with_name(alloc, "a-game-of-32-letters-or-digits-9"),
@@ -260,6 +286,13 @@ fn at_a_bound(alloc: Global, nr: u8) -> Result<Sheet, NoMemory> {
             alloc,
             phase_of(alloc, turn(Order::Default, 1, Some(1), Some(2)))?,
         ),
+        _ => in_their_orders(alloc, nr),
+    }
+}
+
+/// The same in their orders and specs.
+fn in_their_orders(alloc: Global, nr: u8) -> Result<Sheet, NoMemory> {
+    match nr {
         7 => with_turn(alloc, turn(custom(alloc, 64, 1)?, 0, None, None)),
         8 => with_turn(alloc, turn(custom(alloc, 65, 1)?, 0, None, None)),
         9 => with_turn(alloc, turn(custom(alloc, 0, 1)?, 0, None, None)),
