@@ -336,29 +336,50 @@ fn what_stands_at_a_bound_passes(rt: HostRuntime) -> Result<(), Fail> {
     Ok(())
 }
 
-#[test]
-fn contexts_are_copied_whole(rt: HostRuntime) -> Result<(), Fail> {
-    let alloc = rt.alloc();
-    let ctx = Ctx {
+/// A context in which nothing is as at the beginning.
+fn moved_on(alloc: Global) -> Result<Ctx, NoMemory> {
+    let order = List::from_slice(alloc, &[1, 0])?;
+    let active = List::from_slice(alloc, &[(0, Some(StageId::at(2))), (1, None)])?;
+    Ok(Ctx {
         seats: 2,
         turn: 7,
         current: 1,
-        order: List::from_slice(alloc, &[1, 0])?,
+        order,
         pos: 0,
         phase: Some(PhaseId::at(3)),
-        active: Some(List::from_slice(alloc, &[(0, Some(StageId::at(2))), (1, None)])?),
+        active: Some(active),
         moves: 5,
         over: Some(Outcome::Winner(1)),
+    })
+}
+
+/// The numbers of a context, and how many seats are on its map.
+fn numbers(ctx: &Ctx) -> [u32; 6] {
+    let active = match &ctx.active {
+        Some(rows) => rows.len() as u32,
+        None => 9,
     };
-    let copied = ctx.copy(alloc)?;
-    assert_eq!(rt; copied.order.as_slice(), ctx.order.as_slice());
-    assert_eq!(rt; copied.active.map(|rows| rows.len()), Some(2));
-    assert_eq!(rt;
-        (copied.seats, copied.turn, copied.current, copied.pos),
-        (2, 7, 1, 0)
-    );
-    assert_eq!(rt; (copied.phase, copied.moves), (Some(PhaseId::at(3)), 5));
-    assert_eq!(rt; copied.over, Some(Outcome::Winner(1)));
+    let (seats, current, pos) = (ctx.seats.into(), ctx.current.into(), ctx.pos.into());
+    [seats, ctx.turn, current, pos, ctx.moves, active]
+}
+
+/// Whether a copy of a context is the one that has moved on.
+fn is_copied(alloc: Global, ctx: Result<Ctx, NoMemory>) -> Result<bool, NoMemory> {
+    let ctx = ctx?;
+    let copy = ctx.copy(alloc);
+    drop(ctx);
+    let copy = copy?;
+    let same_numbers = numbers(&copy) == [2, 7, 1, 0, 5, 2];
+    let same_order = copy.order.as_slice() == [1, 0].as_slice();
+    let same_end = copy.over == Some(Outcome::Winner(1)) && copy.phase == Some(PhaseId::at(3));
+    drop(copy);
+    Ok(same_numbers && same_order && same_end)
+}
+
+#[test]
+fn contexts_are_copied_whole(rt: HostRuntime) -> Result<(), Fail> {
+    let alloc = rt.alloc();
+    assert!(rt; is_copied(alloc, moved_on(alloc))?);
     Ok(())
 }
 
@@ -386,12 +407,32 @@ fn a_queue_takes_sixteen_events(rt: HostRuntime) {
     assert_eq!(rt; queue.list().len(), 16);
 }
 
+/// The lines of bytes, each in brackets.
+fn bracketed(alloc: Global, bytes: &Bytes) -> Result<Vec<u8>, NoMemory> {
+    let mut text = Vec::new(alloc);
+    for place in 0..bytes.count() {
+        text.push(b'[')?;
+        text.extend_from_slice(bytes.piece(place))?;
+        text.push(b']')?;
+    }
+    Ok(text)
+}
+
+/// Compares the lines of bytes.
+fn has_lines(rt: &impl Abort, alloc: Global, bytes: Bytes, lines: &[u8]) -> Result<(), NoMemory> {
+    let text = bracketed(alloc, &bytes);
+    drop(bytes);
+    let text = text?;
+    assert_eq!(rt; text.as_slice(), lines);
+    Ok(())
+}
+
 #[test]
-fn bytes_come_in_pieces(rt: HostRuntime) -> Result<(), Fail> {
+fn bytes_come_line_by_line(rt: HostRuntime) -> Result<(), Fail> {
     let alloc = rt.alloc();
-    assert_eq!(rt; Bytes::none(alloc).count(), 0);
-    let bytes = Bytes::from_vec(Vec::from_slice(alloc, b"one\ntwo")?);
-    assert_eq!(rt; bytes.count(), 1);
-    assert_eq!(rt; bytes.piece(0), b"one\ntwo".as_slice());
+    has_lines(&rt, alloc, Bytes::none(), b"")?;
+    has_lines(&rt, alloc, Bytes::fixed(b"one\n\n"), b"[one\n][\n]")?;
+    let owned = Bytes::from_vec(Vec::from_slice(alloc, b"one\ntwo")?);
+    has_lines(&rt, alloc, owned, b"[one\n][two]")?;
     Ok(())
 }
