@@ -354,13 +354,14 @@ fn moved_on(alloc: Global) -> Result<Ctx, NoMemory> {
 }
 
 /// The numbers of a context, and how many seats are on its map.
-fn numbers(ctx: &Ctx) -> [u32; 6] {
+fn numbers(ctx: &Ctx) -> [usize; 6] {
     let active = match &ctx.active {
-        Some(rows) => rows.len() as u32,
+        Some(rows) => rows.len(),
         None => 9,
     };
-    let (seats, current, pos) = (ctx.seats.into(), ctx.current.into(), ctx.pos.into());
-    [seats, ctx.turn, current, pos, ctx.moves, active]
+    let (seats, turn, moves) = (ctx.seats as usize, ctx.turn as usize, ctx.moves as usize);
+    let (current, pos) = (ctx.current as usize, ctx.pos as usize);
+    [seats, turn, current, pos, moves, active]
 }
 
 /// Whether a copy of a context is the one that has moved on.
