@@ -10,7 +10,7 @@ use game_trait::Game;
 use match_master::{Book, RoomCall, RoomReply};
 use std::alloc::Global;
 use std::io;
-use wire_json::{Asked, AskedTo, Verdict};
+use wire_json::{Asked, AskedTo, Submission, Verdict};
 
 /// Plays each row.
 pub fn play_rows<X: Game + Drop>(
@@ -81,13 +81,13 @@ fn attach<X>(seat: Option<Seat>) -> RoomCall<X> {
 
 /// Submits an action with the seat's key.
 fn submit<X>(seat: Seat, number: u32, asked: Asked) -> RoomCall<X> {
-    RoomCall::Submit {
+    RoomCall::Submit(Submission {
         name: MatchName::new(0, 1),
         key: key_of(seat),
         number,
         ticket: 1,
         asked,
-    }
+    })
 }
 
 /// What is asked for, as a room takes it.

@@ -4,6 +4,8 @@
 #[cfg(test)]
 mod answers;
 #[cfg(test)]
+mod auction;
+#[cfg(test)]
 mod messages;
 #[cfg(test)]
 mod read;

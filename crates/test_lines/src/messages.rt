@@ -12,8 +12,8 @@ use std::alloc::Global;
 use std::process::Abort;
 use std::test::Fail;
 use wire_json::{
-    Asked, AskedTo, ClientMsg, Reason, ServerMsg, WireNo, key_of, match_of, read_client,
-    read_server, resolve, write_client, write_server,
+    Asked, AskedTo, ClientMsg, Reason, ServerMsg, Submission, WireNo, key_of, match_of,
+    read_client, read_server, resolve, write_client, write_server,
 };
 
 const SYNC: &str =
@@ -273,13 +273,13 @@ fn submitted(
     number: u32,
     ticket: u32,
 ) -> Result<ClientMsg, NoMemory> {
-    Ok(ClientMsg::Act {
-        act: asked?,
-        key: ten(),
+    Ok(ClientMsg::Act(Submission {
         name: MatchName::new(0, 1),
+        key: ten(),
         number,
         ticket,
-    })
+        asked: asked?,
+    }))
 }
 
 #[test]
