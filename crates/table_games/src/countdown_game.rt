@@ -1,237 +1,109 @@
 //! Countdown for two to four seats.
 
-ghost use Rattle.std.specs.Prelude.{◌≡◌, IfOk};
-ghost use Rattle.table_games.specs.Countdown.{countdown_sheet};
+ghost use Rattle.std.specs.Prelude.{◌≡◌, ◌<◌, option_and_then};
+ghost use Rattle.dice_words.specs.Strip.{Follows};
+ghost use Rattle.game_trait.specs.Gives.{Gives};
+ghost use Rattle.open_game.specs.Arguments.{only_natural};
+ghost use Rattle.std.specs.Prelude.{[]};
+ghost use Rattle.table_states.specs.Countdown.{take, wild};
 
-use crate::heap::Heap;
-use crate::rows::make_ordinary;
 use dice_words::Tape;
-use game_sheet::{
-    Args, Ctx, EventKind, EventQueue, List, MoveId, NoMemory, Order, Outcome, PhaseId, Seat, Sheet,
-    Text, TurnRow, unbroken,
-};
-use game_trait::{Game, Halt, HookHalt, may_be_offered};
-use serde_json::Value;
+use game_sheet::{Arg, Args, EventKind, EventQueue, List, MoveId, NoMemory, Outcome, Seat, Sheet};
+use game_trait::Halt;
+use open_game::{Open, OpenGame, only_natural, turns_sheet};
 use std::alloc::Global;
-use std::marker::Model;
+use table_states::Heap;
 
-/// The game, which holds its sheet.
+/// Countdown: two to four seats take from a heap of 21 in turn, and whoever takes the last of it wins.
+pub type Countdown = Open<CountdownRules>;
+
+/// The rules of Countdown.
 #[derive(Drop)]
-pub struct Countdown {
-    sheet: Sheet,
-}
+pub struct CountdownRules;
 
-impl Model for Countdown {
-    // It is always the same game.
-    ghost Value = { Unit {0} };
-
-    ghost view = { λ _. tt };
-
-    ghost invariant = { λ game. game.sheet ≡ countdown_sheet };
-}
-
-impl Countdown {
-    /// The game.
-    pub fn new(alloc: Global) -> Result<Self, NoMemory> {
-        let sheet = make_sheet(alloc)?;
-        Ok(Countdown { sheet })
-    }
-}
-
-impl Game for Countdown {
-    ghost use Rattle.table_games.specs.InSheet.{countdown_in_sheet};
-    ghost use Rattle.table_games.specs.CountdownLaws.{countdown_lawful};
-    ghost use Rattle.table_games.specs.Countdown.{countdown};
+impl OpenGame for CountdownRules {
+    ghost use Rattle.table_states.specs.Countdown.{countdown};
+    ghost use Rattle.table_states.proofs.CountdownLaws.{countdown_laws};
 
     type G = Heap;
 
-    ghost rules = { λ _. countdown };
+    ghost rules = { countdown };
 
-    ghost in_sheet = { λ _. countdown_in_sheet };
+    ghost laws = { countdown_laws };
 
-    ghost lawful = { λ _. countdown_lawful };
-
-    #[tactic(auto, unfolding(game_sheet::specs::SheetRules::broken))]
-    fn sheet(&self) -> &Sheet {
-        unbroken(&self.sheet)
+    /// Two moves, turns of one or two of them, and a player may end the turn.
+    fn make_sheet(alloc: Global) -> Result<Sheet, NoMemory> {
+        let base = [MoveId::at(0), MoveId::at(1)];
+        turns_sheet(
+            alloc,
+            "countdown",
+            2,
+            4,
+            &["take", "wild"],
+            &base,
+            Some(2),
+            &[EventKind::EndTurn],
+        )
     }
 
-    fn setup(&self, alloc: Global, seats: u8, tape: &mut Tape) -> Result<Heap, HookHalt> {
+    fn opening(alloc: Global, seats: u8) -> Result<Heap, NoMemory> {
         Ok(Heap::new())
     }
 
     fn play(
-        &self,
         alloc: Global,
         g: &Heap,
-        ctx: &Ctx,
         seat: Seat,
         id: MoveId,
-        args: &Args,
+        args: &[Arg],
         tape: &mut Tape,
         events: &mut EventQueue,
     ) -> Result<Heap, Halt> {
         if seat >= 4 {
             Err(Halt::Invalid)
         } else if id.place() == 0 {
-            g.take(seat, args.as_slice())
+            take(g, seat, args).ok_or(Halt::Invalid)
         } else {
-            g.wild(seat, args.as_slice(), tape)
+            wild(g, seat, args, tape)
         }
     }
 
-    fn on_move(
-        &self,
-        alloc: Global,
-        g: &Heap,
-        ctx: &Ctx,
-        seat: Seat,
-        tape: &mut Tape,
-        events: &mut EventQueue,
-    ) -> Result<Option<Heap>, HookHalt> {
-        Ok(None)
+    /// Whoever took the last of the heap wins.
+    fn end_if(g: &Heap) -> Option<Outcome> {
+        if g.left == 0 {
+            g.last.map(|seat| Outcome::Winner(seat))
+        } else {
+            None
+        }
     }
 
-    fn turn_begin(
-        &self,
-        alloc: Global,
-        g: &Heap,
-        ctx: &Ctx,
-        tape: &mut Tape,
-        events: &mut EventQueue,
-    ) -> Result<Option<Heap>, HookHalt> {
-        Ok(None)
-    }
-
-    fn turn_end(
-        &self,
-        alloc: Global,
-        g: &Heap,
-        ctx: &Ctx,
-        tape: &mut Tape,
-        events: &mut EventQueue,
-    ) -> Result<Option<Heap>, HookHalt> {
-        Ok(None)
-    }
-
-    fn phase_begin(
-        &self,
-        alloc: Global,
-        g: &Heap,
-        ctx: &Ctx,
-        phase: PhaseId,
-        tape: &mut Tape,
-        events: &mut EventQueue,
-    ) -> Result<Option<Heap>, HookHalt> {
-        Ok(None)
-    }
-
-    fn phase_end(
-        &self,
-        alloc: Global,
-        g: &Heap,
-        ctx: &Ctx,
-        phase: PhaseId,
-        tape: &mut Tape,
-        events: &mut EventQueue,
-    ) -> Result<Option<Heap>, HookHalt> {
-        Ok(None)
-    }
-
-    fn game_end(
-        &self,
-        alloc: Global,
-        g: &Heap,
-        ctx: &Ctx,
-        tape: &mut Tape,
-        events: &mut EventQueue,
-    ) -> Result<Option<Heap>, HookHalt> {
-        Ok(None)
-    }
-
-    fn end_if(&self, g: &Heap, ctx: &Ctx) -> Option<Outcome> {
-        g.outcome()
-    }
-
-    fn turn_end_if(&self, g: &Heap, ctx: &Ctx) -> bool {
-        false
-    }
-
-    fn phase_end_if(&self, g: &Heap, ctx: &Ctx) -> bool {
-        false
-    }
-
-    fn play_order(&self, alloc: Global, g: &Heap, ctx: &Ctx) -> Result<List<Seat>, NoMemory> {
-        Ok(List::new(alloc))
-    }
-
-    fn view(
-        &self,
-        alloc: Global,
-        g: &Heap,
-        ctx: &Ctx,
-        viewer: Option<Seat>,
-    ) -> Result<Heap, NoMemory> {
-        self.copy(alloc, g)
-    }
-
-    fn undoable(&self, g: &Heap, ctx: &Ctx, id: MoveId) -> bool {
+    fn may_undo() -> bool {
         true
     }
 
-    fn options(
-        &self,
-        alloc: Global,
-        g: &Heap,
-        ctx: &Ctx,
-        seat: Seat,
-    ) -> Result<List<(MoveId, Args)>, NoMemory> {
-        if may_be_offered(ctx, seat) {
-            g.offers(alloc)
-        } else {
-            Ok(List::new(alloc))
-        }
-    }
-
-    fn to_value(&self, alloc: Global, g: &Heap) -> Result<Value, NoMemory> {
-        g.to_value(alloc)
-    }
-
-    fn from_value(&self, alloc: Global, v: &Value) -> Result<Option<Heap>, NoMemory> {
-        Ok(Heap::from_value(v))
-    }
-
-    fn same(&self, a: &Heap, b: &Heap) -> bool {
-        a.same(b)
-    }
-
-    fn copy(&self, alloc: Global, g: &Heap) -> Result<Heap, NoMemory> {
-        Ok(g.copy())
+    fn offers(alloc: Global, g: &Heap, seat: Seat) -> Result<List<(MoveId, Args)>, NoMemory> {
+        g.takes(alloc)
     }
 }
 
-/// The sheet: two moves, and turns of one or two of them.
-fn make_sheet(alloc: Global) -> Result<Sheet, NoMemory>
-    ensures { IfOk result (λ made. made ≡ countdown_sheet) }
+/// `take` with a count of 1 to 3, and no more than there is.
+fn take(g: &Heap, seat: Seat, args: &[Arg]) -> Option<Heap>
+    ensures { result ≡ option_and_then (take g.now seat) (only_natural args.now) }
 {
-    let mut moves = List::new(alloc);
-    moves.push(make_ordinary(alloc, "take")?)?;
-    moves.push(make_ordinary(alloc, "wild")?)?;
-    Ok(Sheet {
-        name: Text::from_str(alloc, "countdown")?,
-        min_seats: 2,
-        max_seats: 4,
-        moves,
-        base: List::from_slice(alloc, &[MoveId::at(0), MoveId::at(1)])?,
-        turn: TurnRow {
-            order: Order::Default,
-            min_moves: 1,
-            max_moves: Some(2),
-            active: None,
-        },
-        phases: List::new(alloc),
-        stages: List::new(alloc),
-        specs: List::new(alloc),
-        events: List::from_slice(alloc, &[EventKind::EndTurn])?,
-    })
+    match only_natural(args) {
+        Some(count) if count >= 1 && count <= 3 && count <= g.left => Some(g.less(seat, count)),
+        _ => None,
+    }
+}
+
+/// `wild`: as many as a die of three faces shows, or all that there is where that is less.
+fn wild(g: &Heap, seat: Seat, args: &[Arg], tape: &mut Tape) -> Result<Heap, Halt>
+    ensures deed { Gives result tape.old.left tape.new.left [] (wild g.now seat args.now tape.old.left) }
+    ensures follows { Follows tape.old tape.new }
+{
+    if !args.is_empty() || g.left == 0 {
+        return Err(Halt::Invalid);
+    }
+    let face = tape.die(3)?;
+    Ok(g.less(seat, face.min(g.left)))
 }

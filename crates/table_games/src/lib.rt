@@ -1,17 +1,11 @@
-//! Games without secrets: their sheets, states and moves.
+//! Tic-tac-toe, Countdown and Pig.
 #![tactic(auto)]
 
-mod board;
 mod countdown_game;
-mod heap;
 mod pig_game;
-mod rows;
-mod scores;
 mod tic_tac_toe;
 
-pub use board::Board;
-pub use countdown_game::Countdown;
-pub use heap::Heap;
-pub use pig_game::Pig;
-pub use scores::Scores;
-pub use tic_tac_toe::TicTacToe;
+pub use countdown_game::{Countdown, CountdownRules};
+pub use pig_game::{Pig, PigRules};
+pub use table_states::{Board, Heap, Scores};
+pub use tic_tac_toe::{TicTacToe, TicTacToeRules};

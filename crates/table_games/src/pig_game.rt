@@ -1,73 +1,50 @@
 //! Pig for two to four seats.
 
-ghost use Rattle.std.specs.Prelude.{◌≡◌, IfOk};
-ghost use Rattle.table_games.specs.Pig.{pig_sheet};
+ghost use Rattle.std.specs.Prelude.{◌≡◌, ◌<◌, [], ℕ, List as Items, length};
+ghost use Rattle.dice_words.specs.Strip.{Follows};
+ghost use Rattle.game_trait.specs.Gives.{Gives};
+ghost use Rattle.table_states.specs.Pig.{hold, pot_after, roll};
 
-use crate::rows::make_ordinary;
-use crate::scores::Scores;
 use dice_words::Tape;
-use game_sheet::{
-    Args, Ctx, EventQueue, List, MoveId, NoMemory, Order, Outcome, PhaseId, Seat, Sheet, Text,
-    TurnRow, unbroken,
-};
-use game_trait::{Game, Halt, HookHalt, may_be_offered};
-use serde_json::Value;
+use game_sheet::{Arg, Args, Event, EventQueue, List, MoveId, NoMemory, Outcome, Seat, Sheet};
+use game_trait::Halt;
+use open_game::{Open, OpenGame, offer, turns_sheet};
 use std::alloc::Global;
-use std::marker::Model;
+use table_states::Scores;
 
-/// The game, which holds its sheet.
+/// Pig: two to four seats roll a die into a pot until they hold it or lose it to a one; the first total of 20 wins.
+pub type Pig = Open<PigRules>;
+
+/// The rules of Pig.
 #[derive(Drop)]
-pub struct Pig {
-    sheet: Sheet,
-}
+pub struct PigRules;
 
-impl Model for Pig {
-    // It is always the same game.
-    ghost Value = { Unit {0} };
-
-    ghost view = { λ _. tt };
-
-    ghost invariant = { λ game. game.sheet ≡ pig_sheet };
-}
-
-impl Pig {
-    /// The game.
-    pub fn new(alloc: Global) -> Result<Self, NoMemory> {
-        let sheet = make_sheet(alloc)?;
-        Ok(Pig { sheet })
-    }
-}
-
-impl Game for Pig {
-    ghost use Rattle.table_games.specs.InSheet.{pig_in_sheet};
-    ghost use Rattle.table_games.specs.PigLaws.{pig_lawful};
-    ghost use Rattle.table_games.specs.Pig.{pig};
+impl OpenGame for PigRules {
+    ghost use Rattle.table_states.specs.Pig.{pig};
+    ghost use Rattle.table_states.proofs.PigLaws.{pig_laws};
 
     type G = Scores;
 
-    ghost rules = { λ _. pig };
+    ghost rules = { pig };
 
-    ghost in_sheet = { λ _. pig_in_sheet };
+    ghost laws = { pig_laws };
 
-    ghost lawful = { λ _. pig_lawful };
-
-    #[tactic(auto, unfolding(game_sheet::specs::SheetRules::broken))]
-    fn sheet(&self) -> &Sheet {
-        unbroken(&self.sheet)
+    /// Two moves, and turns of one or more of them.
+    fn make_sheet(alloc: Global) -> Result<Sheet, NoMemory> {
+        let base = [MoveId::at(0), MoveId::at(1)];
+        turns_sheet(alloc, "pig", 2, 4, &["roll", "hold"], &base, None, &[])
     }
 
-    fn setup(&self, alloc: Global, seats: u8, tape: &mut Tape) -> Result<Scores, HookHalt> {
-        Ok(Scores::new(alloc, seats)?)
+    fn opening(alloc: Global, seats: u8) -> Result<Scores, NoMemory> {
+        Scores::new(alloc, seats)
     }
 
     fn play(
-        &self,
         alloc: Global,
         g: &Scores,
-        ctx: &Ctx,
         seat: Seat,
         id: MoveId,
-        args: &Args,
+        args: &[Arg],
         tape: &mut Tape,
         events: &mut EventQueue,
     ) -> Result<Scores, Halt> {
@@ -75,164 +52,92 @@ impl Game for Pig {
             return Err(Halt::Invalid);
         };
         if id.place() == 0 {
-            g.roll(alloc, args.as_slice(), tape, events)
+            roll(alloc, g, args, tape, events)
         } else {
-            g.hold(alloc, seat, total, args.as_slice(), events)
+            hold(alloc, g, seat, total, args, events)
         }
     }
 
-    fn on_move(
-        &self,
-        alloc: Global,
-        g: &Scores,
-        ctx: &Ctx,
-        seat: Seat,
-        tape: &mut Tape,
-        events: &mut EventQueue,
-    ) -> Result<Option<Scores>, HookHalt> {
-        Ok(None)
-    }
-
-    fn turn_begin(
-        &self,
-        alloc: Global,
-        g: &Scores,
-        ctx: &Ctx,
-        tape: &mut Tape,
-        events: &mut EventQueue,
-    ) -> Result<Option<Scores>, HookHalt> {
-        Ok(None)
-    }
-
-    fn turn_end(
-        &self,
-        alloc: Global,
-        g: &Scores,
-        ctx: &Ctx,
-        tape: &mut Tape,
-        events: &mut EventQueue,
-    ) -> Result<Option<Scores>, HookHalt> {
-        Ok(None)
-    }
-
-    fn phase_begin(
-        &self,
-        alloc: Global,
-        g: &Scores,
-        ctx: &Ctx,
-        phase: PhaseId,
-        tape: &mut Tape,
-        events: &mut EventQueue,
-    ) -> Result<Option<Scores>, HookHalt> {
-        Ok(None)
-    }
-
-    fn phase_end(
-        &self,
-        alloc: Global,
-        g: &Scores,
-        ctx: &Ctx,
-        phase: PhaseId,
-        tape: &mut Tape,
-        events: &mut EventQueue,
-    ) -> Result<Option<Scores>, HookHalt> {
-        Ok(None)
-    }
-
-    fn game_end(
-        &self,
-        alloc: Global,
-        g: &Scores,
-        ctx: &Ctx,
-        tape: &mut Tape,
-        events: &mut EventQueue,
-    ) -> Result<Option<Scores>, HookHalt> {
-        Ok(None)
-    }
-
-    fn end_if(&self, g: &Scores, ctx: &Ctx) -> Option<Outcome> {
-        g.outcome()
-    }
-
-    fn turn_end_if(&self, g: &Scores, ctx: &Ctx) -> bool {
-        false
-    }
-
-    fn phase_end_if(&self, g: &Scores, ctx: &Ctx) -> bool {
-        false
-    }
-
-    fn play_order(&self, alloc: Global, g: &Scores, ctx: &Ctx) -> Result<List<Seat>, NoMemory> {
-        Ok(List::new(alloc))
-    }
-
-    fn view(
-        &self,
-        alloc: Global,
-        g: &Scores,
-        ctx: &Ctx,
-        viewer: Option<Seat>,
-    ) -> Result<Scores, NoMemory> {
-        self.copy(alloc, g)
-    }
-
-    fn undoable(&self, g: &Scores, ctx: &Ctx, id: MoveId) -> bool {
-        false
-    }
-
-    fn options(
-        &self,
-        alloc: Global,
-        g: &Scores,
-        ctx: &Ctx,
-        seat: Seat,
-    ) -> Result<List<(MoveId, Args)>, NoMemory> {
-        if may_be_offered(ctx, seat) {
-            g.offers(alloc)
-        } else {
-            Ok(List::new(alloc))
+    /// The least seat with a total of 20 or more wins.
+    fn end_if(g: &Scores) -> Option<Outcome> {
+        match g.first_of_20() {
+            Some(seat) => Some(Outcome::Winner(seat)),
+            None => None,
         }
     }
 
-    fn to_value(&self, alloc: Global, g: &Scores) -> Result<Value, NoMemory> {
-        g.to_value(alloc)
+    fn may_undo() -> bool {
+        false
     }
 
-    fn from_value(&self, alloc: Global, v: &Value) -> Result<Option<Scores>, NoMemory> {
-        Scores::from_value(alloc, v)
-    }
-
-    fn same(&self, a: &Scores, b: &Scores) -> bool {
-        a.same(b)
-    }
-
-    fn copy(&self, alloc: Global, g: &Scores) -> Result<Scores, NoMemory> {
-        g.copy(alloc)
+    /// A roll, and a hold where the pot isn't empty.
+    fn offers(alloc: Global, g: &Scores, seat: Seat) -> Result<List<(MoveId, Args)>, NoMemory> {
+        let mut offers = List::new(alloc);
+        offers.push(offer(MoveId::at(0)))?;
+        if g.pot() > 0 {
+            offers.push(offer(MoveId::at(1)))?;
+        }
+        Ok(offers)
     }
 }
 
-/// The sheet: two moves, and turns of one or more of them.
-fn make_sheet(alloc: Global) -> Result<Sheet, NoMemory>
-    ensures { IfOk result (λ made. made ≡ pig_sheet) }
+/// `roll`: a one empties the pot and ends the turn, and another face goes into the pot.
+fn roll(
+    alloc: Global,
+    g: &Scores,
+    args: &[Arg],
+    tape: &mut Tape,
+    events: &mut EventQueue,
+) -> Result<Scores, Halt>
+    requires { events.old ≡ [] }
+    ensures deed { Gives result tape.old.left tape.new.left events.new (roll g.now args.now tape.old.left) }
+    ensures follows { Follows tape.old tape.new }
 {
-    let mut moves = List::new(alloc);
-    moves.push(make_ordinary(alloc, "roll")?)?;
-    moves.push(make_ordinary(alloc, "hold")?)?;
-    Ok(Sheet {
-        name: Text::from_str(alloc, "pig")?,
-        min_seats: 2,
-        max_seats: 4,
-        moves,
-        base: List::from_slice(alloc, &[MoveId::at(0), MoveId::at(1)])?,
-        turn: TurnRow {
-            order: Order::Default,
-            min_moves: 1,
-            max_moves: None,
-            active: None,
-        },
-        phases: List::new(alloc),
-        stages: List::new(alloc),
-        specs: List::new(alloc),
-        events: List::new(alloc),
-    })
+    if !args.is_empty() {
+        return Err(Halt::Invalid);
+    }
+    // The face is looked at before its word is drawn, since a roll that isn't allowed draws none.
+    let face = tape.peek_die(6)?;
+    let Some(pot) = pot_after(g.pot(), face) else {
+        return Err(Halt::Invalid);
+    };
+    tape.word()?;
+    if face == 1 {
+        events.push(Event::EndTurn { to: None })?;
+    }
+    Ok(g.with_pot(alloc, pot)?)
+}
+
+/// The pot after a face; none where the sum passes 32 bits.
+fn pot_after(pot: u32, face: u32) -> Option<u32>
+    ensures { result ≡ pot_after pot face }
+{
+    if face == 1 {
+        Some(0)
+    } else {
+        pot.checked_add(face)
+    }
+}
+
+/// `hold`: the pot, in which there is something, goes to the seat's total, and the turn ends.
+fn hold(
+    alloc: Global,
+    g: &Scores,
+    seat: Seat,
+    total: u32,
+    args: &[Arg],
+    events: &mut EventQueue,
+) -> Result<Scores, Halt>
+    requires queue { events.old ≡ [] }
+    requires known { seat < length g.now.totals }
+    ensures { (words : Items ℕ) → Gives result words words events.new (hold g.now seat total args.now words) }
+{
+    if !args.is_empty() || g.pot() == 0 {
+        return Err(Halt::Invalid);
+    }
+    let Some(sum) = total.checked_add(g.pot()) else {
+        return Err(Halt::Invalid);
+    };
+    events.push(Event::EndTurn { to: None })?;
+    Ok(g.with_total(alloc, seat, sum)?)
 }

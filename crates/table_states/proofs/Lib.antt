@@ -1,0 +1,3 @@
+pub mod CountdownLaws
+pub mod PigLaws
+pub mod TicTacToeLaws
