@@ -1,7 +1,6 @@
 -- What a sheet that fits says of the rows in force, and of play orders and places.
-use Rattle.std.proofs.Common.{◌≡◌, ◌≢◌, ℕ, zero, suc, ◌+◌, ◌%◌, ◌<◌, ◌≤◌, Bool, true, false, ◌||◌, nat_eq, nat_lt, nat_le, if◌then◌else◌, List, [], ◌∷◌, length, All, get_or, Option, Some, None, Result, Ok, Err, IfOk, position, slice_get, arith, refl, sym, ap, subst, ◌∙◌}
+use Rattle.std.proofs.Common.{◌≡◌, ◌≢◌, ℕ, ◌+◌, ◌%◌, ◌<◌, ◌≤◌, Bool, true, false, ◌||◌, nat_eq, nat_lt, nat_le, if◌then◌else◌, List, [], ◌∷◌, length, All, Option, Some, None, Result, Ok, Err, IfOk, position, slice_get, arith, refl, sym, ap, subst, ◌∙◌}
 use Rattle.std.specs.List.{range_with_len, list_any, position_or_len}
-use Rattle.std.proofs.lemmas.Grind.{common_steps}
 use Rattle.std.proofs.lemmas.List.FromFn.{length-range_with_len, get_or-range_with_len}
 use Rattle.std.proofs.lemmas.List.Elements.{All-nil, All-cons}
 use Rattle.std.proofs.lemmas.List.Quantifiers.{position-Some}
@@ -13,7 +12,7 @@ use Rattle.game_sheet.specs.declared.sheet.Order.TheVariants.{Default, Reset, Co
 use Rattle.game_sheet.specs.declared.sheet.PhaseRow.{PhaseRow}
 use Rattle.game_sheet.specs.declared.sheet.Sheet.{Sheet}
 use Rattle.game_sheet.specs.declared.sheet.TurnRow.{TurnRow}
-use Rattle.turn_order.specs.PlayOrder.{all_seats, is_no_order, list_or_all, IsPlayOrder}
+use Rattle.turn_order.specs.PlayOrder.{all_seats, is_no_order, IsPlayOrder}
 use Rattle.turn_order.specs.Position.{first, next}
 use Rattle.phase_flow.specs.Rows.{order_list, own_turn, phase_row, turn_of_phase, turn_row}
 
@@ -39,7 +38,7 @@ range_below n most h = λ k d lt.
     let low : 0 + k < most = omega arith in
     rw (get_or-range_with_len 0 n k d inside) low
 
-pub all_seats_serve : (seats : ℕ) → 1 ≤ seats → seats ≤ 8 → IsPlayOrder seats (all_seats seats)
+pub all_seats_serve : (seats : ℕ) → 1 ≤ seats → seats ≤ 16 → IsPlayOrder seats (all_seats seats)
 all_seats_serve seats least most =
     let long : length (range_with_len 0 seats) ≡ seats = length-range_with_len 0 seats in
     record { least = omega arith; most = omega arith; inside = range_below seats seats (omega arith) }
@@ -63,7 +62,7 @@ or_false false true c h = cc
 or_false false false true h = cc
 or_false false false false h = (refl, refl, refl)
 
-chosen_serves : (seats : ℕ) (given : List ℕ) (is : Bool) → is_no_order seats given ≡ is → 1 ≤ seats → seats ≤ 8 → IsPlayOrder seats (if is then all_seats seats else given)
+chosen_serves : (seats : ℕ) (given : List ℕ) (is : Bool) → is_no_order seats given ≡ is → 1 ≤ seats → seats ≤ 16 → IsPlayOrder seats (if is then all_seats seats else given)
 chosen_serves seats given true e least most = all_seats_serve seats least most
 chosen_serves seats given false e least most =
     let parts = or_false (nat_eq (length given) 0) (nat_lt 64 (length given)) (list_any (λ seat. nat_le seats seat) given) e in
@@ -73,7 +72,7 @@ listed_serves : (sheet : Sheet) (seats : ℕ) (listed : List ℕ) → sheet.min_
 listed_serves sheet seats listed enough s = record { least = s.least; most = s.most; inside = λ k d lt. let low = s.inside k d lt in omega arith }
 
 -- the play order of a row that fits is one
-order_serves : (sheet : Sheet) (order : Order) (seats : ℕ) (own : List ℕ) → sheet.min_seats ≤ seats → 1 ≤ seats → seats ≤ 8 → ((listed : List ℕ) → order ≡ Custom listed → SeatsFit sheet listed) → IsPlayOrder seats (order_list order seats own)
+order_serves : (sheet : Sheet) (order : Order) (seats : ℕ) (own : List ℕ) → sheet.min_seats ≤ seats → 1 ≤ seats → seats ≤ 16 → ((listed : List ℕ) → order ≡ Custom listed → SeatsFit sheet listed) → IsPlayOrder seats (order_list order seats own)
 order_serves sheet Default seats own enough least most c = all_seats_serve seats least most
 order_serves sheet Reset seats own enough least most c = all_seats_serve seats least most
 order_serves sheet Continue seats own enough least most c = all_seats_serve seats least most

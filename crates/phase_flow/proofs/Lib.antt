@@ -1,3 +1,5 @@
 mod Fits
+mod Grounds
+mod Keeping
 mod Settling
 mod Sounds

@@ -1,7 +1,5 @@
 -- One turn of the settling of a table.
-use Rattle.std.proofs.Common.{◌≡◌, ℕ, zero, suc, Bool, true, false, List, [], ◌∷◌, Option, Some, None, ap, ◌∙◌, sym, refl}
-use Rattle.game_sheet.specs.declared.act.Outcome.{Outcome}
-use Rattle.game_sheet.specs.declared.refusal.GameRule.{GameRule}
+use Rattle.std.proofs.Common.{◌≡◌, ℕ, zero, suc, Bool, false, List, [], ◌∷◌, None, ap, ◌∙◌, sym}
 use Rattle.game_sheet.specs.declared.refusal.GameRule.TheVariants.{TooManyEvents as Many}
 use Rattle.game_trait.specs.Rules.{Rules}
 use Rattle.phase_flow.specs.declared.table.Table.{Table}

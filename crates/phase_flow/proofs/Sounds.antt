@@ -1,5 +1,5 @@
 -- The flow keeps a table sound: each part of it does, hence each task, hence the whole settling.
-use Rattle.std.proofs.Common.{◌≡◌, ℕ, zero, suc, ◌+◌, ◌<◌, ◌≤◌, Bool, true, false, ◌||◌, nat_eq, nat_lt, nat_le, if◌then◌else◌, List, [], ◌∷◌, ◌++◌, length, All, get_or, Option, Some, None, Result, Ok, Err, IfOk, position, slice_get, option_and_then, arith, refl, sym, ap, subst, ◌∙◌}
+use Rattle.std.proofs.Common.{◌≡◌, ℕ, zero, suc, ◌+◌, ◌<◌, ◌≤◌, Bool, true, false, ◌||◌, nat_eq, nat_lt, if◌then◌else◌, List, [], ◌∷◌, ◌++◌, length, get_or, Option, Some, None, Result, Ok, Err, IfOk, position, slice_get, option_and_then, arith, refl, sym, subst}
 use Rattle.game_sheet.specs.SheetFits.{SheetFits}
 use Rattle.game_sheet.specs.declared.act.Event.{Event}
 use Rattle.game_sheet.specs.declared.act.Event.TheVariants.{EndTurn, EndPhase, SetPhase, EndStage, SetStage, SetActive, EndGame}
@@ -13,24 +13,24 @@ use Rattle.game_trait.specs.Deed.{Deed, Done, GaveUp, Lack}
 use Rattle.game_trait.specs.InSheet.{EventInSheet}
 use Rattle.game_trait.specs.Queues.{AllInSheet, KeepsToSheet, QueuesInSheet}
 use Rattle.game_trait.specs.Rules.{Rules}
-use Rattle.stage_map.specs.Active.{Map, none, shown}
+use Rattle.stage_map.specs.Active.{Map, none}
 use Rattle.stage_map.specs.Laws.{BoundGrows, CountMoveKeeps, EndStageKeeps, IsSoundIn, NullIsSound, SetKeeps, SetStageKeeps, Suits}
 use Rattle.stage_map.specs.Set.{set}
-use Rattle.stage_map.specs.Stages.{count_move, end_stage, set_stage}
-use Rattle.turn_order.specs.PlayOrder.{all_seats, IsPlayOrder}
+use Rattle.stage_map.specs.Stages.{end_stage, set_stage}
+use Rattle.turn_order.specs.PlayOrder.{IsPlayOrder}
 use Rattle.turn_order.specs.Position.{first, next}
 use Rattle.phase_flow.specs.declared.flow_no.FlowNo.{FlowNo}
 use Rattle.phase_flow.specs.declared.table.Table.{Table}
 use Rattle.phase_flow.specs.declared.task.Task.{Task}
 use Rattle.phase_flow.specs.Automatic.{automatic, in_front, match_ended, phase_ended as phase_says, turn_ended as turn_says, is_full, with_automatic}
 use Rattle.phase_flow.specs.Comes.{Settles}
-use Rattle.phase_flow.specs.Flow.{after_move, begin, fresh, is_early, moved, moves_after, opening, run_event, set_up, with_count}
+use Rattle.phase_flow.specs.Flow.{after_move, begin, fresh, is_early, moved, moves_after, run_event, set_up, with_count}
 use Rattle.phase_flow.specs.IsSound.{IsSound}
 use Rattle.phase_flow.specs.Rows.{order_list, phase_after, start_phase, turn_row}
-use Rattle.phase_flow.specs.Settle.{end_game, end_phase, end_turn, end_turn_to, next_by, over, pass_or_end, pass_to, run, settle, speaking}
-use Rattle.phase_flow.specs.Step.{At, Ends, Step, and_then, by_itself, carry_on, ended_with, hooked, rule_of, spoken, spoken_by}
-use Rattle.phase_flow.specs.Turns.{enter, in_phase, order_begun, ordered, pass_on, phase_begun, phase_ended, phase_entered, phase_left, spec_set, turn, turn_begun, turn_ended, turned, with_active}
-use Rattle.phase_flow.proofs.Fits.{all_seats_serve, first_inside, next_inside, order_list_serves, place_inside, position_inside, turn_row_fits}
+use Rattle.phase_flow.specs.Settle.{end_phase, end_turn, end_turn_to, next_by, over, pass_or_end, pass_to, run, settle, speaking}
+use Rattle.phase_flow.specs.Step.{At, Ends, Step, and_then, by_itself, carry_on, ended_with, hooked, spoken, spoken_by}
+use Rattle.phase_flow.specs.Turns.{enter, in_phase, order_begun, ordered, pass_on, phase_ended, phase_entered, phase_left, spec_set, turn, turn_ended, turned, with_active}
+use Rattle.phase_flow.proofs.Fits.{all_seats_serve, first_inside, next_inside, order_list_serves, place_inside, position_inside}
 
 -- what the operations on maps keep
 pub record MapLaws : Type 0 where
@@ -45,10 +45,29 @@ abbrev IsSeat : ℕ → Option ℕ → Type 0
 IsSeat seats None = Unit {0}
 IsSeat seats (Some seat) = seat < seats
 
+-- what an event names is a row of the sheet, whatever the outcome that it ends a match with
+abbrev NamesRows : Sheet → Event → Type 0
+NamesRows sheet (EndTurn to) = Unit {0}
+NamesRows sheet EndPhase = Unit {0}
+NamesRows sheet (SetPhase to) = to < length sheet.phases
+NamesRows sheet EndStage = Unit {0}
+NamesRows sheet (SetStage to) = to < length sheet.stages
+NamesRows sheet (SetActive spec) = spec < length sheet.specs
+NamesRows sheet (EndGame outcome) = Unit {0}
+
+names_rows : (sheet : Sheet) (event : Event) → EventInSheet sheet event → NamesRows sheet event
+names_rows sheet (EndTurn to) e = tt
+names_rows sheet EndPhase e = tt
+names_rows sheet (SetPhase to) e = e
+names_rows sheet EndStage e = tt
+names_rows sheet (SetStage to) e = e
+names_rows sheet (SetActive spec) e = e
+names_rows sheet (EndGame outcome) e = tt
+
 -- tasks name rows of the sheet and seats of the match alone
 abbrev TasksFit : Sheet → ℕ → List Task → Type 0
 TasksFit sheet seats [] = Unit {0}
-TasksFit sheet seats (task ∷ tasks) = EventInSheet sheet task.event × IsSeat seats task.speaker × TasksFit sheet seats tasks
+TasksFit sheet seats (task ∷ tasks) = NamesRows sheet task.event × IsSeat seats task.speaker × TasksFit sheet seats tasks
 
 tasks_more : (sheet : Sheet) (seats : ℕ) (tasks more : List Task) → TasksFit sheet seats tasks → TasksFit sheet seats more → TasksFit sheet seats (tasks ++ more)
 tasks_more sheet seats [] more t m = m
@@ -56,11 +75,11 @@ tasks_more sheet seats (task ∷ tasks) more t m = (t.0, t.1, tasks_more sheet s
 
 spoken_fit : (sheet : Sheet) (seats : ℕ) (who : Option ℕ) (events : List Event) → IsSeat seats who → AllInSheet sheet events → TasksFit sheet seats (spoken_by who events)
 spoken_fit sheet seats who [] w e = tt
-spoken_fit sheet seats who (event ∷ events) w e = (e.0, w, spoken_fit sheet seats who events w e.1)
+spoken_fit sheet seats who (event ∷ events) w e = (names_rows sheet event e.0, w, spoken_fit sheet seats who events w e.1)
 
 abbrev Fits : Sheet → ℕ → Option Task → Type 0
 Fits sheet seats None = Unit {0}
-Fits sheet seats (Some task) = EventInSheet sheet task.event × IsSeat seats task.speaker
+Fits sheet seats (Some task) = NamesRows sheet task.event × IsSeat seats task.speaker
 
 front_fit : (sheet : Sheet) (seats : ℕ) (o : Option Task) (tasks : List Task) → Fits sheet seats o → TasksFit sheet seats tasks → TasksFit sheet seats (in_front o tasks)
 front_fit sheet seats None tasks f t = t
@@ -271,7 +290,7 @@ module _ {G : Type 0} (rules : Rules G) (most : ℕ) (fits : SheetFits rules.she
   named_in_sheet : (phase : ℕ) → phase < length rules.sheet.phases → InSheet (Some phase)
   named_in_sheet phase h named e = let same : phase ≡ named = cc in subst (λ p. p < length rules.sheet.phases) same h
 
-  run_fits : (event : Event) (who : Option ℕ) (t : Table G) (words : List ℕ) (tasks : List Task) → EventInSheet rules.sheet event → IsSeat t.ctx.seats who → Sound t → TasksFit rules.sheet t.ctx.seats tasks → Fit (run rules event who t words tasks)
+  run_fits : (event : Event) (who : Option ℕ) (t : Table G) (words : List ℕ) (tasks : List Task) → NamesRows rules.sheet event → IsSeat t.ctx.seats who → Sound t → TasksFit rules.sheet t.ctx.seats tasks → Fit (run rules event who t words tasks)
   run_fits (EndTurn to) who t words tasks e w s f = end_turn_fits to t words tasks s f
   run_fits EndPhase who t words tasks e w s f = end_phase_fits t.ctx.phase t words tasks s f
   run_fits (SetPhase to) who t words tasks e w s f = enter_fits (Some to) t words tasks (named_in_sheet to e) s f
@@ -306,7 +325,7 @@ module _ {G : Type 0} (rules : Rules G) (most : ℕ) (fits : SheetFits rules.she
       }
 
   next_fits : (over : Option Outcome) (t : Table G) (words : List ℕ) (tasks : List Task) (go : Task → List Task → Step G) → Sound t → TasksFit rules.sheet t.ctx.seats tasks
-      → ((task : Task) (rest : List Task) → EventInSheet rules.sheet task.event → IsSeat t.ctx.seats task.speaker → TasksFit rules.sheet t.ctx.seats rest → Fit (go task rest)) → Fit (next_by over t words tasks go)
+      → ((task : Task) (rest : List Task) → NamesRows rules.sheet task.event → IsSeat t.ctx.seats task.speaker → TasksFit rules.sheet t.ctx.seats rest → Fit (go task rest)) → Fit (next_by over t words tasks go)
   next_fits (Some outcome) t words tasks go s f h = (s, tt)
   next_fits None t words [] go s f h = (s, tt)
   next_fits None t words (task ∷ tasks) go s f h = h task tasks f.0 f.1 f.2
@@ -326,7 +345,7 @@ start_in_sheet sheet named e = place_inside (λ (row : PhaseRow). row.start) she
 module _ {G : Type 0} (rules : Rules G) (fits : SheetFits rules.sheet) (keeps : KeepsToSheet rules) (laws : MapLaws) where
   set_up_fits : (seats : ℕ) (deed : Deed G Lack) → rules.sheet.min_seats ≤ seats → seats ≤ rules.sheet.max_seats → StepFits rules.sheet 0 (set_up rules seats deed)
   set_up_fits seats (Done g words events) least most =
-      let few : seats ≤ 8 = omega (arith, fits.most) in
+      let few : seats ≤ 16 = omega (arith, fits.most) in
       let some : 1 ≤ seats = omega (arith, fits.least) in
       carry_fits rules.sheet 0 (phase_entered rules true (start_phase rules.sheet) (fresh seats g) words []) (settle rules 64)
       (entered_fits rules 0 fits keeps laws true (start_phase rules.sheet) (fresh seats g) words [] (start_in_sheet rules.sheet)
@@ -386,7 +405,7 @@ module _ {G : Type 0} (rules : Rules G) (fits : SheetFits rules.sheet) (keeps : 
   unfolding run_event
   run_event_fits most seat event t words s w e =
       elim (is_early rules.sheet seat event t) as (λ early. StepFits rules.sheet most (if early then Ends TooEarly else settle rules 64 t words (spoken (Some seat) event ∷ []) false))
-      [ true ↦ tt | false ↦ settle_fits rules most fits keeps laws 64 t words (spoken (Some seat) event ∷ []) false s (e, w, tt) ]
+      [ true ↦ tt | false ↦ settle_fits rules most fits keeps laws 64 t words (spoken (Some seat) event ∷ []) false s (names_rows rules.sheet event e, w, tt) ]
 
 -- what the code answers is as sound as what it means
 pub settled_sound : {G : Type 0} (sheet : Sheet) (most : ℕ) (result : Result (Table G) FlowNo) (words : List ℕ) (meaning : Step G) → Settles result words meaning → StepFits sheet most meaning → IfOk result (λ t. IsSound sheet most t.ctx t.active)

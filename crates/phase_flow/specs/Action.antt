@@ -1,6 +1,6 @@
 -- How a match begins, and what one action makes of it: what it has then come to, or the rule that the action breaks. An action may draw
 -- 256 words, from the place that the match has reached; the place goes on by the words that it draws.
-use Rattle.std.specs.Prelude.{ℕ, ◌+◌, ◌-◌, ◌%◌, ◌^◌, Bool, true, false, not, if◌then◌else◌, is_none, nat_eq, List, length, position, slice_get, Option, Some, None, Result, Ok, Err}
+use Rattle.std.specs.Prelude.{ℕ, ◌+◌, ◌-◌, ◌%◌, ◌^◌, Bool, false, not, if◌then◌else◌, is_none, nat_eq, List, length, position, slice_get, Option, Some, None, Result, Ok, Err}
 use Rattle.dice_words.specs.Words.{words}
 use Rattle.game_sheet.specs.declared.act.Act.{Act}
 use Rattle.game_sheet.specs.declared.act.Act.TheVariants.{Move, Event as Asks, Undo, Redo}

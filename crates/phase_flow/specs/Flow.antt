@@ -1,5 +1,5 @@
 -- What the calls of the flow come to: the beginning of a match, a move that was played, and an event that a player asks for.
-use Rattle.std.specs.Prelude.{ℕ, ◌+◌, Bool, true, false, if◌then◌else◌, nat_eq, nat_lt, List, [], ◌∷◌, Option, Some, None}
+use Rattle.std.specs.Prelude.{ℕ, ◌+◌, Bool, true, false, if◌then◌else◌, nat_eq, nat_lt, List, [], ◌∷◌, Some, None}
 use Rattle.game_sheet.specs.declared.act.Event.{Event}
 use Rattle.game_sheet.specs.declared.act.Event.TheVariants.{EndTurn, EndStage}
 use Rattle.game_sheet.specs.declared.ctx.Ctx.{Ctx}
@@ -11,7 +11,6 @@ use Rattle.stage_map.specs.Active.{is_below, none}
 use Rattle.stage_map.specs.Stages.{count_move}
 use Rattle.turn_order.specs.PlayOrder.{all_seats}
 use Rattle.phase_flow.specs.declared.table.Table.{Table}
-use Rattle.phase_flow.specs.declared.task.Task.{Task}
 use Rattle.phase_flow.specs.Rows.{start_phase, turn_row}
 use Rattle.phase_flow.specs.Settle.{settle}
 use Rattle.phase_flow.specs.Step.{Ends, Step, carry_on, hooked, rule_of, spoken, spoken_by}

@@ -2,6 +2,7 @@ pub mod Action
 pub mod Automatic
 pub mod Comes
 pub mod Flow
+pub mod IsGood
 pub mod IsSound
 pub mod Placed
 pub mod Reached

@@ -58,7 +58,7 @@ pub(crate) fn begin<X: Game>(
 /// The context before the first phase and turn.
 fn opening(alloc: Global, seats: u8) -> Result<Ctx, NoMemory>
     requires least { 1 ≤ seats }
-    requires most { seats ≤ 8 }
+    requires most { seats ≤ 16 }
     ensures value { IfOk result (λ ctx. ctx ≡ opening seats) }
     ensures placed { IfOk result IsPlaced }
 {

@@ -18,6 +18,6 @@ mod turns;
 
 pub use calls::{begin, moved, run_event};
 pub use flow_no::FlowNo;
-pub use laws::bounds_grow;
+pub use laws::{actions_keep_tables_sound, bounds_grow, matches_begin_soundly};
 pub use table::Table;
 pub use task::Task;

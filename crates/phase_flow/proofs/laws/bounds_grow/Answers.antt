@@ -1,4 +1,4 @@
-use Rattle.std.proofs.Common.{◌≤◌, ℕ, arith}
+use Rattle.std.proofs.Common.{arith}
 use Rattle.phase_flow.proofs.laws.bounds_grow.Goals as goal
 
 pub returns : goal.returns

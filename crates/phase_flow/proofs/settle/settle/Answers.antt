@@ -1,8 +1,6 @@
 -- Each answer is one turn of the settling of the present table, by the invariant the same as the whole.
-use Rattle.std.proofs.Common.{◌≡◌, ◌-◌, suc, arith, rules, ◌∙◌, sym}
-use Rattle.game_trait.specs.Rules.{Rules}
-use Rattle.phase_flow.specs.Settle.{run, settle}
-use Rattle.phase_flow.specs.Step.{Step}
+use Rattle.std.proofs.Common.{◌-◌, arith, rules, ◌∙◌, sym}
+use Rattle.phase_flow.specs.Settle.{settle}
 use Rattle.phase_flow.proofs.Settling.{settle_done, settle_full, settle_begun, fails_on, goes_on}
 use Rattle.phase_flow.proofs.settle.settle.Goals as goal
 
