@@ -1,4 +1,4 @@
--- Which events name rows of a sheet, as a test; and that a small game whose cues pass it keeps to its sheet.
+-- Which events name rows of a sheet and winners that can be seats, as a test; and that a small game whose cues pass it keeps to its sheet.
 use Rattle.std.specs.Prelude.{◌≡◌, ℕ, Bool, true, false, if◌then◌else◌, nat_lt, List, [], ◌∷◌, length, filter, map}
 use Rattle.std.specs.List.{list_all}
 use Rattle.std.proofs.lemmas.Bool.{ltb-true, and_parts}

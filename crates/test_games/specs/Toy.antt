@@ -1,16 +1,13 @@
 -- A small game, by which the flow is tried. Its state counts the moves made. What its functions queue is said by cues, and how many moves
 -- a turn, a phase and a match have by its ends.
 use Rattle.std.specs.Prelude.{ℕ, ◌+◌, ◌%◌, ◌^◌, Bool, true, false, if◌then◌else◌, nat_le, nat_lt, List, [], ◌∷◌, length, Option, Some, None, codes}
-use Rattle.std.specs.Result.{result_ok}
 use Rattle.game_sheet.specs.declared.act.Event.{Event}
 use Rattle.game_sheet.specs.declared.act.Outcome.TheVariants.{Draw}
 use Rattle.game_sheet.specs.declared.sheet.Sheet.{Sheet}
 use Rattle.game_trait.specs.Deed.{Crowded, Deed, Done, GaveUp, Lacks}
 use Rattle.game_trait.specs.Rules.{Rules}
-use Rattle.json_tree.specs.Fields.{natural_in}
-use Rattle.json_tree.specs.Names.{extra_in}
-use Rattle.serde_json.specs.Data.{Data, number, unsigned, object, member, no_members}
-use Rattle.serde_json.specs.Find.{get}
+use Rattle.open_game.specs.Form.{Form}
+use Rattle.open_game.specs.Forms.{greatest, natural, object_of_one}
 use Rattle.test_games.specs.Moment.{cued}
 use Rattle.test_games.specs.declared.cue.Cue.{Cue}
 use Rattle.test_games.specs.declared.cue.Moment.TheVariants.{Move, AfterMove, TurnBegin, TurnEnd, PhaseBegin, PhaseEnd, MatchEnd}
@@ -26,14 +23,8 @@ is_reached None count = false
 is_reached (Some limit) count = nat_le limit count
 
 -- a count is a number of 32 bits
-abbrev pub is_count : ℕ → Bool
-is_count count = nat_le count 4294967295
-
-abbrev pub count_value : ℕ → Data
-count_value count = object (member (codes "count") (number (unsigned count)) no_members)
-
-abbrev pub count_read : Data → Option ℕ
-count_read v = if extra_in (codes "count" ∷ []) v then None else result_ok (natural_in 4294967295 (get (codes "count") v))
+abbrev pub count_form : Form ℕ
+count_form = object_of_one (codes "count") (natural greatest) (λ count. count) (λ count. count)
 
 abbrev pub toy_rules : Sheet → List Cue → Ends → Rules ℕ
 toy_rules sheet cues ends = record {
@@ -53,7 +44,7 @@ toy_rules sheet cues ends = record {
   view = λ g ctx viewer. g;
   undoable = λ g ctx id. true;
   options = λ g ctx seat. [];
-  own = is_count;
-  value = count_value;
-  read = count_read;
+  own = count_form.own;
+  value = count_form.value;
+  read = count_form.read;
 }

@@ -101,7 +101,7 @@ pub(crate) fn are_in_sheet(sheet: &Sheet, cues: &[Cue]) -> bool
     cues.iter().all(|cue| in_sheet(sheet, &cue.event))
 }
 
-/// Whether an event's phase, stage or spec is in the sheet, and the seat that it lets win can be one of a match.
+/// Whether an event's phase, stage or spec is in the sheet, and a winner can be one of sixteen seats.
 pub(crate) fn in_sheet(sheet: &Sheet, event: &Event) -> bool
     ensures { result ≡ in_sheet sheet.now event.now }
 {

@@ -8,7 +8,7 @@ ghost use Rattle.game_trait.specs.Gives.{Hooks};
 ghost use Rattle.test_games.specs.InSheet.{are_in_sheet};
 ghost use Rattle.test_games.specs.Moment.{cued};
 ghost use Rattle.serde_json.specs.View.{view};
-ghost use Rattle.test_games.specs.Toy.{count_read, is_reached, queueing};
+ghost use Rattle.test_games.specs.Toy.{count_form, is_reached, queueing};
 
 use crate::cue::{Cue, Moment, are_in_sheet, queue};
 use dice_words::Tape;
@@ -16,7 +16,8 @@ use game_sheet::{
     Args, Ctx, EventQueue, List, MoveId, NoMemory, Outcome, PhaseId, Seat, Sheet, check_sheet,
 };
 use game_trait::{Game, Halt, HookHalt};
-use json_tree::{extra_field, natural_of};
+use json_tree::extra_field;
+use open_game::part_at;
 use serde_json::{Value, json};
 use std::alloc::Global;
 
@@ -45,7 +46,7 @@ pub struct Toy {
 }
 
 impl Toy {
-    /// The game of a sheet that breaks no rule, with cues that name rows of it; none otherwise.
+    /// The game of a sheet that breaks no rule, with cues that name rows of it and winners that can be seats; none otherwise.
     pub fn new(sheet: Sheet, cues: List<Cue>, ends: Ends) -> Option<Toy>
         ensures sound { IsSome result ↔ ((broken sheet ≡ 0) × IsTrue (are_in_sheet sheet cues)) }
         ensures sheet { IfSome result (λ toy. toy.sheet ≡ sheet) }
@@ -80,15 +81,12 @@ fn is_reached(limit: Option<u32>, count: u32) -> bool
 
 /// The count that is written so; none where no count is.
 fn read_count(value: &Value) -> Option<u32>
-    ensures { result ≡ count_read (view value.now) }
+    ensures { result ≡ count_form.read (view value.now) }
 {
     if extra_field(value, &["count"]) {
         return None;
     }
-    match natural_of(value, "count", u32::MAX as u64) {
-        Ok(count) => Some(count as u32),
-        Err(_) => None,
-    }
+    part_at(value, "count", u32::MAX)
 }
 
 impl Game for Toy {
