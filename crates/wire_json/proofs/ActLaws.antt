@@ -5,22 +5,28 @@ use Rattle.std.proofs.lemmas.Slice.Eq.{bytes_eq-Decides}
 use Rattle.std.specs.List.{AllByRecursion}
 use Rattle.std.specs.Prelude.{nat_le, nat_lt, int_le, Result}
 use Rattle.std.specs.Result.{result_ok}
-use Rattle.serde_json.specs.Data.{unsigned, negative, float, Data, null, boolean, number, string, array, object, Items, no_items, item, Members}
-use Rattle.serde_json.specs.Events.{items_len}
-use Rattle.serde_json.specs.Find.{get_member, of_integer}
-use Rattle.json_tree.specs.Canonical.{IsCanonical, ItemsAreCanonical, MembersAreCanonical}
+use Rattle.serde_json.specs.Data.{Data, null, boolean, number, string, array, object, Members}
+use Rattle.serde_json.specs.Find.{get_member}
+use Rattle.json_tree.specs.Canonical.{MembersAreCanonical}
 use Rattle.json_tree.specs.Fields.{text_in, natural_in}
 use Rattle.json_tree.specs.Names.{has_extra}
 use Rattle.json_tree.proofs.Rows.{row_is, canonical_member}
 use Rattle.game_sheet.specs.declared.act.EventKind.{EventKind}
 use Rattle.game_sheet.specs.declared.act.EventKind.TheVariants.{EndTurn, EndPhase, SetPhase, EndStage, SetStage, EndGame}
-use Rattle.wire_json.specs.Asking.{integers, event_text, aim, asked_members, is_argument, AreArguments, IsWord, MayAim, AskedFits}
-use Rattle.wire_json.specs.Acts.{argument_from, argument_in, arguments_from, arguments_in, text_within, word_in, move_in, kind_from, is_null_in, nothing_in, aim_in, event_in, alone_in, asked_as, asked_in, act_in, in_form}
+use Rattle.game_sheet.specs.EventNames.{event_text, kind_from}
+use Rattle.game_sheet.specs.declared.args.Arg.{Arg}
+use Rattle.sheet_json.specs.Arguments.{arguments, AreArguments, arguments_in}
+use Rattle.sheet_json.specs.Seats.{is_null_in}
+use Rattle.sheet_json.proofs.ArgumentLaws.{arguments_are, arguments_again}
+use Rattle.sheet_json.proofs.EventLaws.{kind_is, kind_again}
+use Rattle.sheet_json.proofs.SeatLaws.{natural_is, natural_again, null_is}
+use Rattle.wire_json.specs.Asking.{aim, asked_members, IsWord, MayAim, AskedFits}
+use Rattle.wire_json.specs.Acts.{text_within, word_in, move_in, nothing_in, aim_in, event_in, alone_in, asked_as, asked_in, act_in, in_form}
 use Rattle.wire_json.specs.declared.asked.Asked.{Asked}
 use Rattle.wire_json.specs.declared.asked.Asked.TheVariants.{Move, Event, Undo, Redo}
 use Rattle.wire_json.specs.declared.asked.AskedTo.{AskedTo}
 use Rattle.wire_json.specs.declared.asked.AskedTo.TheVariants.{Nothing, Seat, Name}
-use Rattle.wire_json.proofs.FieldLaws.{formed, text_is, list_is, short_text_is, short_text_again, natural_is, natural_again, null_is}
+use Rattle.wire_json.proofs.FieldLaws.{formed, text_is, list_is, short_text_is, short_text_again}
 
 -- ---- options
 
@@ -55,54 +61,6 @@ found (Err fault) x e = absurd (cc)
 same_text : (s t : List ℕ) → bytes_eq s t ≡ true → s ≡ t
 same_text s t h = (bytes_eq-Decides s t).0 h
 
--- ---- arguments
-
-kept : (b : Bool) (n : ℕ) (z : ℤ) → argument_from (cond b (Some (pos n)) None) ≡ Some z → (pos n ≡ z) × (is_argument z ≡ true)
-kept true n z e = let is = chosen (is_argument (pos n)) (pos n) z e in (is.1, subst (λ x. is_argument x ≡ true) is.1 is.0)
-kept false n z e = absurd (cc)
-
-argument_is : (d : Data) (z : ℤ) → argument_in d ≡ Some z → IsCanonical d → (d ≡ number (of_integer z)) × (is_argument z ≡ true)
-argument_is null z e c = absurd (cc)
-argument_is (boolean b) z e c = absurd (cc)
-argument_is (number (unsigned n)) z e c = let is = kept (nat_lt n (2 ^ 63)) n z e in (ap (λ x. number (of_integer x)) is.0, is.1)
-argument_is (number (negative (pos n))) z e c = absurd c
-argument_is (number (negative (negsuc n))) z e c =
-    let is = chosen (is_argument (negsuc n)) (negsuc n) z e in
-    (ap (λ x. number (of_integer x)) is.1, subst (λ x. is_argument x ≡ true) is.1 is.0)
-argument_is (number (float x)) z e c = absurd (cc)
-argument_is (string s) z e c = absurd (cc)
-argument_is (array ds) z e c = absurd (cc)
-argument_is (object ms) z e c = absurd (cc)
-
-arguments_are : (ds : Items) (zs : List ℤ) → arguments_from ds ≡ Some zs → ItemsAreCanonical ds → (ds ≡ integers zs) × AllByRecursion (λ z. is_argument z ≡ true) zs × (items_len ds ≡ length zs)
-arguments_are no_items zs e c = let is : [] ≡ zs = cc in subst (λ x. (no_items ≡ integers x) × AllByRecursion (λ z. is_argument z ≡ true) x × (0 ≡ length x)) is (refl, tt, refl)
-arguments_are (item d ds) zs e c =
-    let z = chained (λ x. option_map (λ ys. x ∷ ys) (arguments_from ds)) (argument_in d) zs e in
-    let rest = mapped (λ ys. z.0 ∷ ys) (arguments_from ds) zs z.2 in
-    let first = argument_is d z.0 z.1 c.0 in
-    let others = arguments_are ds rest.0 rest.1 c.1 in
-    subst (λ x. (item d ds ≡ integers x) × AllByRecursion (λ y. is_argument y ≡ true) x × (suc (items_len ds) ≡ length x)) rest.2
-    (ap (λ x. item x ds) first.0 ∙ ap (item (number (of_integer z.0))) others.0, (first.1, others.1), ap suc others.2)
-
-argument_again : (z : ℤ) → is_argument z ≡ true → argument_in (number (of_integer z)) ≡ Some z
-argument_again (pos n) h =
-    let both = and_parts (int_le (negsuc 2147483647) (pos n)) (int_le (pos n) (pos 2147483647)) h in
-    let most : n ≤ 2147483647 = leb-true n 2147483647 both.1 in
-    rw (lt-ltb n (2 ^ 63) (omega arith), h) refl
-argument_again (negsuc n) h = rw (h) refl
-
-arguments_again : (zs : List ℤ) → AllByRecursion (λ z. is_argument z ≡ true) zs → arguments_from (integers zs) ≡ Some zs
-arguments_again [] h = refl
-arguments_again (z ∷ zs) h = rw (argument_again z h.0, arguments_again zs h.1) refl
-
-length_of : (zs : List ℤ) → items_len (integers zs) ≡ length zs
-length_of [] = refl
-length_of (z ∷ zs) = ap suc (length_of zs)
-
-list_arguments : (o : Option Items) (zs : List ℤ) → arguments_in o ≡ Some zs → (ds : Items) × (o ≡ Some ds) × (items_len ds ≤ 8) × (arguments_from ds ≡ Some zs)
-list_arguments None zs e = absurd (cc)
-list_arguments (Some ds) zs e = let few = onlyif (nat_le (items_len ds) 8) (arguments_from ds) zs e in (ds, refl, leb-true (items_len ds) 8 few.0, few.1)
-
 -- ---- moves
 
 word_is : (o : Option Data) (s : List ℕ) → word_in o ≡ Some s → (o ≡ Some (string s)) × IsWord s
@@ -120,50 +78,18 @@ move_is ms a c kind e =
     let known = unless (has_extra move_names ms) _ a e in
     let args = chained _ _ a known.1 in
     let name = mapped _ _ a args.2 in
-    let list = list_arguments _ args.0 args.1 in
+    let list = chained arguments_in _ args.0 args.1 in
     let there = list_is _ list.0 (found _ list.0 list.1) in
-    let are = arguments_are list.0 args.0 list.3 (canonical_member (codes "args") ms (array list.0) c there) in
+    let are = arguments_are list.0 args.0 list.2 (canonical_member (codes "args") ms (array list.0) c there) in
     let word = word_is _ name.0 name.1 in
-    let few : length args.0 ≤ 8 = subst (λ n. n ≤ 8) are.2 list.2 in
     let row = row_is move_names ms (asked_members (Move name.0 args.0)) c ((refl, (refl, tt)), ((refl, tt), (tt, tt))) known.0 refl (there ∙ ap (λ x. Some (array x)) are.0, (text_is _ _ kind, (word.0, tt))) in
-    subst (λ x. (ms ≡ asked_members x) × AskedFits x) name.2 (row, (word.1, (few, are.1)))
+    subst (λ x. (ms ≡ asked_members x) × AskedFits x) name.2 (row, (word.1, are.1))
 
-move_again : (name : List ℕ) (args : List ℤ) → IsWord name → AreArguments args → move_in (object (asked_members (Move name args))) ≡ Some (Move name args)
+move_again : (name : List ℕ) (args : List Arg) → IsWord name → AreArguments args → move_in (object (asked_members (Move name args))) ≡ Some (Move name args)
 unfolding move_in
-move_again name args w h =
-    let few : items_len (integers args) ≤ 8 = subst (λ n. n ≤ 8) (sym (length_of args)) h.0 in
-    rw (le-leb (items_len (integers args)) 8 few, arguments_again args h.1, word_again name w) refl
+move_again name args w h = rw (arguments_again args h, word_again name w) refl
 
 -- ---- events
-
-kind_is : (s : List ℕ) (k : EventKind) → kind_from s ≡ Some k → s ≡ event_text k
-kind_is s k e = elim (either (bytes_eq s (codes "endTurn")) _ _ k e) [
-  | inl p ↦ same_text s _ p.0 ∙ ap event_text (the p.1)
-  | inr e1 ↦ elim (either (bytes_eq s (codes "endPhase")) _ _ k e1) [
-    | inl p ↦ same_text s _ p.0 ∙ ap event_text (the p.1)
-    | inr e2 ↦ elim (either (bytes_eq s (codes "setPhase")) _ _ k e2) [
-      | inl p ↦ same_text s _ p.0 ∙ ap event_text (the p.1)
-      | inr e3 ↦ elim (either (bytes_eq s (codes "endStage")) _ _ k e3) [
-        | inl p ↦ same_text s _ p.0 ∙ ap event_text (the p.1)
-        | inr e4 ↦ elim (either (bytes_eq s (codes "setStage")) _ _ k e4) [
-          | inl p ↦ same_text s _ p.0 ∙ ap event_text (the p.1)
-          | inr e5 ↦ let last = chosen (bytes_eq s (codes "endGame")) EndGame k e5 in same_text s _ last.0 ∙ ap event_text last.1
-        ]
-      ]
-    ]
-  ]
-]
-  where
-    the : {x y : EventKind} → Some x ≡ Some y → x ≡ y
-    the e = cc
-
-kind_again : (k : EventKind) → kind_from (event_text k) ≡ Some k
-kind_again EndTurn = refl
-kind_again EndPhase = refl
-kind_again SetPhase = refl
-kind_again EndStage = refl
-kind_again SetStage = refl
-kind_again EndGame = refl
 
 -- a member is what its aim writes, and the kind may be so aimed
 abbrev Aims : EventKind → Option Data → AskedTo → Type 0

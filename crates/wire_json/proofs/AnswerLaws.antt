@@ -10,10 +10,11 @@ use Rattle.json_tree.proofs.Rows.{row_is}
 use Rattle.game_sheet.specs.declared.act.Bye.{Bye}
 use Rattle.game_sheet.specs.declared.act.Bye.TheVariants.{Left, Lagging}
 use Rattle.wire_json.specs.ByeText.{bye_text, bye_from}
-use Rattle.wire_json.specs.ClientReading.{or_null}
+use Rattle.sheet_json.specs.Seats.{IsWithin, natural_or_null, or_null}
+use Rattle.sheet_json.proofs.SeatLaws.{bound, natural_is, natural_again, Holds, or_null_is}
 use Rattle.wire_json.specs.RefusalText.{member_text, member_table, member_from, refusal_text, refusal_field, refusal_table, refusal_from, unpointed, with_field}
-use Rattle.wire_json.specs.ServerText.{natural_or_null, field_or_null, server_members}
-use Rattle.wire_json.specs.ServerReading.{IsWithin, ServerFits, member_in, refusal_in, why_in, again_in, refused_in, bye_in}
+use Rattle.wire_json.specs.ServerText.{field_or_null, server_members}
+use Rattle.wire_json.specs.ServerReading.{ServerFits, member_in, refusal_in, why_in, again_in, refused_in, bye_in}
 use Rattle.wire_json.specs.Refusals as fault
 use Rattle.wire_json.specs.declared.refusal.Member.{Member}
 use Rattle.wire_json.specs.declared.refusal.Member.TheVariants as part
@@ -21,7 +22,7 @@ use Rattle.wire_json.specs.declared.refusal.Refusal.{Refusal}
 use Rattle.wire_json.specs.declared.refusal.Refusal.TheVariants.{BadMessage, NoGame, Full, BadSeats, NoStart, NoMatch, SeatTaken, NoSeat, BadName, Unauthorized, AlreadyAttached, NotAttached}
 use Rattle.wire_json.specs.declared.server.ServerMsg.{ServerMsg}
 use Rattle.wire_json.specs.declared.server.ServerMsg.TheVariants as to_client
-use Rattle.wire_json.proofs.FieldLaws.{bound, step, past, formed, text_is, natural_is, natural_again, Holds, or_null_is}
+use Rattle.wire_json.proofs.FieldLaws.{step, past, formed, text_is}
 use Rattle.wire_json.proofs.Tables.{table_is}
 
 abbrev good : ServerMsg → Result ServerMsg fault.Refusal

@@ -11,7 +11,8 @@ use Rattle.json_tree.specs.declared.fields.FieldFault.{FieldFault}
 use Rattle.json_tree.specs.declared.lines.LineFault.{LineFault}
 use Rattle.game_sheet.specs.MatchName.{Name}
 use Rattle.wire_json.specs.Acts.{act_in}
-use Rattle.wire_json.specs.ClientReading.{match_in, key_in, or_null, key_of_seat_in, viewer_of, sync_in, client_act_in, client_as, client_in, client_read}
+use Rattle.sheet_json.specs.Seats.{or_null}
+use Rattle.wire_json.specs.ClientReading.{match_in, key_in, key_of_seat_in, viewer_of, sync_in, client_act_in, client_as, client_in, client_read}
 use Rattle.wire_json.specs.Refusals.{Refusal, Field, UnknownMessage, ExtraField, Gives, Refuses, at_field, of_line}
 use Rattle.wire_json.specs.RefusalText.{member_from, IsAnswerable}
 use Rattle.wire_json.specs.declared.asked.Asked.{Asked}
@@ -48,13 +49,13 @@ sync_named d =
     (sync_by (key_of_seat_in (or_null (natural_in 255) (get (codes "seat") d)) (get (codes "key") d)) (match_in (get (codes "match") d)) (or_null (natural_in 255) (get (codes "seat") d)))
 
 act_by : (act : Result Asked FieldFault) (key : Result (List ℕ) FieldFault) (name : Result Name FieldFault) (at ticket : Result ℕ FieldFault)
-    → IsNamed (at_field (codes "act") act >>= λ a. at_field (codes "key") key >>= λ k. at_field (codes "match") name >>= λ m. at_field (codes "number") at >>= λ n. at_field (codes "ticket") ticket >>= λ t. Ok (Act a k m n t))
+    → IsNamed (at_field (codes "act") act >>= λ a. at_field (codes "key") key >>= λ k. at_field (codes "match") name >>= λ m. at_field (codes "number") at >>= λ n. at_field (codes "ticket") ticket >>= λ t. Ok (Act (record { name = m; key = k; number = n; ticket = t; asked = a })))
 act_by (Err fault) key name at ticket = field_named (codes "act") fault refl
 act_by (Ok a) (Err fault) name at ticket = field_named (codes "key") fault refl
 act_by (Ok a) (Ok k) (Err fault) at ticket = field_named (codes "match") fault refl
 act_by (Ok a) (Ok k) (Ok m) (Err fault) ticket = field_named (codes "number") fault refl
 act_by (Ok a) (Ok k) (Ok m) (Ok n) (Err fault) = field_named (codes "ticket") fault refl
-act_by (Ok a) (Ok k) (Ok m) (Ok n) (Ok t) = read_named (Act a k m n t)
+act_by (Ok a) (Ok k) (Ok m) (Ok n) (Ok t) = read_named (Act (record { name = m; key = k; number = n; ticket = t; asked = a }))
 
 act_named : (d : Data) → IsNamed (client_act_in d)
 unfolding client_act_in

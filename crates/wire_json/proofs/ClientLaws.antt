@@ -15,13 +15,17 @@ use Rattle.json_tree.proofs.LineLaws.{line_is, line_again, canonical_line}
 use Rattle.json_tree.proofs.Rows.{row_is}
 use Rattle.game_sheet.specs.MatchName.{Name}
 use Rattle.wire_json.specs.MatchText.{IsName}
-use Rattle.wire_json.specs.ClientText.{key_or_null, viewer_seat, client_members, ViewerFits, ClientFits, IsForm}
+use Rattle.wire_json.specs.ClientText.{key_or_null, client_members, ViewerFits, ClientFits, IsForm}
 use Rattle.wire_json.specs.ClientReading.{key_in, both_or_neither, viewer_of, sync_in, client_act_in, client_as, client_in, client_read}
 use Rattle.wire_json.specs.Refusals.{Refusal, ExtraField, UnknownMessage, of_line}
 use Rattle.wire_json.specs.declared.asked.Asked.{Asked}
 use Rattle.wire_json.specs.declared.client.ClientMsg.{ClientMsg}
 use Rattle.wire_json.specs.declared.client.ClientMsg.TheVariants.{Sync, Act}
-use Rattle.wire_json.proofs.FieldLaws.{step, past, text_is, natural_is, natural_again, match_member_is, match_member_again, key_member_is, key_member_again, Holds, or_null_is, seat_key_is}
+use Rattle.sheet_json.specs.Seats.{natural_or_null}
+use Rattle.sheet_json.proofs.SeatLaws.{natural_is, natural_again, Holds, or_null_is}
+use Rattle.game_sheet.specs.Viewer.{Viewer, seat_of}
+use Rattle.wire_json.specs.declared.submission.Submission.{Submission}
+use Rattle.wire_json.proofs.FieldLaws.{step, past, text_is, match_member_is, match_member_again, key_member_is, key_member_again, seat_key_is}
 use Rattle.wire_json.proofs.ActLaws.{act_is, act_again}
 
 abbrev good : ClientMsg → Result ClientMsg Refusal
@@ -36,8 +40,8 @@ sync_names : List (List ℕ)
 sync_names = codes "key" ∷ codes "match" ∷ codes "seat" ∷ codes "type" ∷ []
 
 -- the members `key` and `seat` are those of the viewer
-abbrev AreViewer : Option Data → Option Data → Option (ℕ × List ℕ) → Type 0
-AreViewer key seat viewer = (key ≡ Some (key_or_null viewer)) × (seat ≡ Some (viewer_seat viewer)) × ViewerFits viewer
+abbrev AreViewer : Option Data → Option Data → Viewer → Type 0
+AreViewer key seat viewer = (key ≡ Some (key_or_null viewer)) × (seat ≡ Some (natural_or_null (seat_of viewer))) × ViewerFits viewer
 
 viewer_is : (k s : Option Data) (key : Option (List ℕ)) (seat : Option ℕ) → Holds key_in k key → Holds (natural_in 255) s seat → both_or_neither key seat ≡ true → AreViewer k s (viewer_of key seat)
 viewer_is k s None None h i b = (h, i, tt)
@@ -59,7 +63,7 @@ sync_is ms m c kind e =
     (viewer.0, (match.0, (viewer.1, (text_is _ _ kind, tt)))) in
     subst (λ x. (ms ≡ client_members x) × ClientFits x) (last (Sync name.0 (viewer_of key.0 seat.0)) m seat.2) (row, (match.1, viewer.2))
 
-sync_again : (name : Name) (viewer : Option (ℕ × List ℕ)) → IsName name → ViewerFits viewer → sync_in (object (client_members (Sync name viewer))) ≡ Ok (Sync name viewer)
+sync_again : (name : Name) (viewer : Viewer) → IsName name → ViewerFits viewer → sync_in (object (client_members (Sync name viewer))) ≡ Ok (Sync name viewer)
 unfolding sync_in
 sync_again name None h v = rw (match_member_again name h) refl
 sync_again name (Some viewer) h v = rw (key_member_again viewer.1 v.1, natural_again 255 viewer.0 v.0, match_member_again name h) refl
@@ -68,6 +72,9 @@ sync_again name (Some viewer) h v = rw (key_member_again viewer.1 v.1, natural_a
 
 act_names : List (List ℕ)
 act_names = codes "act" ∷ codes "key" ∷ codes "match" ∷ codes "number" ∷ codes "ticket" ∷ codes "type" ∷ []
+
+abbrev submitted : Asked → List ℕ → Name → ℕ → ℕ → Submission
+submitted asked key name at ticket = record { name = name; key = key; number = at; ticket = ticket; asked = asked }
 
 client_act_is : (ms : Members) (m : ClientMsg) → MembersAreCanonical ms → text_in (get_member (codes "type") ms) ≡ Ok (codes "act") → client_act_in (object ms) ≡ Ok m → (ms ≡ client_members m) × ClientFits m
 unfolding client_act_in act_names
@@ -83,15 +90,16 @@ client_act_is ms m c kind e =
     let match = match_member_is _ name.0 name.1 in
     let number = natural_is 4294967295 _ at.0 at.1 in
     let count = natural_is 4294967295 _ ticket.0 ticket.1 in
-    let row = row_is act_names ms (client_members (Act act.0 key.0 name.0 at.0 ticket.0)) c
+    let submission = submitted act.0 key.0 name.0 at.0 ticket.0 in
+    let row = row_is act_names ms (client_members (Act submission)) c
     ((refl, (refl, (refl, (refl, (refl, tt))))), ((refl, (refl, (refl, (refl, tt)))), ((refl, (refl, (refl, tt))), ((refl, (refl, tt)), ((refl, tt), (tt, tt)))))) known.0 refl
     (asked.0, (owner.0, (match.0, (number.0, (count.0, (text_is _ _ kind, tt)))))) in
-    subst (λ x. (ms ≡ client_members x) × ClientFits x) (last (Act act.0 key.0 name.0 at.0 ticket.0) m ticket.2) (row, (asked.1, owner.1, match.1, number.1, count.1))
+    subst (λ x. (ms ≡ client_members x) × ClientFits x) (last (Act submission) m ticket.2) (row, (asked.1, owner.1, match.1, number.1, count.1))
 
-client_act_again : (act : Asked) (key : List ℕ) (name : Name) (at ticket : ℕ) → ClientFits (Act act key name at ticket) → client_act_in (object (client_members (Act act key name at ticket))) ≡ Ok (Act act key name at ticket)
+client_act_again : (s : Submission) → ClientFits (Act s) → client_act_in (object (client_members (Act s))) ≡ Ok (Act s)
 unfolding client_act_in
-client_act_again act key name at ticket h =
-    rw (act_again act h.0, key_member_again key h.1, match_member_again name h.2, natural_again 4294967295 at h.3, natural_again 4294967295 ticket h.4) refl
+client_act_again s h =
+    rw (act_again s.asked h.0, key_member_again s.key h.1, match_member_again s.name h.2, natural_again 4294967295 s.number h.3, natural_again 4294967295 s.ticket h.4) refl
 
 -- ---- any message
 
@@ -117,7 +125,7 @@ client_is ms m c e = client_by (text_in (get_member (codes "type") ms)) ms m c r
 pub client_again : (m : ClientMsg) → ClientFits m → client_in (object (client_members m)) ≡ Ok m
 unfolding client_in
 client_again (Sync name viewer) h = sync_again name viewer h.0 h.1
-client_again (Act act key name at ticket) h = client_act_again act key name at ticket h
+client_again (Act s) h = client_act_again s h
 
 -- ---- the line
 

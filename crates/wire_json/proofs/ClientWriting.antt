@@ -1,10 +1,11 @@
 -- What is written for a message from a client has no float, nests a few levels deep, and is a form of the message.
-use Rattle.std.proofs.Common.{◌≡◌, ℕ, ◌≤◌, List, [], ◌∷◌, length, lit≤, ℤ, pos, negsuc, false, Some, None, refl, arith}
+use Rattle.std.proofs.Common.{◌≡◌, ℕ, ◌≤◌, List, length, lit≤, false, Some, None, refl, arith}
 use Rattle.std.specs.Prelude.{IsUtf8}
-use Rattle.serde_json.specs.Data.{object, depth, items_depth}
+use Rattle.serde_json.specs.Data.{object, depth}
 use Rattle.serde_json.specs.Read.{read, max_depth}
-use Rattle.serde_json.specs.Written.{has_float, items_have_float}
-use Rattle.wire_json.specs.Asking.{integers, aim, asked_members}
+use Rattle.serde_json.specs.Written.{has_float}
+use Rattle.sheet_json.proofs.ArgumentLaws.{no_float_in, flat}
+use Rattle.wire_json.specs.Asking.{aim, asked_members}
 use Rattle.wire_json.specs.ClientText.{client_members, ClientFits, IsForm}
 use Rattle.wire_json.specs.declared.asked.Asked.{Asked}
 use Rattle.wire_json.specs.declared.asked.Asked.TheVariants.{Move, Event, Undo, Redo}
@@ -12,11 +13,6 @@ use Rattle.wire_json.specs.declared.asked.AskedTo.{AskedTo}
 use Rattle.wire_json.specs.declared.asked.AskedTo.TheVariants.{Nothing, Seat, Name}
 use Rattle.wire_json.specs.declared.client.ClientMsg.{ClientMsg}
 use Rattle.wire_json.specs.declared.client.ClientMsg.TheVariants.{Sync, Act}
-
-no_float_in : (zs : List ℤ) → items_have_float (integers zs) ≡ false
-no_float_in [] = refl
-no_float_in (pos n ∷ zs) = no_float_in zs
-no_float_in (negsuc n ∷ zs) = no_float_in zs
 
 no_float_at : (to : AskedTo) → has_float (aim to) ≡ false
 no_float_at Nothing = refl
@@ -32,11 +28,7 @@ asked_no_float Redo = refl
 pub no_float : (m : ClientMsg) → has_float (object (client_members m)) ≡ false
 no_float (Sync name None) = refl
 no_float (Sync name (Some viewer)) = refl
-no_float (Act act key name at ticket) = rw (asked_no_float act) refl
-
-flat : (zs : List ℤ) → items_depth (integers zs) ≡ 0
-flat [] = refl
-flat (z ∷ zs) = rw (flat zs) refl
+no_float (Act s) = rw (asked_no_float s.asked) refl
 
 aim_flat : (to : AskedTo) → depth (aim to) ≡ 0
 aim_flat Nothing = refl
@@ -52,7 +44,7 @@ asked_shallow Redo = lit≤ tt
 pub shallow : (m : ClientMsg) → depth (object (client_members m)) ≤ max_depth
 shallow (Sync name None) = lit≤ tt
 shallow (Sync name (Some viewer)) = lit≤ tt
-shallow (Act act key name at ticket) = let few = asked_shallow act in omega arith
+shallow (Act s) = let few = asked_shallow s.asked in omega arith
 
 pub is_form : (text : List ℕ) (m : ClientMsg) → ClientFits m → length text ≤ 65536 → IsUtf8 text → read text ≡ Some (object (client_members m)) → IsForm text m
-is_form text m fits short utf8 is = (record { short = short; utf8 = utf8; is = is; no_float = no_float m }, fits)
+is_form text m fits short utf8 is = (record { short = short; text = record { utf8 = utf8; is = is; no_float = no_float m } }, fits)

@@ -2,27 +2,24 @@
 use Rattle.std.proofs.Common.{◌≡◌, ℕ, ◌≤◌, List, length, Bool, true, false, cond, ◌&&◌, Option, Some, None, Ok, Err, refl, ap, ◌∙◌, subst}
 use Rattle.std.proofs.lemmas.Bool.{and_parts, le-leb, leb-true}
 use Rattle.std.specs.Prelude.{nat_le, Result}
-use Rattle.serde_json.specs.Data.{Num, unsigned, negative, float, Data, null, boolean, number, string, array, object, Items}
-use Rattle.serde_json.specs.Find.{as_u64}
+use Rattle.serde_json.specs.Data.{Data, null, boolean, number, string, array, object, Items}
 use Rattle.hex.specs.Hex.{encode_lower}
-use Rattle.json_tree.specs.Fields.{text_in, list_in, whole_number, number_in, natural_up_to, natural_in}
+use Rattle.json_tree.specs.Fields.{text_in, list_in}
 use Rattle.json_tree.specs.Steps.{◌>>=◌}
 use Rattle.json_tree.specs.declared.fields.FieldFault.{FieldFault}
 use Rattle.json_tree.specs.declared.fields.FieldFault.TheVariants.{OutOfRange}
 use Rattle.game_sheet.specs.MatchName.{Name}
 use Rattle.wire_json.specs.MatchText.{match_text, IsName, match_from}
 use Rattle.wire_json.specs.KeyText.{IsKey, key_from}
-use Rattle.wire_json.specs.Acts.{is_null_in, in_form, text_within}
-use Rattle.wire_json.specs.ClientReading.{match_in, key_in, or_null, both_or_neither, key_beside, key_of_seat_in}
+use Rattle.sheet_json.specs.Seats.{or_null}
+use Rattle.sheet_json.proofs.SeatLaws.{bound, tested, Holds, or_null_is}
+use Rattle.wire_json.specs.Acts.{in_form, text_within}
+use Rattle.wire_json.specs.ClientReading.{match_in, key_in, both_or_neither, key_beside, key_of_seat_in}
 use Rattle.wire_json.specs.Refusals.{Refusal, at_field}
 use Rattle.wire_json.proofs.MatchTexts.{match_is, match_again}
 use Rattle.wire_json.proofs.KeyTexts.{key_is, key_again}
 
 -- ---- steps
-
-pub bound : {A B E : Type 0} (r : Result A E) (next : A → Result B E) (y : B) → (r >>= next) ≡ Ok y → (x : A) × (r ≡ Ok x) × (next x ≡ Ok y)
-bound (Ok x) next y e = (x, refl, e)
-bound (Err fault) next y e = absurd (cc)
 
 pub step : {A B : Type 0} (name : List ℕ) (r : Result A FieldFault) (next : A → Result B Refusal) (y : B) → (at_field name r >>= next) ≡ Ok y → (x : A) × (r ≡ Ok x) × (next x ≡ Ok y)
 step name (Ok x) next y e = (x, refl, e)
@@ -31,10 +28,6 @@ step name (Err fault) next y e = absurd (cc)
 pub past : {B : Type 0} (b : Bool) (refusal : Refusal) (rest : Result B Refusal) (y : B) → cond b (Err refusal) rest ≡ Ok y → (b ≡ false) × (rest ≡ Ok y)
 past true refusal rest y e = absurd (cc)
 past false refusal rest y e = (refl, e)
-
-pub tested : {A E : Type 0} (b : Bool) (x y : A) (fault : E) → cond b (Ok x) (Err fault) ≡ Ok y → (b ≡ true) × (x ≡ y)
-tested true x y fault e = (refl, cc)
-tested false x y fault e = absurd (cc)
 
 pub formed : {A : Type 0} (o : Option A) (x : A) → in_form o ≡ Ok x → o ≡ Some x
 formed None x e = absurd (cc)
@@ -73,36 +66,6 @@ short_text_is lo hi o s e =
 pub short_text_again : (lo hi : ℕ) (s : List ℕ) → lo ≤ length s → length s ≤ hi → text_within lo hi (Some (string s)) ≡ Ok s
 short_text_again lo hi s low high = rw (le-leb lo (length s) low, le-leb (length s) hi high) refl
 
-whole_is : (n m : Num) → whole_number n ≡ Ok m → n ≡ m
-whole_is (unsigned n) m e = cc
-whole_is (negative z) m e = cc
-whole_is (float x) m e = absurd (cc)
-
-number_is : (o : Option Data) (n : Num) → number_in o ≡ Ok n → o ≡ Some (number n)
-number_is None n e = absurd (cc)
-number_is (Some null) n e = absurd (cc)
-number_is (Some (boolean b)) n e = absurd (cc)
-number_is (Some (number m)) n e = ap (λ x. Some (number x)) (whole_is m n e)
-number_is (Some (string s)) n e = absurd (cc)
-number_is (Some (array ds)) n e = absurd (cc)
-number_is (Some (object ms)) n e = absurd (cc)
-
-natural_at : (most : ℕ) (m : Num) (n : ℕ) → natural_up_to most (as_u64 m) ≡ Ok n → (m ≡ unsigned n) × (n ≤ most)
-natural_at most (unsigned m) n e =
-    let within = tested (nat_le m most) m n OutOfRange e in
-    (ap unsigned within.1, subst (λ x. x ≤ most) within.1 (leb-true m most within.0))
-natural_at most (negative z) n e = absurd (cc)
-natural_at most (float x) n e = absurd (cc)
-
-pub natural_is : (most : ℕ) (o : Option Data) (n : ℕ) → natural_in most o ≡ Ok n → (o ≡ Some (number (unsigned n))) × (n ≤ most)
-natural_is most o n e =
-    let m = bound (number_in o) _ n e in
-    let is = natural_at most m.0 n m.2 in
-    (number_is o m.0 m.1 ∙ ap (λ x. Some (number x)) is.0, is.1)
-
-pub natural_again : (most n : ℕ) → n ≤ most → natural_in most (Some (number (unsigned n))) ≡ Ok n
-natural_again most n h = rw (le-leb n most h) refl
-
 pub match_member_is : (o : Option Data) (name : Name) → match_in o ≡ Ok name → (o ≡ Some (string (match_text name))) × IsName name
 match_member_is o name e =
     let t = bound (text_in o) _ name e in
@@ -120,31 +83,6 @@ key_member_is o key e =
 
 pub key_member_again : (key : List ℕ) → IsKey key → key_in (Some (string (encode_lower key))) ≡ Ok key
 key_member_again key h = rw (key_again key h) refl
-
--- ---- null or a form
-
-pub null_is : (o : Option Data) → is_null_in o ≡ true → o ≡ Some null
-null_is None e = absurd (cc)
-null_is (Some null) e = refl
-null_is (Some (boolean b)) e = absurd (cc)
-null_is (Some (number n)) e = absurd (cc)
-null_is (Some (string s)) e = absurd (cc)
-null_is (Some (array ds)) e = absurd (cc)
-null_is (Some (object ms)) e = absurd (cc)
-
--- which of the two a member is
-abbrev pub Holds : {A : Type 0} → (Option Data → Result A FieldFault) → Option Data → Option A → Type 0
-Holds form o None = o ≡ Some null
-Holds form o (Some x) = form o ≡ Ok x
-
-held : {A : Type 0} (form : Option Data → Result A FieldFault) (b : Bool) (o : Option Data) (x : Option A) → is_null_in o ≡ b → cond b (Ok None) (form o >>= λ y. Ok (Some y)) ≡ Ok x → Holds form o x
-held form true o None is e = null_is o is
-held form true o (Some x) is e = absurd (cc)
-held form false o None is e = let y = bound (form o) _ None e in absurd (cc (y.2))
-held form false o (Some x) is e = let y = bound (form o) _ (Some x) e in let same : y.0 ≡ x = cc (y.2) in y.1 ∙ ap (λ z. Ok z) same
-
-pub or_null_is : {A : Type 0} (form : Option Data → Result A FieldFault) (o : Option Data) (x : Option A) → or_null form o ≡ Ok x → Holds form o x
-or_null_is form o x e = held form (is_null_in o) o x refl e
 
 beside : (seat : Result (Option ℕ) FieldFault) (key found : Option (List ℕ)) (s : Option ℕ) → key_beside seat key ≡ Ok found → seat ≡ Ok s → (key ≡ found) × (both_or_neither found s ≡ true)
 beside (Err fault) key found s e is = absurd (cc)

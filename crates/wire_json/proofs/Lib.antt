@@ -1,14 +1,13 @@
 pub mod MatchTexts
 pub mod KeyTexts
-pub mod Counting
 pub mod FieldLaws
 pub mod ActLaws
 pub mod ClientLaws
 pub mod ClientWriting
-pub mod Arguments
 pub mod Trees
 pub mod Tables
 pub mod AnswerLaws
 pub mod ServerLaws
 pub mod Answerable
 pub mod ServerWriting
+pub mod NoNames

@@ -6,16 +6,16 @@ use Rattle.serde_json.specs.Data.{Data, string, object, Members}
 use Rattle.serde_json.specs.Find.{get_member}
 use Rattle.json_tree.specs.Canonical.{MembersAreCanonical}
 use Rattle.json_tree.specs.Fields.{text_in, natural_in}
-use Rattle.json_tree.specs.Lines.{line_read, IsLineOf}
+use Rattle.json_tree.specs.Lines.{text_read, IsTextOf}
 use Rattle.json_tree.specs.Names.{has_extra}
 use Rattle.json_tree.specs.Steps.{◌>>=◌}
 use Rattle.json_tree.specs.declared.fields.FieldFault.{FieldFault}
 use Rattle.json_tree.specs.declared.lines.LineFault.{LineFault}
-use Rattle.json_tree.proofs.LineLaws.{line_is, line_again, canonical_line}
+use Rattle.json_tree.proofs.LineLaws.{text_is as whole_text_is, text_again, canonical_text}
 use Rattle.json_tree.proofs.Rows.{row_is}
 use Rattle.wire_json.specs.ReasonText.{reason_text}
 use Rattle.wire_json.specs.ServerText.{server_members}
-use Rattle.wire_json.specs.ServerReading.{ServerFits, IsServerForm, no_bound, reason_table, reason_from, reason_in, tree_in, synced_in, update_in, ok_in, no_in, again_in, refused_in, bye_in, server_as, server_in, server_read}
+use Rattle.wire_json.specs.ServerReading.{ServerFits, IsServerForm, reason_table, reason_from, reason_in, tree_in, synced_in, update_in, ok_in, no_in, again_in, refused_in, bye_in, server_as, server_in, server_read}
 use Rattle.wire_json.specs.Refusals.{Refusal, ExtraField, UnknownMessage, of_line}
 use Rattle.wire_json.specs.declared.reason.Reason.{Reason}
 use Rattle.wire_json.specs.declared.reason.Reason.TheVariants.{NoMatch, Unauthorized, GameOver, MatchFull, CannotUndoNow, NotActive, UnknownMove, WrongNumber, NothingToUndo, NothingToRedo, NotYours, NotUndoable, InvalidMove, TooEarly, TooManyWords, TooManyEvents}
@@ -23,7 +23,8 @@ use Rattle.wire_json.specs.declared.server.ServerMsg.{ServerMsg}
 use Rattle.wire_json.specs.declared.server.ServerMsg.TheVariants as to_client
 use Rattle.wire_json.proofs.AnswerLaws.{within_is, within_again, again_is, refused_is, bye_is, refused_again, bye_again}
 use Rattle.wire_json.proofs.Tables.{table_is}
-use Rattle.wire_json.proofs.FieldLaws.{bound, step, past, formed, text_is, natural_is, natural_again, match_member_is, match_member_again, or_null_is}
+use Rattle.wire_json.proofs.FieldLaws.{step, past, formed, text_is, match_member_is, match_member_again}
+use Rattle.sheet_json.proofs.SeatLaws.{bound, natural_is, natural_again, or_null_is}
 
 abbrev good : ServerMsg → Result ServerMsg Refusal
 good x = Ok x
@@ -185,11 +186,11 @@ line (Err fault) next m e = absurd (cc)
 pub server_read_is : (text : List ℕ) (m : ServerMsg) → server_read text ≡ Ok m → IsServerForm text m
 unfolding server_read
 server_read_is text m e =
-    let read = line (line_read no_bound text) (λ ms. server_in (object ms)) m e in
-    let is = line_is no_bound text read.0 read.1 in
-    let message = server_is read.0 m (canonical_line no_bound text read.0 is) read.2 in
-    (subst (IsLineOf no_bound text) message.0 is, message.1)
+    let read = line (text_read text) (λ ms. server_in (object ms)) m e in
+    let is = whole_text_is text read.0 read.1 in
+    let message = server_is read.0 m (canonical_text text read.0 is) read.2 in
+    (subst (IsTextOf text) message.0 is, message.1)
 
 pub server_read_again : (text : List ℕ) (m : ServerMsg) → IsServerForm text m → server_read text ≡ Ok m
 unfolding server_read
-server_read_again text m h = rw (line_again no_bound text (server_members m) h.0) (server_again m h.1)
+server_read_again text m h = rw (text_again text (server_members m) h.0) (server_again m h.1)

@@ -1,10 +1,9 @@
 -- The act that the member `act` holds, in one of its forms; none where it is in no form.
-use Rattle.std.specs.Prelude.{ℕ, ℤ, List, [], ◌∷◌, length, Bool, false, ◌&&◌, nat_le, if◌then◌else◌, codes, Option, Some, None, option_map, option_and_then, is_some, Result, Ok, Err}
+use Rattle.std.specs.Prelude.{ℕ, List, [], ◌∷◌, length, ◌&&◌, nat_le, if◌then◌else◌, codes, Option, Some, None, option_map, option_and_then, Result, Ok, Err}
 use Rattle.std.specs.Result.{result_ok}
 use Rattle.std.specs.Str.{bytes_eq}
-use Rattle.serde_json.specs.Data.{Data, null, boolean, number, string, array, object, Items, no_items, item}
-use Rattle.serde_json.specs.Events.{items_len}
-use Rattle.serde_json.specs.Find.{get, as_null, as_number, as_i64}
+use Rattle.serde_json.specs.Data.{Data, null, boolean, number, string, array, object}
+use Rattle.serde_json.specs.Find.{get}
 use Rattle.json_tree.specs.Fields.{text_in, list_in, natural_in}
 use Rattle.json_tree.specs.Names.{extra_in}
 use Rattle.json_tree.specs.Steps.{◌>>=◌}
@@ -12,26 +11,13 @@ use Rattle.json_tree.specs.declared.fields.FieldFault.{FieldFault}
 use Rattle.json_tree.specs.declared.fields.FieldFault.TheVariants.{Missing, WrongKind, OutOfRange}
 use Rattle.game_sheet.specs.declared.act.EventKind.{EventKind}
 use Rattle.game_sheet.specs.declared.act.EventKind.TheVariants.{EndTurn, EndPhase, SetPhase, EndStage, SetStage, EndGame}
-use Rattle.wire_json.specs.Asking.{is_argument}
+use Rattle.game_sheet.specs.EventNames.{kind_from}
+use Rattle.sheet_json.specs.Arguments.{arguments_in}
+use Rattle.sheet_json.specs.Seats.{is_null_in}
 use Rattle.wire_json.specs.declared.asked.Asked.{Asked}
 use Rattle.wire_json.specs.declared.asked.Asked.TheVariants.{Move, Event, Undo, Redo}
 use Rattle.wire_json.specs.declared.asked.AskedTo.{AskedTo}
 use Rattle.wire_json.specs.declared.asked.AskedTo.TheVariants.{Nothing, Seat, Name}
-
-abbrev pub argument_from : Option ℤ → Option ℤ
-argument_from None = None
-argument_from (Some z) = if is_argument z then Some z else None
-
-abbrev pub argument_in : Data → Option ℤ
-argument_in d = argument_from (option_and_then as_i64 (as_number d))
-
-abbrev pub arguments_from : Items → Option (List ℤ)
-arguments_from no_items = Some []
-arguments_from (item d ds) = option_and_then (λ z. option_map (λ zs. z ∷ zs) (arguments_from ds)) (argument_in d)
-
-abbrev pub arguments_in : Option Items → Option (List ℤ)
-arguments_in None = None
-arguments_in (Some ds) = if nat_le (items_len ds) 8 then arguments_from ds else None
 
 -- a text of lo to hi bytes
 abbrev pub text_within : ℕ → ℕ → Option Data → Result (List ℕ) FieldFault
@@ -43,21 +29,7 @@ word_in found = result_ok (text_within 1 32 found)
 unfoldable pub move_in : Data → Option Asked
 move_in d =
     if extra_in (codes "args" ∷ codes "kind" ∷ codes "move" ∷ []) d then None
-    else option_and_then (λ args. option_map (λ name. Move name args) (word_in (get (codes "move") d))) (arguments_in (result_ok (list_in (get (codes "args") d))))
-
-abbrev pub kind_from : List ℕ → Option EventKind
-kind_from s =
-    if bytes_eq s (codes "endTurn") then Some EndTurn
-    else if bytes_eq s (codes "endPhase") then Some EndPhase
-    else if bytes_eq s (codes "setPhase") then Some SetPhase
-    else if bytes_eq s (codes "endStage") then Some EndStage
-    else if bytes_eq s (codes "setStage") then Some SetStage
-    else if bytes_eq s (codes "endGame") then Some EndGame
-    else None
-
-abbrev pub is_null_in : Option Data → Bool
-is_null_in None = false
-is_null_in (Some d) = is_some (as_null d)
+    else option_and_then (λ args. option_map (λ name. Move name args) (word_in (get (codes "move") d))) (option_and_then arguments_in (result_ok (list_in (get (codes "args") d))))
 
 abbrev pub nothing_in : Option Data → Option AskedTo
 nothing_in found = if is_null_in found then Some Nothing else None

@@ -1,9 +1,8 @@
 -- The member `act` of a client's line: a move, an event, an undo or a redo, by names.
-use Rattle.std.specs.Prelude.{◌≡◌, ◌≤◌, ℕ, ℤ, pos, negsuc, List, length, map, Bool, true, ◌&&◌, int_le, codes}
-use Rattle.std.specs.List.{AllByRecursion}
-use Rattle.serde_json.specs.Data.{Data, null, number, string, array, unsigned, Items, Members, no_members, member}
-use Rattle.serde_json.specs.Find.{of_integer}
-use Rattle.serde_json.specs.View.{items_of}
+use Rattle.std.specs.Prelude.{◌≤◌, ℕ, List, length, codes}
+use Rattle.serde_json.specs.Data.{Data, null, number, string, array, unsigned, Members, no_members, member}
+use Rattle.game_sheet.specs.EventNames.{event_text}
+use Rattle.sheet_json.specs.Arguments.{arguments, AreArguments}
 use Rattle.game_sheet.specs.declared.act.EventKind.{EventKind}
 use Rattle.game_sheet.specs.declared.act.EventKind.TheVariants.{EndTurn, EndPhase, SetPhase, EndStage, SetStage, EndGame}
 use Rattle.wire_json.specs.declared.asked.Asked.{Asked}
@@ -11,34 +10,16 @@ use Rattle.wire_json.specs.declared.asked.Asked.TheVariants.{Move, Event, Undo, 
 use Rattle.wire_json.specs.declared.asked.AskedTo.{AskedTo}
 use Rattle.wire_json.specs.declared.asked.AskedTo.TheVariants.{Nothing, Seat, Name}
 
-abbrev pub integers : List ℤ → Items
-integers zs = items_of (map (λ z. number (of_integer z)) zs)
-
-abbrev pub event_text : EventKind → List ℕ
-event_text EndTurn = codes "endTurn"
-event_text EndPhase = codes "endPhase"
-event_text SetPhase = codes "setPhase"
-event_text EndStage = codes "endStage"
-event_text SetStage = codes "setStage"
-event_text EndGame = codes "endGame"
-
 abbrev pub aim : AskedTo → Data
 aim Nothing = null
 aim (Seat seat) = number (unsigned seat)
 aim (Name name) = string name
 
 abbrev pub asked_members : Asked → Members
-asked_members (Move name args) = member (codes "args") (array (integers args)) (member (codes "kind") (string (codes "move")) (member (codes "move") (string name) no_members))
+asked_members (Move name args) = member (codes "args") (array (arguments args)) (member (codes "kind") (string (codes "move")) (member (codes "move") (string name) no_members))
 asked_members (Event kind to) = member (codes "event") (string (event_text kind)) (member (codes "kind") (string (codes "event")) (member (codes "to") (aim to) no_members))
 asked_members Undo = member (codes "kind") (string (codes "undo")) no_members
 asked_members Redo = member (codes "kind") (string (codes "redo")) no_members
-
--- a whole number of 32 bits with sign
-abbrev pub is_argument : ℤ → Bool
-is_argument z = int_le (negsuc 2147483647) z && int_le z (pos 2147483647)
-
-abbrev pub AreArguments : List ℤ → Type 0
-AreArguments args = (length args ≤ 8) × AllByRecursion (λ z. is_argument z ≡ true) args
 
 abbrev pub IsWord : List ℕ → Type 0
 IsWord name = (1 ≤ length name) × (length name ≤ 32)

@@ -10,9 +10,11 @@ use Rattle.json_tree.specs.Steps.{◌>>=◌}
 use Rattle.json_tree.specs.declared.fields.FieldFault.{FieldFault}
 use Rattle.json_tree.specs.declared.fields.FieldFault.TheVariants.{OutOfRange}
 use Rattle.game_sheet.specs.MatchName.{Name}
+use Rattle.game_sheet.specs.Viewer.{Viewer}
 use Rattle.wire_json.specs.MatchText.{match_from}
 use Rattle.wire_json.specs.KeyText.{key_from}
-use Rattle.wire_json.specs.Acts.{act_in, in_form, is_null_in}
+use Rattle.sheet_json.specs.Seats.{or_null}
+use Rattle.wire_json.specs.Acts.{act_in, in_form}
 use Rattle.wire_json.specs.Refusals.{Refusal, UnknownMessage, ExtraField, at_field, of_line}
 use Rattle.wire_json.specs.declared.client.ClientMsg.{ClientMsg}
 use Rattle.wire_json.specs.declared.client.ClientMsg.TheVariants.{Sync, Act}
@@ -22,9 +24,6 @@ match_in found = text_in found >>= λ s. in_form (match_from s)
 
 abbrev pub key_in : Option Data → Result (List ℕ) FieldFault
 key_in found = text_in found >>= λ s. in_form (key_from s)
-
-abbrev pub or_null : {A : Type 0} → (Option Data → Result A FieldFault) → Option Data → Result (Option A) FieldFault
-or_null form found = if is_null_in found then Ok None else (form found >>= λ x. Ok (Some x))
 
 abbrev pub both_or_neither : {A B : Type 0} → Option A → Option B → Bool
 both_or_neither None None = true
@@ -40,7 +39,7 @@ key_beside (Ok seat) key = if both_or_neither key seat then Ok key else Err OutO
 abbrev pub key_of_seat_in : Result (Option ℕ) FieldFault → Option Data → Result (Option (List ℕ)) FieldFault
 key_of_seat_in seat found = or_null key_in found >>= key_beside seat
 
-abbrev pub viewer_of : Option (List ℕ) → Option ℕ → Option (ℕ × List ℕ)
+abbrev pub viewer_of : Option (List ℕ) → Option ℕ → Viewer
 viewer_of None seat = None
 viewer_of (Some key) None = None
 viewer_of (Some key) (Some seat) = Some (seat, key)
@@ -58,12 +57,12 @@ unfoldable pub client_act_in : Data → Result ClientMsg Refusal
 client_act_in d =
     if extra_in (codes "act" ∷ codes "key" ∷ codes "match" ∷ codes "number" ∷ codes "ticket" ∷ codes "type" ∷ []) d then Err ExtraField
     else
-    (at_field (codes "act") (act_in (get (codes "act") d)) >>= λ act.
+    (at_field (codes "act") (act_in (get (codes "act") d)) >>= λ asked.
     at_field (codes "key") (key_in (get (codes "key") d)) >>= λ key.
     at_field (codes "match") (match_in (get (codes "match") d)) >>= λ name.
     at_field (codes "number") (natural_in 4294967295 (get (codes "number") d)) >>= λ at.
     at_field (codes "ticket") (natural_in 4294967295 (get (codes "ticket") d)) >>= λ ticket.
-    Ok (Act act key name at ticket))
+    Ok (Act (record { name = name; key = key; number = at; ticket = ticket; asked = asked })))
 
 abbrev pub client_as : Result (List ℕ) FieldFault → Data → Result ClientMsg Refusal
 client_as (Err fault) d = Err UnknownMessage

@@ -4,6 +4,8 @@ use Rattle.serde_json.specs.Data.{Data, null, number, string, object, unsigned, 
 use Rattle.serde_json.specs.Written.{compact_text}
 use Rattle.hex.specs.Hex.{encode_lower}
 use Rattle.json_tree.specs.Lines.{IsLineOf, newline}
+use Rattle.game_sheet.specs.Viewer.{Viewer, seat_of}
+use Rattle.sheet_json.specs.Seats.{natural_or_null}
 use Rattle.wire_json.specs.MatchText.{match_text, IsName}
 use Rattle.wire_json.specs.KeyText.{IsKey}
 use Rattle.wire_json.specs.Asking.{asked_members, AskedFits, IsAskable}
@@ -11,34 +13,30 @@ use Rattle.wire_json.specs.declared.client.ClientMsg.{ClientMsg}
 use Rattle.wire_json.specs.declared.client.ClientMsg.TheVariants.{Sync, Act}
 
 -- a spectator has neither key nor seat
-abbrev pub key_or_null : Option (ℕ × List ℕ) → Data
+abbrev pub key_or_null : Viewer → Data
 key_or_null None = null
-key_or_null (Some viewer) = string (encode_lower viewer.1)
-
-abbrev pub viewer_seat : Option (ℕ × List ℕ) → Data
-viewer_seat None = null
-viewer_seat (Some viewer) = number (unsigned viewer.0)
+key_or_null (Some claim) = string (encode_lower claim.1)
 
 abbrev pub client_members : ClientMsg → Members
 client_members (Sync name viewer) =
-    member (codes "key") (key_or_null viewer) (member (codes "match") (string (match_text name)) (member (codes "seat") (viewer_seat viewer) (member (codes "type") (string (codes "sync")) no_members)))
-client_members (Act act key name at ticket) =
-    member (codes "act") (object (asked_members act)) (member (codes "key") (string (encode_lower key)) (member (codes "match") (string (match_text name))
-    (member (codes "number") (number (unsigned at)) (member (codes "ticket") (number (unsigned ticket)) (member (codes "type") (string (codes "act")) no_members)))))
+    member (codes "key") (key_or_null viewer) (member (codes "match") (string (match_text name)) (member (codes "seat") (natural_or_null (seat_of viewer)) (member (codes "type") (string (codes "sync")) no_members)))
+client_members (Act s) =
+    member (codes "act") (object (asked_members s.asked)) (member (codes "key") (string (encode_lower s.key)) (member (codes "match") (string (match_text s.name))
+    (member (codes "number") (number (unsigned s.number)) (member (codes "ticket") (number (unsigned s.ticket)) (member (codes "type") (string (codes "act")) no_members)))))
 
-abbrev pub ViewerFits : Option (ℕ × List ℕ) → Type 0
+abbrev pub ViewerFits : Viewer → Type 0
 ViewerFits None = Unit {0}
-ViewerFits (Some viewer) = (viewer.0 ≤ 255) × IsKey viewer.1
+ViewerFits (Some claim) = (claim.0 ≤ 255) × IsKey claim.1
 
 -- the members are in their forms
 abbrev pub ClientFits : ClientMsg → Type 0
 ClientFits (Sync name viewer) = IsName name × ViewerFits viewer
-ClientFits (Act act key name at ticket) = AskedFits act × IsKey key × IsName name × (at ≤ 4294967295) × (ticket ≤ 4294967295)
+ClientFits (Act s) = AskedFits s.asked × IsKey s.key × IsName s.name × (s.number ≤ 4294967295) × (s.ticket ≤ 4294967295)
 
 -- what a caller sees to, where the types keep the rest
 abbrev pub IsSendable : ClientMsg → Type 0
 IsSendable (Sync name viewer) = Unit {0}
-IsSendable (Act act key name at ticket) = IsAskable act
+IsSendable (Act s) = IsAskable s.asked
 
 -- the line is within the bound, and reads as the message's object
 abbrev pub IsForm : List ℕ → ClientMsg → Type 0

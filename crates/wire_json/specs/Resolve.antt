@@ -1,6 +1,5 @@
 -- The action that is asked for, its names looked up in a sheet; none where the sheet has no such name.
-use Rattle.std.specs.Prelude.{ℕ, List, Option, Some, None, option_map, position}
-use Rattle.std.specs.Str.{bytes_eq}
+use Rattle.std.specs.Prelude.{Option, Some, None, option_map}
 use Rattle.game_sheet.specs.declared.act.Act.{Act}
 use Rattle.game_sheet.specs.declared.act.Act.TheVariants.{Move, Event, Undo, Redo}
 use Rattle.game_sheet.specs.declared.act.Event.{Event as Happening}
@@ -9,22 +8,11 @@ use Rattle.game_sheet.specs.declared.act.EventKind.{EventKind}
 use Rattle.game_sheet.specs.declared.act.EventKind.TheVariants as kind
 use Rattle.game_sheet.specs.declared.act.Outcome.TheVariants.{Ended}
 use Rattle.game_sheet.specs.declared.sheet.Sheet.{Sheet}
-use Rattle.game_sheet.specs.declared.sheet.MoveRow.{MoveRow}
-use Rattle.game_sheet.specs.declared.sheet.PhaseRow.{PhaseRow}
-use Rattle.game_sheet.specs.declared.sheet.StageRow.{StageRow}
+use Rattle.game_sheet.specs.SheetNames.{move_of, phase_of, stage_of}
 use Rattle.wire_json.specs.declared.asked.Asked.{Asked}
 use Rattle.wire_json.specs.declared.asked.Asked.TheVariants as asked
 use Rattle.wire_json.specs.declared.asked.AskedTo.{AskedTo}
 use Rattle.wire_json.specs.declared.asked.AskedTo.TheVariants as to
-
-unfoldable pub move_of : Sheet → List ℕ → Option ℕ
-move_of sheet name = position (λ (row : MoveRow). bytes_eq row.name name) sheet.moves
-
-unfoldable pub phase_of : Sheet → List ℕ → Option ℕ
-phase_of sheet name = position (λ (row : PhaseRow). bytes_eq row.name name) sheet.phases
-
-unfoldable pub stage_of : Sheet → List ℕ → Option ℕ
-stage_of sheet name = position (λ (row : StageRow). bytes_eq row.name name) sheet.stages
 
 -- the event of a kind that is aimed at this; none where the sheet has no such phase or stage
 abbrev pub event_of : Sheet → EventKind → AskedTo → Option Happening

@@ -5,7 +5,7 @@ use Rattle.std.specs.Str.{bytes_eq}
 use Rattle.serde_json.specs.Data.{Data, object}
 use Rattle.serde_json.specs.Find.{get}
 use Rattle.json_tree.specs.Fields.{text_in, natural_in}
-use Rattle.json_tree.specs.Lines.{IsLineOf, line_read}
+use Rattle.json_tree.specs.Lines.{IsTextOf, text_read}
 use Rattle.json_tree.specs.Names.{extra_in}
 use Rattle.json_tree.specs.Steps.{◌>>=◌}
 use Rattle.json_tree.specs.declared.fields.FieldFault.{FieldFault}
@@ -13,7 +13,8 @@ use Rattle.json_tree.specs.declared.fields.FieldFault.TheVariants.{Missing}
 use Rattle.game_sheet.specs.declared.act.Bye.{Bye}
 use Rattle.wire_json.specs.Acts.{in_form}
 use Rattle.wire_json.specs.ByeText.{bye_from}
-use Rattle.wire_json.specs.ClientReading.{match_in, or_null}
+use Rattle.sheet_json.specs.Seats.{IsWithin, or_null}
+use Rattle.wire_json.specs.ClientReading.{match_in}
 use Rattle.wire_json.specs.MatchText.{IsName}
 use Rattle.wire_json.specs.Refusals.{Refusal, UnknownMessage, ExtraField, at_field, of_line}
 use Rattle.wire_json.specs.RefusalText.{member_from, refusal_from, with_field}
@@ -25,11 +26,6 @@ use Rattle.wire_json.specs.declared.refusal.Refusal as refused
 use Rattle.wire_json.specs.declared.server.ServerMsg.{ServerMsg}
 use Rattle.wire_json.specs.declared.server.ServerMsg.TheVariants as to_client
 
--- the number, where there is one, is within the bound
-abbrev pub IsWithin : ℕ → Option ℕ → Type 0
-IsWithin most None = Unit {0}
-IsWithin most (Some n) = n ≤ most
-
 -- the members are in their forms; those that are values of others may be any
 abbrev pub ServerFits : ServerMsg → Type 0
 ServerFits (to_client.Sync name seat snapshot) = IsName name × IsWithin 255 seat
@@ -40,13 +36,9 @@ ServerFits (to_client.Again ticket) = IsWithin 4294967295 ticket
 ServerFits (to_client.Refused refusal) = Unit {0}
 ServerFits (to_client.Bye why) = Unit {0}
 
--- no line passes 2^64 - 1 bytes, so a client's reader has no bound of its own
-abbrev pub no_bound : ℕ
-no_bound = 18446744073709551615
-
 -- the line reads as the object of the message's text
 abbrev pub IsServerForm : List ℕ → ServerMsg → Type 0
-IsServerForm line message = IsLineOf no_bound line (server_members message) × ServerFits message
+IsServerForm line message = IsTextOf line (server_members message) × ServerFits message
 
 abbrev pub reason_table : List (List ℕ × Reason)
 reason_table =
@@ -150,4 +142,4 @@ unfoldable pub server_in : Data → Result ServerMsg Refusal
 server_in d = server_as (text_in (get (codes "type") d)) d
 
 unfoldable pub server_read : List ℕ → Result ServerMsg Refusal
-server_read line = of_line (line_read no_bound line) >>= λ ms. server_in (object ms)
+server_read line = of_line (text_read line) >>= λ ms. server_in (object ms)

@@ -1,7 +1,8 @@
 -- The one text of each message to a client: the compact text of its object, members in byte order, and a newline.
 use Rattle.std.specs.Prelude.{ℕ, List, [], ◌∷◌, ◌++◌, Option, None, Some, codes}
-use Rattle.serde_json.specs.Data.{Data, null, number, string, object, unsigned, Members, member, no_members}
+use Rattle.serde_json.specs.Data.{Data, null, string, object, Members, member, no_members}
 use Rattle.serde_json.specs.Written.{compact_text}
+use Rattle.sheet_json.specs.Seats.{natural, natural_or_null}
 use Rattle.wire_json.specs.declared.server.ServerMsg.{ServerMsg}
 use Rattle.wire_json.specs.declared.server.ServerMsg.TheVariants.{Sync, Update, Ok, No, Again, Refused, Bye}
 use Rattle.wire_json.specs.declared.refusal.Member.{Member}
@@ -9,13 +10,6 @@ use Rattle.wire_json.specs.ByeText.{bye_text}
 use Rattle.wire_json.specs.MatchText.{match_text}
 use Rattle.wire_json.specs.ReasonText.{reason_text}
 use Rattle.wire_json.specs.RefusalText.{member_text, refusal_text, refusal_field}
-
-abbrev pub natural : ℕ → Data
-natural n = number (unsigned n)
-
-abbrev pub natural_or_null : Option ℕ → Data
-natural_or_null None = null
-natural_or_null (Some n) = natural n
 
 abbrev pub field_or_null : Option Member → Data
 field_or_null None = null

@@ -3,17 +3,20 @@
 ghost use Rattle.std.specs.Prelude.{◌≡◌, IfOk, Some, codes, option_map, option_and_then};
 ghost use Rattle.std.specs.Result.{result_ok};
 ghost use Rattle.serde_json.specs.Find.{get};
-ghost use Rattle.serde_json.specs.View.{view, items_view};
+ghost use Rattle.serde_json.specs.View.{view};
 ghost use Rattle.json_tree.specs.Fields.{list_in, text_in};
-ghost use Rattle.wire_json.specs.Acts.{argument_in, arguments_in, word_in, move_in, kind_from, aim_in, nothing_in, seat_or_nothing_in, event_in, asked_in, act_in};
+ghost use Rattle.game_sheet.specs.EventNames.{kind_from};
+ghost use Rattle.sheet_json.specs.Arguments.{arguments_in};
+ghost use Rattle.wire_json.specs.Acts.{word_in, move_in, aim_in, nothing_in, seat_or_nothing_in, event_in, asked_in, act_in};
 ghost use Rattle.wire_json.specs.Refusals.{Gives, at_field};
 
 use crate::asked::{Asked, AskedTo};
-use crate::members::{is_null, short_text_of};
+use crate::members::short_text_of;
 use crate::wire_no::WireNo;
 use game_sheet::{Args, EventKind, NoMemory, Text};
 use json_tree::{FieldFault, extra_field, list_of, natural_of, text_of};
 use serde_json::Value;
+use sheet_json::{args_of, is_null};
 use std::alloc::Global;
 
 /// The act that the member holds, or the fault of the member.
@@ -73,7 +76,7 @@ fn move_of(alloc: Global, act: &Value) -> Result<Option<Asked>, NoMemory>
     if extra_field(act, &["args", "kind", "move"]) {
         return Ok(None);
     }
-    let Some(args) = args_of(act) else {
+    let Some(args) = args_member_of(act) else {
         return Ok(None);
     };
     let Some(name) = word_of(act, "move") else {
@@ -93,37 +96,12 @@ fn word_of<'v>(act: &'v Value, name: &str) -> Option<&'v str>
     }
 }
 
-fn args_of(act: &Value) -> Option<Args>
-    ensures { result ≡ arguments_in (result_ok (list_in (get (codes "args") (view act.now)))) }
+fn args_member_of(act: &Value) -> Option<Args>
+    ensures { result ≡ option_and_then arguments_in (result_ok (list_in (get (codes "args") (view act.now)))) }
 {
     match list_of(act, "args") {
-        Ok(items) => arguments_of(items),
+        Ok(items) => args_of(items),
         Err(_) => None,
-    }
-}
-
-fn arguments_of(items: &[Value]) -> Option<Args>
-    ensures { result ≡ arguments_in (Some (items_view items.now)) }
-{
-    if items.len() > Args::MOST {
-        return None;
-    }
-    let mut args = Args::new();
-    for item in items {
-        let Some(argument) = argument_of(item) else {
-            return None;
-        };
-        args.push(argument);
-    }
-    Some(args)
-}
-
-fn argument_of(item: &Value) -> Option<i32>
-    ensures { result ≡ argument_in (view item.now) }
-{
-    match item.as_i64() {
-        Some(n) if -2147483648 <= n && n <= 2147483647 => Some(n as i32),
-        _ => None,
     }
 }
 
@@ -146,17 +124,9 @@ fn event_of(alloc: Global, act: &Value) -> Result<Option<Asked>, NoMemory>
 fn kind_of(act: &Value) -> Option<EventKind>
     ensures { result ≡ option_and_then kind_from (result_ok (text_in (get (codes "event") (view act.now)))) }
 {
-    let Ok(name) = text_of(act, "event") else {
-        return None;
-    };
-    match name {
-        "endTurn" => Some(EventKind::EndTurn),
-        "endPhase" => Some(EventKind::EndPhase),
-        "setPhase" => Some(EventKind::SetPhase),
-        "endStage" => Some(EventKind::EndStage),
-        "setStage" => Some(EventKind::SetStage),
-        "endGame" => Some(EventKind::EndGame),
-        _ => None,
+    match text_of(act, "event") {
+        Ok(name) => EventKind::named(name),
+        Err(_) => None,
     }
 }
 

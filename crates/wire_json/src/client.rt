@@ -1,7 +1,7 @@
 //! The messages from clients.
 
-use crate::asked::Asked;
-use game_sheet::{Key, MatchName, Number, Seat};
+use crate::submission::Submission;
+use game_sheet::{MatchName, Viewer};
 
 /// A message from a client.
 #[derive(Drop)]
@@ -10,20 +10,9 @@ pub enum ClientMsg {
     Sync {
         /// Which match.
         name: MatchName,
-        /// The seat and its key; none for a spectator.
-        viewer: Option<(Seat, Key)>,
+        /// Who it is for.
+        viewer: Viewer,
     },
     /// Asks for an action.
-    Act {
-        /// What is asked for.
-        act: Asked,
-        /// The key of the session's seat.
-        key: Key,
-        /// Which match.
-        name: MatchName,
-        /// The state number that the action was made for.
-        number: Number,
-        /// The client's own count, with which the answer comes back.
-        ticket: u32,
-    },
+    Act(Submission),
 }

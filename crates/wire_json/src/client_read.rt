@@ -11,13 +11,13 @@ ghost use Rattle.wire_json.specs.declared.client.ClientMsg.{ClientMsg as Message
 
 use crate::acts::act_member_of;
 use crate::client::ClientMsg;
-use crate::members::{
-    key_member_of, key_or_null_of, match_name_of, number_member_of, seat_or_null_of,
-};
+use crate::members::{at, key_at, key_or_null_of, match_at, number_member_of};
+use crate::submission::Submission;
 use crate::wire_no::WireNo;
-use game_sheet::{Key, Seat};
+use game_sheet::{Key, Seat, Viewer};
 use json_tree::{FieldFault, LineFault, extra_field, read_line, text_of};
 use serde_json::Value;
+use sheet_json::seat_or_null_of;
 use std::alloc::Global;
 
 /// The greatest length of a client's line in bytes, its newline not counted.
@@ -69,42 +69,24 @@ fn act(alloc: Global, value: &Value) -> Result<ClientMsg, WireNo>
     if extra_field(value, &["act", "key", "match", "number", "ticket", "type"]) {
         return Err(WireNo::ExtraField);
     }
-    let act = match act_member_of(alloc, value, "act") {
-        Ok(act) => act,
+    let asked = act_member_of(alloc, value, "act")?;
+    let key = match key_at(value, "key") {
+        Ok(key) => key,
         Err(no) => return Err(no),
     };
-    let key = match key_member_of(value, "key") {
-        Ok(key) => key,
-        Err(fault) => return Err(WireNo::Field { name: "key", fault }),
-    };
-    let name = match match_name_of(value, "match") {
+    let name = match match_at(value, "match") {
         Ok(name) => name,
-        Err(fault) => return Err(WireNo::Field {
-            name: "match",
-            fault,
-        }),
+        Err(no) => return Err(no),
     };
-    let number = match number_member_of(value, "number") {
-        Ok(number) => number,
-        Err(fault) => return Err(WireNo::Field {
-            name: "number",
-            fault,
-        }),
-    };
-    let ticket = match number_member_of(value, "ticket") {
-        Ok(ticket) => ticket,
-        Err(fault) => return Err(WireNo::Field {
-            name: "ticket",
-            fault,
-        }),
-    };
-    Ok(ClientMsg::Act {
-        act,
-        key,
+    let number = at("number", number_member_of(value, "number"))?;
+    let ticket = at("ticket", number_member_of(value, "ticket"))?;
+    Ok(ClientMsg::Act(Submission {
         name,
+        key,
         number,
         ticket,
-    })
+        asked,
+    }))
 }
 
 #[tactic(auto, unfolding(crate::specs::ClientReading::sync_in))]
@@ -119,23 +101,15 @@ fn sync(value: &Value) -> Result<ClientMsg, WireNo>
         Ok(key) => key,
         Err(fault) => return Err(WireNo::Field { name: "key", fault }),
     };
-    let name = match match_name_of(value, "match") {
+    let name = match match_at(value, "match") {
         Ok(name) => name,
-        Err(fault) => return Err(WireNo::Field {
-            name: "match",
-            fault,
-        }),
+        Err(no) => return Err(no),
     };
-    match seat {
-        Ok(seat) => Ok(ClientMsg::Sync {
-            name,
-            viewer: viewer_of(key, seat),
-        }),
-        Err(fault) => Err(WireNo::Field {
-            name: "seat",
-            fault,
-        }),
-    }
+    let seat = at("seat", seat)?;
+    Ok(ClientMsg::Sync {
+        name,
+        viewer: viewer_of(key, seat),
+    })
 }
 
 // The key or null, which has to fit the seat or null where that is in form.
@@ -152,7 +126,7 @@ fn key_of_seat(
     }
 }
 
-fn viewer_of(key: Option<Key>, seat: Option<Seat>) -> Option<(Seat, Key)>
+fn viewer_of(key: Option<Key>, seat: Option<Seat>) -> Viewer
     ensures { result ≡ viewer_from key seat }
 {
     match (key, seat) {

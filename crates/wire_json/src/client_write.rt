@@ -1,21 +1,22 @@
 //! Writes the messages from clients.
 
-ghost use Rattle.std.specs.Prelude.{◌≡◌, ◌≤◌, IfOk, OnOk, Some, None, codes, true, length};
-ghost use Rattle.serde_json.specs.Data.{object, array, string, number, member, no_members};
-ghost use Rattle.serde_json.specs.Find.{of_integer};
-ghost use Rattle.std.specs.List.{AllByRecursion};
-ghost use Rattle.serde_json.specs.View.{view, items_view};
+ghost use Rattle.std.specs.Prelude.{◌≡◌, ◌≤◌, IfOk, OnOk, Some, None, codes, length};
+ghost use Rattle.serde_json.specs.Data.{object, string, member, no_members};
+ghost use Rattle.serde_json.specs.View.{view};
 ghost use Rattle.serde_json.specs.Written.{compact_text};
-ghost use Rattle.wire_json.specs.Asking.{integers, is_argument, event_text, aim, asked_members, AreArguments, AskedFits, IsAskable};
+ghost use Rattle.sheet_json.specs.Arguments.{AreArguments};
+ghost use Rattle.wire_json.specs.Asking.{aim, asked_members, AskedFits, IsAskable};
 ghost use Rattle.wire_json.specs.ClientText.{client_text, client_members, ClientFits, IsSendable, IsForm};
 
 use crate::asked::{Asked, AskedTo};
 use crate::client::ClientMsg;
 use crate::key_text::text_of_key;
 use crate::match_text::text_of_match;
-use game_sheet::{Args, EventKind, Key, MatchName, NoMemory, Number, Seat};
+use crate::submission::Submission;
+use game_sheet::{Args, EventKind, Key, MatchName, NoMemory, Seat};
 use json_tree::line_of;
 use serde_json::{Value, json};
+use sheet_json::args_value;
 use std::alloc::Global;
 
 /// The line of a message, with its newline.
@@ -46,13 +47,7 @@ fn value_of(alloc: Global, message: &ClientMsg) -> Result<Value, NoMemory>
             name,
             viewer: Some((seat, key)),
         } => player(alloc, name, *seat, key),
-        ClientMsg::Act {
-            act,
-            key,
-            name,
-            number,
-            ticket,
-        } => { acting(alloc, act, key, name, *number, *ticket) }
+        ClientMsg::Act(submission) => acting(alloc, submission),
     }
 }
 
@@ -77,21 +72,16 @@ fn player(alloc: Global, name: &MatchName, seat: Seat, key: &Key) -> Result<Valu
     Ok(value)
 }
 
-fn acting(
-    alloc: Global,
-    act: &Asked,
-    key: &Key,
-    name: &MatchName,
-    number: Number,
-    ticket: u32,
-) -> Result<Value, NoMemory>
-    requires { IsAskable act.now }
-    ensures value { IfOk result (λ v. view v ≡ object (client_members (ClientMsg.Act act.now key.now name.now number ticket))) }
-    ensures fits { OnOk result (ClientFits (ClientMsg.Act act.now key.now name.now number ticket)) }
+fn acting(alloc: Global, submission: &Submission) -> Result<Value, NoMemory>
+    requires { IsAskable submission.now.asked }
+    ensures value { IfOk result (λ v. view v ≡ object (client_members (ClientMsg.Act submission.now))) }
+    ensures fits { OnOk result (ClientFits (ClientMsg.Act submission.now)) }
 {
-    let act = asked_value(alloc, act)?;
-    let key = text_of_key(alloc, key)?;
-    let name = text_of_match(alloc, name)?;
+    let act = asked_value(alloc, &submission.asked)?;
+    let key = text_of_key(alloc, &submission.key)?;
+    let name = text_of_match(alloc, &submission.name)?;
+    let number = submission.number;
+    let ticket = submission.ticket;
     let value =
         json!(in alloc; {"act": act, "key": key.as_str(), "match": name.as_str(), "number": number, "ticket": ticket, "type": "act"})?;
     Ok(value)
@@ -121,59 +111,17 @@ fn move_value(alloc: Global, name: &str, args: &Args) -> Result<Value, NoMemory>
     ensures value { IfOk result (λ v. view v ≡ object (asked_members (Asked.Move name.now args.now))) }
     ensures fits { OnOk result (AreArguments args.now) }
 {
-    let args = arguments_value(alloc, args)?;
+    let args = args_value(alloc, args)?;
     let value = json!(in alloc; {"args": args, "kind": "move", "move": name})?;
     Ok(value)
-}
-
-#[tactic(auto, using(crate::proofs::Arguments::array_view))]
-fn arguments_value(alloc: Global, args: &Args) -> Result<Value, NoMemory>
-    ensures value { IfOk result (λ v. view v ≡ array (integers args.now)) }
-    ensures fits { OnOk result (AreArguments args.now) }
-{
-    let count = args.len();
-    prove!(count <= Args::MOST);
-    let list = integers_of(alloc, args.as_slice())?;
-    Ok(Value::Array(list))
-}
-
-fn integers_of(alloc: Global, args: &[i32]) -> Result<Vec<Value>, NoMemory>
-    ensures value { IfOk result (λ list. items_view list.items ≡ integers args.now) }
-    ensures fits { OnOk result (AllByRecursion (λ z. is_argument z ≡ true) args.now) }
-{
-    let mut list = Vec::new(alloc);
-    for argument in args {
-        list.push(integer_value(*argument))?;
-    }
-    Ok(list)
-}
-
-fn integer_value(argument: i32) -> Value
-    ensures value { view result ≡ number (of_integer argument) }
-    ensures fits { is_argument argument ≡ true }
-{
-    Value::from(argument)
 }
 
 fn event_value(alloc: Global, kind: EventKind, to: &AskedTo) -> Result<Value, NoMemory>
     ensures { IfOk result (λ v. view v ≡ object (asked_members (Asked.Event kind to.now))) }
 {
     let to = aim_value(alloc, to)?;
-    let value = json!(in alloc; {"event": event_name(kind), "kind": "event", "to": to})?;
+    let value = json!(in alloc; {"event": kind.name(), "kind": "event", "to": to})?;
     Ok(value)
-}
-
-fn event_name(kind: EventKind) -> &'static str
-    ensures { result.now ≡ event_text kind }
-{
-    match kind {
-        EventKind::EndTurn => "endTurn",
-        EventKind::EndPhase => "endPhase",
-        EventKind::SetPhase => "setPhase",
-        EventKind::EndStage => "endStage",
-        EventKind::SetStage => "setStage",
-        EventKind::EndGame => "endGame",
-    }
 }
 
 fn aim_value(alloc: Global, to: &AskedTo) -> Result<Value, NoMemory>

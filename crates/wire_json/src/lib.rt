@@ -18,6 +18,7 @@ mod refusal;
 mod server;
 mod server_read;
 mod server_write;
+mod submission;
 mod verdict;
 mod wire_no;
 
@@ -36,5 +37,6 @@ pub use refusal::{Member, Refusal};
 pub use server::ServerMsg;
 pub use server_read::read_server;
 pub use server_write::write_server;
+pub use submission::Submission;
 pub use verdict::Verdict;
 pub use wire_no::WireNo;

@@ -5,24 +5,18 @@ ghost use Rattle.std.specs.Result.{result_map_both};
 ghost use Rattle.serde_json.specs.Find.{get};
 ghost use Rattle.serde_json.specs.View.{view};
 ghost use Rattle.json_tree.specs.Fields.{natural_in};
-ghost use Rattle.wire_json.specs.Acts.{text_within, is_null_in};
-ghost use Rattle.wire_json.specs.ClientReading.{match_in, key_in, or_null};
+ghost use Rattle.sheet_json.specs.Seats.{or_null};
+ghost use Rattle.wire_json.specs.Acts.{text_within};
+ghost use Rattle.wire_json.specs.ClientReading.{match_in, key_in};
+ghost use Rattle.wire_json.specs.Refusals.{Gives, at_field};
 
 use crate::key_text::key_of;
 use crate::match_text::match_of;
-use game_sheet::{Key, MatchName, Seat};
+use crate::wire_no::WireNo;
+use game_sheet::{Key, MatchName};
 use json_tree::{FieldFault, natural_of, text_of};
 use serde_json::Value;
-
-/// Whether the member is there and null.
-pub fn is_null(value: &Value, name: &str) -> bool
-    ensures { result ≡ is_null_in (get name.now (view value.now)) }
-{
-    match value.get(name) {
-        Some(member) => member.is_null(),
-        None => false,
-    }
-}
+use sheet_json::is_null;
 
 /// The text of the member, of `lo` to `hi` bytes.
 pub fn short_text_of<'v>(
@@ -41,8 +35,17 @@ pub fn short_text_of<'v>(
     }
 }
 
-/// The match that the member names.
-pub fn match_name_of(value: &Value, name: &str) -> Result<MatchName, FieldFault>
+/// The match that the member names, or the member's fault.
+pub fn match_at(value: &Value, name: &'static str) -> Result<MatchName, WireNo>
+    ensures { Gives result (at_field name.now (match_in (get name.now (view value.now)))) }
+{
+    match match_name_of(value, name) {
+        Ok(found) => Ok(found),
+        Err(fault) => Err(WireNo::Field { name, fault }),
+    }
+}
+
+fn match_name_of(value: &Value, name: &str) -> Result<MatchName, FieldFault>
     ensures { result ≡ match_in (get name.now (view value.now)) }
 {
     let text = text_of(value, name)?;
@@ -52,8 +55,17 @@ pub fn match_name_of(value: &Value, name: &str) -> Result<MatchName, FieldFault>
     }
 }
 
-/// The key that the member writes.
-pub fn key_member_of(value: &Value, name: &str) -> Result<Key, FieldFault>
+/// The key that the member writes, or the member's fault.
+pub fn key_at(value: &Value, name: &'static str) -> Result<Key, WireNo>
+    ensures { Gives result (at_field name.now (key_in (get name.now (view value.now)))) }
+{
+    match key_member_of(value, name) {
+        Ok(key) => Ok(key),
+        Err(fault) => Err(WireNo::Field { name, fault }),
+    }
+}
+
+fn key_member_of(value: &Value, name: &str) -> Result<Key, FieldFault>
     ensures { result ≡ key_in (get name.now (view value.now)) }
 {
     let text = text_of(value, name)?;
@@ -74,17 +86,6 @@ pub fn key_or_null_of(value: &Value, name: &str) -> Result<Option<Key>, FieldFau
     Ok(Some(key))
 }
 
-/// The seat of the member, from 0 to 255, or none where it is null.
-pub fn seat_or_null_of(value: &Value, name: &str) -> Result<Option<Seat>, FieldFault>
-    ensures { result ≡ or_null (natural_in 255) (get name.now (view value.now)) }
-{
-    if is_null(value, name) {
-        return Ok(None);
-    }
-    let seat = natural_of(value, name, 255)?;
-    Ok(Some(seat as u8))
-}
-
 /// The number of 32 bits that the member holds.
 pub fn number_member_of(value: &Value, name: &str) -> Result<u32, FieldFault>
     ensures { result ≡ natural_in 4294967295 (get name.now (view value.now)) }
@@ -102,4 +103,14 @@ pub fn number_or_null_of(value: &Value, name: &str) -> Result<Option<u32>, Field
     }
     let number = number_member_of(value, name)?;
     Ok(Some(number))
+}
+
+/// What a member was read as, or its fault under the member's name.
+pub fn at<X: Drop>(name: &'static str, read: Result<X, FieldFault>) -> Result<X, WireNo>
+    ensures { Gives result (at_field name.now read) }
+{
+    match read {
+        Ok(found) => Ok(found),
+        Err(fault) => Err(WireNo::Field { name, fault }),
+    }
 }

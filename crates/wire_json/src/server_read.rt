@@ -4,22 +4,21 @@ ghost use Rattle.std.specs.Prelude.{◌≡◌, IfOk, Ok, false};
 ghost use Rattle.serde_json.specs.Find.{get};
 ghost use Rattle.serde_json.specs.View.{view};
 ghost use Rattle.serde_json.specs.Written.{has_float};
-ghost use Rattle.wire_json.specs.ClientReading.{or_null};
+ghost use Rattle.sheet_json.specs.Seats.{or_null};
 ghost use Rattle.wire_json.specs.Refusals.{Gives, at_field};
 ghost use Rattle.wire_json.specs.ServerReading.{IsServerForm, tree_in, reason_in, member_in, refusal_in, why_in, synced_in, update_in, ok_in, no_in, again_in, refused_in, bye_in, server_in, server_read};
 ghost use Rattle.wire_json.specs.declared.server.ServerMsg.{ServerMsg as Message};
 
 use crate::bye::bye_of;
-use crate::members::{
-    is_null, match_name_of, number_member_of, number_or_null_of, seat_or_null_of,
-};
+use crate::members::{at, match_at, number_member_of, number_or_null_of};
 use crate::reason::Reason;
 use crate::refusal::{Member, Refusal};
 use crate::server::ServerMsg;
 use crate::wire_no::WireNo;
 use game_sheet::{Bye, NoMemory};
-use json_tree::{FieldFault, LineFault, Tree, extra_field, read_line, text_of};
+use json_tree::{FieldFault, LineFault, Tree, extra_field, read_text, text_of};
 use serde_json::Value;
+use sheet_json::{is_null, seat_or_null_of};
 use std::alloc::Global;
 
 /// The message that a line to a client is, or its first fault.
@@ -38,7 +37,7 @@ pub fn read_server(alloc: Global, line: &[u8]) -> Result<ServerMsg, WireNo>
 fn read_any(alloc: Global, line: &[u8]) -> Result<ServerMsg, WireNo>
     ensures { Gives result (server_read line.now) }
 {
-    match read_line(alloc, line, u64::MAX) {
+    match read_text(alloc, line) {
         Ok(value) => message_of(&value),
         Err(LineFault::NoMemory) => Err(WireNo::NoMemory),
         Err(fault) => Err(WireNo::Line(fault)),
@@ -72,31 +71,14 @@ fn no(value: &Value) -> Result<ServerMsg, WireNo>
     if extra_field(value, &["number", "reason", "ticket", "type"]) {
         return Err(WireNo::ExtraField);
     }
-    let number = match number_member_of(value, "number") {
-        Ok(number) => number,
-        Err(fault) => return Err(WireNo::Field {
-            name: "number",
-            fault,
-        }),
-    };
-    let reason = match reason_of(value, "reason") {
-        Ok(reason) => reason,
-        Err(fault) => return Err(WireNo::Field {
-            name: "reason",
-            fault,
-        }),
-    };
-    match number_member_of(value, "ticket") {
-        Ok(ticket) => Ok(ServerMsg::No {
-            number,
-            reason,
-            ticket,
-        }),
-        Err(fault) => Err(WireNo::Field {
-            name: "ticket",
-            fault,
-        }),
-    }
+    let number = at("number", number_member_of(value, "number"))?;
+    let reason = at("reason", reason_of(value, "reason"))?;
+    let ticket = at("ticket", number_member_of(value, "ticket"))?;
+    Ok(ServerMsg::No {
+        number,
+        reason,
+        ticket,
+    })
 }
 
 fn reason_of(value: &Value, name: &str) -> Result<Reason, FieldFault>
@@ -116,20 +98,9 @@ fn ok(value: &Value) -> Result<ServerMsg, WireNo>
     if extra_field(value, &["number", "ticket", "type"]) {
         return Err(WireNo::ExtraField);
     }
-    let number = match number_member_of(value, "number") {
-        Ok(number) => number,
-        Err(fault) => return Err(WireNo::Field {
-            name: "number",
-            fault,
-        }),
-    };
-    match number_member_of(value, "ticket") {
-        Ok(ticket) => Ok(ServerMsg::Ok { number, ticket }),
-        Err(fault) => Err(WireNo::Field {
-            name: "ticket",
-            fault,
-        }),
-    }
+    let number = at("number", number_member_of(value, "number"))?;
+    let ticket = at("ticket", number_member_of(value, "ticket"))?;
+    Ok(ServerMsg::Ok { number, ticket })
 }
 
 #[tactic(auto, unfolding(crate::specs::ServerReading::synced_in))]
@@ -140,28 +111,17 @@ fn sync(value: &Value) -> Result<ServerMsg, WireNo>
     if extra_field(value, &["match", "seat", "snapshot", "type"]) {
         return Err(WireNo::ExtraField);
     }
-    let name = match match_name_of(value, "match") {
+    let name = match match_at(value, "match") {
         Ok(name) => name,
-        Err(fault) => return Err(WireNo::Field {
-            name: "match",
-            fault,
-        }),
+        Err(no) => return Err(no),
     };
-    let seat = match seat_or_null_of(value, "seat") {
-        Ok(seat) => seat,
-        Err(fault) => return Err(WireNo::Field {
-            name: "seat",
-            fault,
-        }),
-    };
-    match tree_member_of(value, "snapshot") {
-        Ok(snapshot) => Ok(ServerMsg::Sync {
-            name,
-            seat,
-            snapshot,
-        }),
-        Err(no) => Err(no),
-    }
+    let seat = at("seat", seat_or_null_of(value, "seat"))?;
+    let snapshot = tree_member_of(value, "snapshot")?;
+    Ok(ServerMsg::Sync {
+        name,
+        seat,
+        snapshot,
+    })
 }
 
 #[tactic(auto, unfolding(crate::specs::ServerReading::update_in))]
@@ -172,30 +132,16 @@ fn update(value: &Value) -> Result<ServerMsg, WireNo>
     if extra_field(value, &["ctx", "entry", "g", "number", "type"]) {
         return Err(WireNo::ExtraField);
     }
-    let ctx = match tree_member_of(value, "ctx") {
-        Ok(ctx) => ctx,
-        Err(no) => return Err(no),
-    };
-    let entry = match tree_member_of(value, "entry") {
-        Ok(entry) => entry,
-        Err(no) => return Err(no),
-    };
-    let g = match tree_member_of(value, "g") {
-        Ok(g) => g,
-        Err(no) => return Err(no),
-    };
-    match number_member_of(value, "number") {
-        Ok(number) => Ok(ServerMsg::Update {
-            ctx,
-            entry,
-            g,
-            number,
-        }),
-        Err(fault) => Err(WireNo::Field {
-            name: "number",
-            fault,
-        }),
-    }
+    let ctx = tree_member_of(value, "ctx")?;
+    let entry = tree_member_of(value, "entry")?;
+    let g = tree_member_of(value, "g")?;
+    let number = at("number", number_member_of(value, "number"))?;
+    Ok(ServerMsg::Update {
+        ctx,
+        entry,
+        g,
+        number,
+    })
 }
 
 // The member whatever it holds.
@@ -234,13 +180,8 @@ fn again(value: &Value) -> Result<ServerMsg, WireNo>
     if extra_field(value, &["ticket", "type"]) {
         return Err(WireNo::ExtraField);
     }
-    match number_or_null_of(value, "ticket") {
-        Ok(ticket) => Ok(ServerMsg::Again { ticket }),
-        Err(fault) => Err(WireNo::Field {
-            name: "ticket",
-            fault,
-        }),
-    }
+    let ticket = at("ticket", number_or_null_of(value, "ticket"))?;
+    Ok(ServerMsg::Again { ticket })
 }
 
 #[tactic(auto, unfolding(crate::specs::ServerReading::refused_in))]
@@ -250,20 +191,8 @@ fn refused(value: &Value) -> Result<ServerMsg, WireNo>
     if extra_field(value, &["field", "reason", "type"]) {
         return Err(WireNo::ExtraField);
     }
-    let field = match field_of(value, "field") {
-        Ok(field) => field,
-        Err(fault) => return Err(WireNo::Field {
-            name: "field",
-            fault,
-        }),
-    };
-    let reason = match refusal_of(value, "reason") {
-        Ok(reason) => reason,
-        Err(fault) => return Err(WireNo::Field {
-            name: "reason",
-            fault,
-        }),
-    };
+    let field = at("field", field_of(value, "field"))?;
+    let reason = at("reason", refusal_of(value, "reason"))?;
     match reason.with_field(field) {
         Some(refusal) => Ok(ServerMsg::Refused(refusal)),
         None => Err(WireNo::Field {
@@ -304,10 +233,8 @@ fn bye(value: &Value) -> Result<ServerMsg, WireNo>
     if extra_field(value, &["type", "why"]) {
         return Err(WireNo::ExtraField);
     }
-    match why_of(value, "why") {
-        Ok(why) => Ok(ServerMsg::Bye(why)),
-        Err(fault) => Err(WireNo::Field { name: "why", fault }),
-    }
+    let why = at("why", why_of(value, "why"))?;
+    Ok(ServerMsg::Bye(why))
 }
 
 fn why_of(value: &Value, name: &str) -> Result<Bye, FieldFault>

@@ -1,12 +1,13 @@
 //! Writes the messages to clients, one function for each row.
 
-ghost use Rattle.std.specs.Prelude.{◌≡◌, ◌≤◌, false, length, IfOk, OnOk};
+ghost use Rattle.std.specs.Prelude.{◌≡◌, ◌≤◌, false, IfOk, OnOk};
 ghost use Rattle.serde_json.specs.Data.{object, depth};
 ghost use Rattle.serde_json.specs.Read.{max_depth};
 ghost use Rattle.serde_json.specs.View.{view};
 ghost use Rattle.serde_json.specs.Written.{has_float, compact_text};
-ghost use Rattle.wire_json.specs.ServerReading.{no_bound, IsServerForm, IsWithin, ServerFits};
-ghost use Rattle.wire_json.specs.ServerText.{text as server_text, server_members, natural_or_null, field_or_null};
+ghost use Rattle.wire_json.specs.ServerReading.{IsServerForm, ServerFits};
+ghost use Rattle.wire_json.specs.ServerText.{text as server_text, server_members, field_or_null};
+ghost use Rattle.sheet_json.specs.Seats.{IsWithin, natural_or_null};
 
 use crate::bye::text_of_bye;
 use crate::match_text::text_of_match;
@@ -16,6 +17,7 @@ use crate::server::ServerMsg;
 use game_sheet::{Bye, MatchName, NoMemory, Number, Seat};
 use json_tree::{Tree, line_of};
 use serde_json::{Value, json};
+use sheet_json::seat_value;
 use std::alloc::Global;
 
 /// The line of a message, with its newline.
@@ -23,10 +25,9 @@ use std::alloc::Global;
 pub fn write_server(alloc: Global, message: &ServerMsg) -> Result<Vec<u8>, NoMemory>
     ensures text { IfOk result (λ line. line.items ≡ server_text message.now) }
     ensures form { OnOk result (depth (object (server_members message.now)) ≤ max_depth
-        → length (compact_text (object (server_members message.now))) ≤ no_bound
         → IsServerForm (compact_text (object (server_members message.now))) message.now) }
     ensures line_form { IfOk result (λ line. depth (object (server_members message.now)) ≤ max_depth
-        → length line.items ≤ no_bound → IsServerForm line.items message.now) }
+        → IsServerForm line.items message.now) }
 {
     let value = value_of(alloc, message)?;
     match line_of(alloc, &value) {
@@ -79,17 +80,6 @@ fn sync(
     let value =
         json!(in alloc; {"match": name.as_str(), "seat": seat, "snapshot": snapshot.value(), "type": "sync"})?;
     Ok(value)
-}
-
-fn seat_value(seat: Option<Seat>) -> Value
-    ensures value { view result ≡ natural_or_null seat }
-    ensures no_float { has_float (natural_or_null seat) ≡ false }
-    ensures fits { IsWithin 255 seat }
-{
-    match seat {
-        None => Value::Null,
-        Some(seat) => Value::from(seat),
-    }
 }
 
 fn update(
