@@ -1,3 +1,7 @@
+pub mod Answers
+pub mod ByeLine
+pub mod Doors
 pub mod Faults
-pub mod Pieces
 pub mod Memory
+pub mod MemoryLink
+pub mod Pieces

@@ -1,0 +1,91 @@
+//! A door in memory, which holds its links and takes them back.
+
+ghost use Rattle.std.specs.Prelude.{◌≡◌, ◌-◌, ◌+◌, ◌≤◌, IfOk, All, false, Some, vec_len, vec_capacity};
+
+use crate::door::{Door, Visit};
+use crate::link::{Link, SessionEnd};
+use game_sheet::{List, NoMemory};
+use std::alloc::Global;
+use std::sync::Wait;
+
+/// A door in memory. Its calls of some numbers fail, counted from 1.
+#[derive(Drop)]
+pub struct MemoryDoor<L: Link> {
+    start: usize,
+    links: Vec<L>,
+    ended: Vec<(L, SessionEnd)>,
+    shut: bool,
+    calls: u64,
+    failing: List<u64>,
+    faults: u64,
+    ghost given: { vec_len links ≤ start },
+    ghost out: { vec_len ended + vec_len links ≤ start },
+    ghost room: { start ≤ vec_capacity ended },
+    ghost fresh: { All (λ l. L.faults l ≡ 0) links.items },
+}
+
+impl<L: Link> MemoryDoor<L> {
+    /// A door with these links, of which the last comes first.
+    pub fn new(alloc: Global, links: Vec<L>, failing: List<u64>) -> Result<MemoryDoor<L>, NoMemory>
+        requires { All (λ l. L.faults l ≡ 0) links.items }
+        ensures given { IfOk result (λ d. ⟦<MemoryDoor<L> as Door>⟧.given d ≡ 0) }
+        ensures out { IfOk result (λ d. ⟦<MemoryDoor<L> as Door>⟧.out d ≡ 0) }
+        ensures shut { IfOk result (λ d. ⟦<MemoryDoor<L> as Door>⟧.shut d ≡ false) }
+        ensures faults { IfOk result (λ d. ⟦<MemoryDoor<L> as Door>⟧.faults d ≡ 0) }
+        ensures left { IfOk result (λ d. ⟦<MemoryDoor<L> as Door>⟧.left d ≡ Some (vec_len links)) }
+    {
+        let start = links.len();
+        let ended = Vec::with_capacity(alloc, start)?;
+        Ok(MemoryDoor {
+            start,
+            links,
+            ended,
+            shut: false,
+            calls: 0,
+            failing,
+            faults: 0,
+        })
+    }
+
+    /// The links that came back, in the order in which they did, and how each session ended.
+    pub fn ended(&self) -> &[(L, SessionEnd)]
+        ensures { result.now ≡ self.now.ended.items }
+    {
+        self.ended.as_slice()
+    }
+}
+
+impl<L: Link> Door for MemoryDoor<L> {
+    ghost use Rattle.std.specs.Prelude.{Some, vec_len, ◌-◌};
+
+    type L = L;
+
+    ghost given = { λ d. d.start - vec_len d.links };
+
+    ghost out = { λ d. d.start - vec_len d.links - vec_len d.ended };
+
+    ghost shut = { λ d. d.shut };
+
+    ghost faults = { λ d. d.faults };
+
+    ghost left = { λ d. Some (vec_len d.links) };
+
+    fn accept<R: Wait>(&mut self, _rt: &R) -> Visit<L> {
+        self.calls = self.calls.saturating_add(1);
+        if self.failing.as_slice().contains(&self.calls) {
+            self.faults = self.faults.saturating_add(1);
+            return Visit::Failed;
+        }
+        match self.links.pop() {
+            Some(link) => Visit::Came(link),
+            None => {
+                self.shut = true;
+                Visit::Shut
+            }
+        }
+    }
+
+    fn back<R: Wait>(&mut self, _rt: &R, link: L, end: SessionEnd) {
+        self.ended.push_reserved((link, end));
+    }
+}
