@@ -5,6 +5,7 @@ use game_sheet::{
 };
 use move_log::Entry;
 use std::alloc::Global;
+use std::process::Abort;
 use std::test::Fail;
 
 fn row(alloc: Global, name: &str, redact: bool) -> Result<MoveRow, NoMemory> {
@@ -71,49 +72,64 @@ fn shown(act: &Act) -> usize {
     }
 }
 
-#[test]
-fn only_the_bidder_sees_a_bid(rt: HostRuntime) -> Result<(), Fail> {
-    let alloc = rt.alloc();
-    let sheet = auction(alloc)?;
-    let cases: [(u8, Option<Seat>, bool, usize); 6] = [
-        (0, Some(3), false, 1),
-        (0, Some(2), true, 0),
-        (0, None, true, 0),
-        (1, Some(3), false, 1),
-        (1, Some(2), false, 1),
-        (1, None, false, 1),
-    ];
-    for (place, viewer, hidden, count) in cases {
-        let seen = entry(of_forty(place)).redacted(alloc, &sheet, viewer)?;
-        assert_eq!(rt; seen.hidden, hidden, "move {place} to {viewer:?}");
-        assert_eq!(rt; shown(&seen.act), count, "move {place} to {viewer:?}");
-        assert_eq!(rt; seen.words, 0);
-        assert_eq!(rt; (seen.seat, seen.number, seen.turn), (3, 5, 1));
+/// What a viewer is shown of an action: whether it is hidden, how many arguments, and how many words.
+fn seen(
+    alloc: Global,
+    sheet: &Sheet,
+    act: Act,
+    viewer: Option<Seat>,
+) -> Result<(bool, usize, u32), NoMemory> {
+    let entry = entry(act);
+    let seen = entry.redacted(alloc, sheet, viewer);
+    drop(entry);
+    let seen = seen?;
+    let told = (seen.hidden, shown(&seen.act), seen.words);
+    drop(seen);
+    Ok(told)
+}
+
+/// A bid or a boast, who looks, and what is seen of it.
+const SEEN: [(u8, Option<Seat>, (bool, usize, u32)); 6] = [
+    (0, Some(3), (false, 1, 0)),
+    (0, Some(2), (true, 0, 0)),
+    (0, None, (true, 0, 0)),
+    (1, Some(3), (false, 1, 0)),
+    (1, Some(2), (false, 1, 0)),
+    (1, None, (false, 1, 0)),
+];
+
+fn are_seen(rt: &impl Abort, alloc: Global, sheet: &Sheet) -> Result<(), NoMemory> {
+    for (place, viewer, told) in SEEN {
+        let seen = seen(alloc, sheet, of_forty(place), viewer)?;
+        assert!(rt; seen == told, "move {place} to {viewer:?}");
     }
+    let event = seen(alloc, sheet, Act::Event(Event::EndPhase), None)?;
+    let undo = seen(alloc, sheet, Act::Undo, None)?;
+    let redo = seen(alloc, sheet, Act::Redo, None)?;
+    assert!(rt; !event.0 && !undo.0 && !redo.0);
     Ok(())
 }
 
 #[test]
-fn other_actions_are_never_hidden(rt: HostRuntime) -> Result<(), Fail> {
-    let alloc = rt.alloc();
-    let sheet = auction(alloc)?;
-    assert!(rt;
-        !entry(Act::Event(Event::EndPhase))
-            .redacted(alloc, &sheet, None)?
-            .hidden
-    );
-    assert!(rt; !entry(Act::Undo).redacted(alloc, &sheet, None)?.hidden);
-    assert!(rt; !entry(Act::Redo).redacted(alloc, &sheet, None)?.hidden);
-    Ok(())
+fn only_the_bidder_sees_a_bid(rt: HostRuntime) -> Result<(), Fail> {
+    let sheet = auction(rt.alloc())?;
+    let seen = are_seen(&rt, rt.alloc(), &sheet);
+    drop(sheet);
+    Ok(seen?)
+}
+
+/// The numbers of an entry's copy: its seat, its state number, its turn and its words.
+fn copied(alloc: Global, entry: Entry) -> Result<[u32; 4], NoMemory> {
+    let copy = entry.copy(alloc);
+    drop(entry);
+    let copy = copy?;
+    let numbers = [u32::from(copy.seat), copy.number, copy.turn, copy.words];
+    drop(copy);
+    Ok(numbers)
 }
 
 #[test]
 fn a_copy_is_the_whole_entry(rt: HostRuntime) -> Result<(), Fail> {
-    let copy = entry(of_forty(0)).copy(rt.alloc())?;
-    assert_eq!(rt; shown(&copy.act), 1);
-    assert_eq!(rt;
-        (copy.seat, copy.number, copy.turn, copy.words),
-        (3, 5, 1, 7)
-    );
+    assert!(rt; copied(rt.alloc(), entry(of_forty(0)))? == [3, 5, 1, 7]);
     Ok(())
 }

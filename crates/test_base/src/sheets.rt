@@ -384,17 +384,20 @@ fn contexts_are_copied_whole(rt: HostRuntime) -> Result<(), Fail> {
     Ok(())
 }
 
-/// A copy of a text of these bytes.
-fn copied(alloc: Global, text: &str) -> Result<Text, NoMemory> {
-    Text::from_str(alloc, text)?.copy(alloc)
+/// Whether a text's copy is this text and no other.
+fn is_copied_text(alloc: Global, text: Text) -> Result<bool, NoMemory> {
+    let copy = text.copy(alloc);
+    drop(text);
+    let copy = copy?;
+    let is_same = copy.as_str() == "draw" && copy.is("draw") && !copy.is("Draw");
+    drop(copy);
+    Ok(is_same)
 }
 
 #[test]
 fn texts_are_copied_whole(rt: HostRuntime) -> Result<(), Fail> {
-    let text = copied(rt.alloc(), "draw")?;
-    assert_eq!(rt; text.as_str(), "draw");
-    assert!(rt; text.is("draw"));
-    assert!(rt; !text.is("Draw"));
+    let text = Text::from_str(rt.alloc(), "draw")?;
+    assert!(rt; is_copied_text(rt.alloc(), text)?);
     Ok(())
 }
 
