@@ -11,24 +11,21 @@ mod position;
 
 use any_game::by_name;
 use ask::ask_all;
+use case_rows::{read_input, split_head};
 use game_sheet::NoMemory;
-use std::io::{self, Read};
+use std::io;
 
 fn main(rt: HostRuntime) -> io::Result<()> {
-    let mut text = String::new(rt.alloc());
-    let _count = rt.stdin().read_to_string(&mut text)?;
-    for section in text.as_str().split("\n\n") {
-        play_section(&rt, section)?;
+    let text = read_input(&rt)?;
+    for case in text.as_str().split("\n\n") {
+        play_case(&rt, case)?;
     }
     Ok(())
 }
 
-/// Asks the rows of a section, which begins with its game.
-fn play_section(rt: &HostRuntime, section: &str) -> io::Result<()> {
-    let (head, rows) = match section.split_once('\n') {
-        Some(parts) => parts,
-        None => (section, ""),
-    };
+/// Asks the rows of a case, which begins with its game.
+fn play_case(rt: &HostRuntime, case: &str) -> io::Result<()> {
+    let (head, rows) = split_head(case);
     println!(rt; "{head}")?;
     match head.strip_prefix("game ") {
         Some(name) => play_named(rt, name, rows),

@@ -11,25 +11,22 @@ mod room;
 mod row;
 mod sight;
 
+use case_rows::{read_input, split_head};
 use room::play_room;
 use sight::print_sight;
-use std::io::{self, Read};
+use std::io;
 
 fn main(rt: HostRuntime) -> io::Result<()> {
-    let mut text = String::new(rt.alloc());
-    let _count = rt.stdin().read_to_string(&mut text)?;
-    for section in text.as_str().split("\n\n") {
-        play_section(&rt, section)?;
+    let text = read_input(&rt)?;
+    for case in text.as_str().split("\n\n") {
+        play_case(&rt, case)?;
     }
     Ok(())
 }
 
-/// Plays the rows of a section.
-fn play_section(rt: &HostRuntime, section: &str) -> io::Result<()> {
-    let (head, rows) = match section.split_once('\n') {
-        Some(parts) => parts,
-        None => (section, ""),
-    };
+/// Plays the rows of a case, which begins with its room.
+fn play_case(rt: &HostRuntime, case: &str) -> io::Result<()> {
+    let (head, rows) = split_head(case);
     println!(rt; "{head}")?;
     match head.split_once(' ') {
         Some(("sight", game)) => print_sight(rt, game),

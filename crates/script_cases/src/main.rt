@@ -5,13 +5,13 @@
 #![tactic(auto)]
 
 use board_links::{MemorySource, WriterSink};
+use case_rows::{read_input, split_head};
 use game_sheet::List;
-use std::io::{self, Read};
+use std::io;
 use world_script::run_script;
 
 fn main(rt: HostRuntime) -> io::Result<()> {
-    let mut text = String::new(rt.alloc());
-    let _count = rt.stdin().read_to_string(&mut text)?;
+    let text = read_input(&rt)?;
     let cases = match text.as_str().strip_prefix("== ") {
         Some(cases) => cases,
         None => text.as_str(),
@@ -24,10 +24,7 @@ fn main(rt: HostRuntime) -> io::Result<()> {
 
 /// Plays the script that stands behind its name.
 fn play_case(rt: &HostRuntime, case: &str) -> io::Result<()> {
-    let (name, script) = match case.split_once('\n') {
-        Some(parts) => parts,
-        None => (case, ""),
-    };
+    let (name, script) = split_head(case);
     println!(rt; "== {name}")?;
     match Vec::from_slice(rt.alloc(), script.as_bytes()) {
         Ok(bytes) => play(rt, MemorySource::new(bytes, List::new(rt.alloc()))),
