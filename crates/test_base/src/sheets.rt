@@ -301,20 +301,24 @@ fn in_their_orders(alloc: Global, nr: u8) -> Result<Sheet, NoMemory> {
     }
 }
 
-/// Asserts that a sheet of a table breaks this rule first; 0 is none.
-fn assert_rule(rt: &impl Abort, nr: u8, sheet: &Sheet, rule: u8) {
-    let broken = match check_sheet(sheet) {
+/// The first rule that a sheet breaks; 0 is none.
+fn rule_of(sheet: Result<Sheet, NoMemory>) -> Result<u8, NoMemory> {
+    let sheet = sheet?;
+    let rule = match check_sheet(&sheet) {
         Ok(()) => 0,
         Err(fault) => fault.rule,
     };
-    assert_eq!(rt; broken, rule, "sheet {nr}");
+    drop(sheet);
+    Ok(rule)
 }
 
 #[test]
 fn each_rule_is_named_by_two_sheets(rt: HostRuntime) -> Result<(), Fail> {
     for nr in 0..10u8 {
-        assert_rule(&rt, nr, &spoiled_tables(rt.alloc(), nr)?, nr / 2 + 1);
-        assert_rule(&rt, nr, &spoiled_rows(rt.alloc(), nr)?, nr / 2 + 6);
+        let table = rule_of(spoiled_tables(rt.alloc(), nr))?;
+        assert!(rt; table == nr / 2 + 1, "tables {nr}");
+        let rows = rule_of(spoiled_rows(rt.alloc(), nr))?;
+        assert!(rt; rows == nr / 2 + 6, "rows {nr}");
     }
     Ok(())
 }
@@ -325,14 +329,10 @@ const AT_A_BOUND: [u8; 12] = [0, 1, 0, 0, 3, 0, 8, 0, 9, 9, 10, 10];
 #[test]
 fn what_stands_at_a_bound_passes(rt: HostRuntime) -> Result<(), Fail> {
     for nr in 0..12u8 {
-        assert_rule(
-            &rt,
-            nr,
-            &at_a_bound(rt.alloc(), nr)?,
-            AT_A_BOUND[nr as usize],
-        );
+        let rule = rule_of(at_a_bound(rt.alloc(), nr))?;
+        assert!(rt; rule == AT_A_BOUND[nr as usize], "sheet {nr}");
     }
-    assert_rule(&rt, 12, &plain(rt.alloc())?, 0);
+    assert!(rt; rule_of(plain(rt.alloc()))? == 0);
     Ok(())
 }
 

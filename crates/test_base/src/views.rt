@@ -1,6 +1,6 @@
 //! A deal of three hands, the last of them missing, as each viewer sees it.
 
-use game_sheet::{List, NoMemory};
+use game_sheet::{List, NoMemory, Seat};
 use secret_strip::Split;
 use std::alloc::Global;
 use std::process::Abort;
@@ -37,27 +37,48 @@ fn shows(rt: &impl Abort, view: &Deal, first: Option<&[u8]>, second: Option<&[u8
     assert!(rt; hand(view, 2).is_none());
 }
 
-fn views(rt: &impl Abort, alloc: Global, split: &Deal) -> Result<(), NoMemory> {
-    shows(rt, &split.strip(alloc, Some(0))?, Some(&[1, 2]), None);
-    shows(rt, &split.strip(alloc, Some(1))?, None, Some(&[5]));
-    shows(rt, &split.strip(alloc, Some(2))?, None, None);
-    shows(rt, &split.strip(alloc, Some(3))?, None, None);
-    shows(rt, &split.strip(alloc, None)?, None, None);
+/// Who looks, and the first two hands that are then seen.
+type Row = (Option<Seat>, Option<&'static [u8]>, Option<&'static [u8]>);
+
+/// Compares what is seen of a deal by each who looks.
+fn views(rt: &impl Abort, alloc: Global, split: &Deal, rows: &[Row]) -> Result<(), NoMemory> {
+    for (viewer, first, second) in rows {
+        let view = split.strip(alloc, *viewer)?;
+        shows(rt, &view, *first, *second);
+        drop(view);
+    }
     Ok(())
 }
 
 #[test]
 fn each_viewer_sees_its_own_hand_alone(rt: HostRuntime) -> Result<(), Fail> {
+    let rows: [Row; 5] = [
+        (Some(0), Some(&[1, 2]), None),
+        (Some(1), None, Some(&[5])),
+        (Some(2), None, None),
+        (Some(3), None, None),
+        (None, None, None),
+    ];
     let split = deal(rt.alloc())?;
-    views(&rt, rt.alloc(), &split)?;
-    Ok(())
+    let seen = views(&rt, rt.alloc(), &split, &rows);
+    drop(split);
+    Ok(seen?)
+}
+
+/// Compares what is seen of the second seat's view of a deal.
+fn views_again(rt: &impl Abort, alloc: Global, split: Deal, rows: &[Row]) -> Result<(), NoMemory> {
+    let view = split.strip(alloc, Some(1));
+    drop(split);
+    let view = view?;
+    let seen = views(rt, alloc, &view, rows);
+    drop(view);
+    seen
 }
 
 #[test]
 fn a_view_of_a_view_shows_the_same(rt: HostRuntime) -> Result<(), Fail> {
+    let rows: [Row; 2] = [(Some(1), None, Some(&[5])), (Some(0), None, None)];
     let split = deal(rt.alloc())?;
-    let view = split.strip(rt.alloc(), Some(1))?;
-    shows(&rt, &view.strip(rt.alloc(), Some(1))?, None, Some(&[5]));
-    shows(&rt, &view.strip(rt.alloc(), Some(0))?, None, None);
+    views_again(&rt, rt.alloc(), split, &rows)?;
     Ok(())
 }
