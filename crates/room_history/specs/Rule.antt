@@ -1,0 +1,107 @@
+-- The public rules of an action, which rest on the sheet, the context, the state number, the seat and the line alone, in the
+-- order in which they are tested.
+use Rattle.std.specs.Prelude.{ℕ, ◌==◌, Bool, true, false, not, ◌&&◌, if◌then◌else◌, is_some, Option, Some, None, List, [], ◌∷◌, slice_get, bytes_eq}
+use Rattle.std.specs.List.{list_any}
+use Rattle.game_sheet.specs.declared.act.Act.{Act}
+use Rattle.game_sheet.specs.declared.act.Act.TheVariants.{Move, Event, Undo, Redo}
+use Rattle.game_sheet.specs.declared.act.EventKind.{EventKind}
+use Rattle.game_sheet.specs.declared.act.EventKind.TheVariants.{EndTurn, EndPhase, SetPhase, EndStage, SetStage, EndGame}
+use Rattle.game_sheet.specs.declared.ctx.Ctx.{Ctx}
+use Rattle.game_sheet.specs.declared.sheet.Sheet.{Sheet}
+use Rattle.game_sheet.specs.declared.sheet.MoveRow.{MoveRow}
+use Rattle.wire_json.specs.declared.asked.Asked.{Asked}
+use Rattle.wire_json.specs.declared.asked.Asked.TheVariants as asked
+use Rattle.wire_json.specs.declared.reason.Reason.{Reason}
+use Rattle.wire_json.specs.declared.reason.Reason.TheVariants.{NoMatch, Unauthorized, GameOver, MatchFull, CannotUndoNow, NotActive, UnknownMove, WrongNumber}
+use Rattle.wire_json.specs.Resolve.{act_of}
+use Rattle.stage_map.specs.Moves.{may, moves}
+use Rattle.game_sheet.specs.Viewer.{Viewer}
+
+-- whether a key is that of the viewer's seat; a spectator has none
+abbrev pub has_key : Viewer → List ℕ → Bool
+has_key None key = false
+has_key (Some claim) key = bytes_eq claim.1 key
+
+-- the greatest state number
+abbrev pub most_actions : ℕ
+most_actions = 4096
+
+-- the reason of the first rule that is broken
+abbrev pub first_broken : List (Bool × Reason) → Option Reason
+first_broken [] = None
+first_broken (rule ∷ rules) = if rule.0 then Some rule.1 else first_broken rules
+
+abbrev pub is_undo_or_redo : Asked → Bool
+is_undo_or_redo (asked.Move name args) = false
+is_undo_or_redo (asked.Event kind to) = false
+is_undo_or_redo asked.Undo = true
+is_undo_or_redo asked.Redo = true
+
+-- whether the seat is the only one that may act
+abbrev pub is_alone_in : List (ℕ × Option ℕ) → ℕ → Bool
+is_alone_in [] seat = false
+is_alone_in (row ∷ []) seat = row.0 == seat
+is_alone_in (row ∷ next ∷ rows) seat = false
+
+abbrev pub is_alone_on : Option (List (ℕ × Option ℕ)) → ℕ → ℕ → Bool
+is_alone_on None current seat = seat == current
+is_alone_on (Some rows) current seat = is_alone_in rows seat
+
+abbrev pub is_alone : Ctx → ℕ → Bool
+is_alone ctx seat = is_alone_on ctx.active ctx.current seat
+
+abbrev pub is_kind : EventKind → EventKind → Bool
+is_kind EndTurn EndTurn = true
+is_kind EndPhase EndPhase = true
+is_kind SetPhase SetPhase = true
+is_kind EndStage EndStage = true
+is_kind SetStage SetStage = true
+is_kind EndGame EndGame = true
+is_kind kind other = false
+
+-- whether the sheet allows players the event that is asked for
+abbrev pub is_allowed : Sheet → Asked → Bool
+is_allowed sheet (asked.Move name args) = false
+is_allowed sheet (asked.Event kind to) = list_any (is_kind kind) sheet.events
+is_allowed sheet asked.Undo = false
+is_allowed sheet asked.Redo = false
+
+-- whether the seat has the move that is asked for, or the players the event
+abbrev pub has_act : Sheet → Ctx → ℕ → Asked → Option Act → Bool
+has_act sheet ctx seat a None = false
+has_act sheet ctx seat a (Some (Move id args)) = list_any (λ m. m == id) (moves sheet ctx seat)
+has_act sheet ctx seat a (Some (Event event)) = is_allowed sheet a
+has_act sheet ctx seat a (Some Undo) = true
+has_act sheet ctx seat a (Some Redo) = true
+
+abbrev pub row_ignores : Option MoveRow → Bool
+row_ignores None = false
+row_ignores (Some row) = row.ignore_stale
+
+-- whether the action is taken on any state number
+abbrev pub ignores_number : Sheet → Option Act → Bool
+ignores_number sheet None = false
+ignores_number sheet (Some (Move id args)) = row_ignores (slice_get sheet.moves id)
+ignores_number sheet (Some (Event event)) = false
+ignores_number sheet (Some Undo) = false
+ignores_number sheet (Some Redo) = false
+
+-- the rules that only a seat's session can meet
+abbrev pub seat_rules : Sheet → Ctx → ℕ → ℕ → Asked → ℕ → List (Bool × Reason)
+seat_rules sheet ctx number seat a at =
+    (is_some ctx.over, GameOver)
+    ∷ (number == most_actions, MatchFull)
+    ∷ (is_undo_or_redo a && not (is_alone ctx seat), CannotUndoNow)
+    ∷ (not (may ctx seat), NotActive)
+    ∷ (not (has_act sheet ctx seat a (act_of sheet a)), UnknownMove)
+    ∷ (not (at == number) && not (ignores_number sheet (act_of sheet a)), WrongNumber)
+    ∷ []
+
+abbrev pub viewer_rules : Sheet → Ctx → ℕ → Option ℕ → Bool → Asked → ℕ → List (Bool × Reason)
+viewer_rules sheet ctx number None fits a at = (true, Unauthorized) ∷ []
+viewer_rules sheet ctx number (Some seat) fits a at = (not fits, Unauthorized) ∷ seat_rules sheet ctx number seat a at
+
+-- the first public rule that an action breaks: `same` says that the line names the match that stands, `fits` that its key is the
+-- seat's, and `at` is the line's number
+unfoldable pub public : Sheet → Ctx → ℕ → Bool → Option ℕ → Bool → Asked → ℕ → Option Reason
+public sheet ctx number same viewer fits a at = first_broken ((not same, NoMatch) ∷ viewer_rules sheet ctx number viewer fits a at)
