@@ -1,6 +1,6 @@
 -- What the answers of a door say of the links that it gave, of those that are out and of those that it holds; and when a link shows
 -- how its session ended.
-use Rattle.std.specs.Prelude.{◌≡◌, ◌≢◌, ℕ, ◌<◌, ◌-◌, ◌++◌, List, Option, Some, Bool, true, false, IfSome}
+use Rattle.std.specs.Prelude.{◌≡◌, ◌≢◌, ℕ, ◌<◌, ◌-◌, ◌++◌, List, [], ◌∷◌, Option, Some, Bool, true, false, IfSome}
 use Rattle.board_links.specs.declared.door.Visit.{Visit}
 use Rattle.board_links.specs.declared.door.Visit.TheVariants as visit
 use Rattle.board_links.specs.declared.link.SessionEnd.{SessionEnd}
@@ -19,6 +19,15 @@ module _ {L : Type 0} where
   abbrev pub shuts : Visit L → Bool
   shuts visit.Shut = true
   shuts answer = false
+
+  abbrev pub fails : Visit L → Bool
+  fails visit.Failed = true
+  fails answer = false
+
+  -- the link that comes, if any
+  abbrev pub links_in : Visit L → List L
+  links_in (visit.Came link) = link ∷ []
+  links_in answer = []
 
   -- a door fails only where the count of faults rose
   abbrev pub VisitRaises : Visit L → ℕ → ℕ → Type 0

@@ -8,7 +8,7 @@ use game_sheet::{List, NoMemory};
 use std::alloc::Global;
 use std::sync::Wait;
 
-/// A door in memory. Its calls of some numbers fail, counted from 1.
+/// A door in memory. Its calls of some numbers fail, counted from 1; the others give its links, the last first.
 #[derive(Drop)]
 pub struct MemoryDoor<L: Link> {
     start: usize,
@@ -56,7 +56,9 @@ impl<L: Link> MemoryDoor<L> {
 }
 
 impl<L: Link> Door for MemoryDoor<L> {
-    ghost use Rattle.std.specs.Prelude.{Some, vec_len, ◌-◌};
+    ghost use Rattle.std.specs.Prelude.{◌≡◌, ◌≤◌, ◌+◌, ◌-◌, ◌++◌, ◌||◌, Some, vec_len};
+    ghost use Rattle.board_links.specs.Doors.{ComesFresh, Lets, VisitRaises, fails, gives, links_in, shuts};
+    ghost use Rattle.board_links.specs.Memory.{is_failing, next_count};
 
     type L = L;
 
@@ -70,7 +72,19 @@ impl<L: Link> Door for MemoryDoor<L> {
 
     ghost left = { λ d. Some (vec_len d.links) };
 
-    fn accept<R: Wait>(&mut self, _rt: &R) -> Visit<L> {
+    fn accept<R: Wait>(&mut self, _rt: &R) -> Visit<L>
+        ensures given { self.new.start - vec_len self.new.links ≡ self.old.start - vec_len self.old.links + gives result }
+        ensures out { self.new.start - vec_len self.new.links - vec_len self.new.ended
+            ≡ self.old.start - vec_len self.old.links - vec_len self.old.ended + gives result }
+        ensures shut { self.new.shut ≡ (self.old.shut || shuts result) }
+        ensures never_falls { self.old.faults ≤ self.new.faults }
+        ensures raises { VisitRaises result self.old.faults self.new.faults }
+        ensures fresh { ComesFresh L.faults result }
+        ensures told { Lets result (vec_len self.old.links) (Some (vec_len self.new.links)) }
+        ensures fails { fails result ≡ is_failing self.old.failing (next_count self.old.calls) }
+        ensures counts { (self.new.calls ≡ next_count self.old.calls) × (self.new.failing ≡ self.old.failing) }
+        ensures links { self.old.links.items ≡ self.new.links.items ++ links_in result }
+    {
         self.calls = self.calls.saturating_add(1);
         if self.failing.as_slice().contains(&self.calls) {
             self.faults = self.faults.saturating_add(1);
