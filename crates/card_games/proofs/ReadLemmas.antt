@@ -1,5 +1,5 @@
 -- A list that is read item by item, and two lists that are compared item by item.
-use Rattle.std.proofs.Common.{◌≡◌, ℕ, zero, suc, ◌+◌, ◌<◌, List, [], ◌∷◌, ◌++◌, length, drop, take, get_or, Option, Some, None, refl, ap, ◌∙◌, sym, arith, append_assoc}
+use Rattle.std.proofs.Common.{◌≡◌, ℕ, zero, suc, ◌+◌, ◌<◌, List, [], ◌∷◌, ◌++◌, length, drop, get_or, Option, Some, None, refl, ap, ◌∙◌, sym, arith, append_assoc}
 use Rattle.std.proofs.lemmas.List.{get_or_default}
 use Rattle.card_games.specs.Json.{first_of, read_items}
 use Rattle.serde_json.specs.Data.{Data}
@@ -26,28 +26,6 @@ pub after_more : {A : Type 0} (read : Data → Option A) (vs : List Value) (i : 
 after_more read vs i v x done within is reads =
     let more : suc i ≡ i + 1 = omega arith in
     after_next read vs i v x done within is reads ∙ ap (λ k. after (done ++ x ∷ []) (read_items read (items_view (drop k vs)))) more
-
--- an item isn't read
-pub after_none : {A : Type 0} (read : Data → Option A) (vs : List Value) (i : ℕ) (v : Value) (done : List A) → i < length vs → v ≡ get_or vs i v → read (view v) ≡ None → after done (read_items read (items_view (drop i vs))) ≡ None
-after_none read [] i v done within is reads = absurd (omega arith)
-after_none read (w ∷ vs) zero v done within is reads =
-    ap (λ u. after done (first_of (read (view u)) (read_items read (items_view vs)))) (sym is) ∙ ap (λ o. after done (first_of o (read_items read (items_view vs)))) reads
-after_none read (w ∷ vs) (suc i) v done within is reads = after_none read vs i v done (omega arith) is reads
-
-same_next : {A : Type 0} (xs ys : List A) (i : ℕ) (x y : A) → length xs ≡ length ys → i < length xs → x ≡ get_or xs i x → y ≡ get_or ys i y → x ≡ y → take i xs ≡ take i ys → take (suc i) xs ≡ take (suc i) ys
-same_next [] ys i x y long within at_x at_y same before = absurd (omega arith)
-same_next (a ∷ xs) [] i x y long within at_x at_y same before = absurd (omega arith)
-same_next (a ∷ xs) (b ∷ ys) zero x y long within at_x at_y same before = ap (λ e. e ∷ []) (sym at_x ∙ same ∙ at_y)
-same_next (a ∷ xs) (b ∷ ys) (suc i) x y long within at_x at_y same before =
-    let rest : take i xs ≡ take i ys = cc in
-    let first : a ≡ b = cc in
-    ap (λ e. e ∷ take (suc i) xs) first ∙ ap (λ es. b ∷ es) (same_next xs ys i x y (omega arith) (omega arith) at_x at_y same rest)
-
--- two lists are the same so far, and at a place
-pub same_more : {A : Type 0} (xs ys : List A) (i : ℕ) (x y : A) → length xs ≡ length ys → i < length xs → x ≡ get_or xs i x → y ≡ get_or ys i y → x ≡ y → take i xs ≡ take i ys → take (i + 1) xs ≡ take (i + 1) ys
-same_more xs ys i x y long within at_x at_y same before =
-    let more : suc i ≡ i + 1 = omega arith in
-    ap (λ k. take k xs) (sym more) ∙ same_next xs ys i x y long within at_x at_y same before ∙ ap (λ k. take k ys) more
 
 -- two lists that differ at a place are not the same
 pub same_at : {A : Type 0} (xs ys : List A) (i : ℕ) (x y : A) → i < length xs → x ≡ get_or xs i x → y ≡ get_or ys i y → xs ≡ ys → x ≡ y

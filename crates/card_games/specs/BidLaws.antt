@@ -1,22 +1,29 @@
 -- Blind Bid keeps the laws of games.
-use Rattle.std.specs.Prelude.{◌≡◌, ℕ, ℤ, pos, negsuc, ◌==◌, ◌<◌, ◌≤◌, ◌&&◌, nat_eq, nat_le, nat_lt, Bool, true, false, if◌then◌else◌, IsTrue, IfSome, List, [], ◌∷◌, ◌++◌, length, map, replicate, slice_get, slice_set, codes, option_map, unwrap_or, Option, Some, None, refl}
+use Rattle.std.specs.Prelude.{◌≡◌, ℕ, pos, negsuc, ◌==◌, ◌<◌, ◌≤◌, ◌&&◌, nat_eq, nat_le, nat_lt, true, if◌then◌else◌, IsTrue, IfSome, List, [], ◌∷◌, ◌++◌, length, replicate, slice_get, slice_set, codes, option_map, Option, Some, None, refl}
 use Rattle.std.specs.List.{AllByRecursion, list_all}
-use Rattle.std.proofs.Common.{◌∙◌, ap, subst, eq-eqb, lit<, lit≤}
-use Rattle.std.proofs.Math.Nat.{le_trans}
-use Rattle.std.proofs.lemmas.Bool.{and_parts, false≢true, le-leb}
-use Rattle.std.proofs.lemmas.List.{length-map, length-replicate, length-set}
-use Rattle.card_games.specs.BlindBid.{Bids, all_bid, amount, are_seats, bid, bid_move, bid_offers, bids_value, bidding_value, blind_bid, boast, have_seats, may_bid, no_bids, no_secret_value, offered_bids, offered_boasts, own_bidding, own_bids, own_no_secret, own_sealed, read_bidding, read_bids, read_no_secret, read_sealed, revealed, sealed_value}
-use Rattle.card_games.specs.FloatFree.{bids_float_free}
-use Rattle.card_games.specs.Json.{apply, is_count, list_value, number_value, option_value, own_option, own_split, read_count, read_list, read_member, read_option}
+use Rattle.std.proofs.Common.{◌∙◌, ap, eq-eqb, lit<, lit≤}
+use Rattle.std.proofs.lemmas.Bool.{and_parts}
+use Rattle.std.proofs.lemmas.List.{length-replicate, length-set}
+use Rattle.card_games.specs.BlindBid.{Bids, bid, bid_move, bid_offers, bid_sheet, bidding_names, bidding_value, bids_value, blind_bid, boast, have_bidders, is_bid, no_bids, offered_bids, offered_boasts, own_bidding, own_bids, own_sealed_bid, read_bidding, read_bids, read_sealed_bid, revealed, sealed_bid_value, with_bids}
+use Rattle.card_games.specs.Json.{apply, is_count, list_value, number_value, option_value, own_option, own_split, read_count, read_list, read_member, read_option, read_split}
 use Rattle.card_games.specs.Offers.{offers}
-use Rattle.card_games.specs.OwnLaws.{all_copies, all_if, all_joined, all_seen, all_set, count_seen, either_own, move_own, offers_known}
-use Rattle.card_games.specs.PartLaws.{IsMemberFrom, IsPart, IsReadFrom, IsRow, applied, both_true, count_part, counts_part, list_part, member_from, object_back, object_from, option_part, passing_part, small_is_count, split_part}
+use Rattle.card_games.specs.OwnLaws.{OwnSplit, all_copies, all_if, all_joined, all_set, count_seen, either_gives, either_keeps, move_own, of_parts, offers_known, parts_of, view_own}
+use Rattle.card_games.specs.PartLaws.{IsMemberFrom, IsPart, IsReadFrom, IsRow, applied, both_true, count_part, counts_part, list_part, member_from, object_back, object_from, option_part, passing_part, read_from, small_is_count, split_part}
+use Rattle.card_games.specs.Sealed.{are_seats, have_all, may_seal, no_secret_value, own_no_secret, read_no_secret, shown_items}
+use Rattle.card_games.specs.SealedLaws.{count_unsealed, first_seats, greatest_ends, no_secrets_part, seal_keeps, seal_own, sealed_part, seats_shown, shown_own, unsealed_own}
 use Rattle.card_games.specs.declared.bids.Bidding.{Bidding}
-use Rattle.card_games.specs.declared.bids.Sealed.{Sealed}
-use Rattle.game_trait.specs.Deed.{Barred, Deed, GaveUp, Invalid}
+use Rattle.card_games.specs.declared.sealed.Sealed.{Sealed}
+use Rattle.game_sheet.proofs.Fits.{fits}
+use Rattle.game_sheet.specs.SheetRules.{broken}
+use Rattle.game_sheet.specs.declared.args.Arg.{Arg}
+use Rattle.game_sheet.specs.declared.args.Arg.TheVariants.{Whole, Text}
+use Rattle.game_trait.specs.Deed.{GaveUp, Invalid}
 use Rattle.game_trait.specs.Lawful.{GivesOwn, Lawful}
 use Rattle.game_trait.specs.Offers.{offered_known, offered_none}
+use Rattle.game_trait.specs.Queues.{KeepsToSheet, QueuesInSheet}
+use Rattle.json_tree.proofs.WritableRows.{fixed}
 use Rattle.json_tree.specs.Canonical.{MembersAreCanonical}
+use Rattle.json_tree.specs.Writable.{IsWritable}
 use Rattle.secret_strip.specs.Strip.{strip}
 use Rattle.secret_strip.proofs.PlayersLemmas.{strip_twice}
 use Rattle.serde_json.specs.Data.{Data, null, boolean, number, string, array, object, Members, no_members, member}
@@ -24,45 +31,11 @@ use Rattle.serde_json.specs.Find.{get_member}
 
 -- ---- reading
 
-sealed_bid_part : IsPart (option_value number_value) (read_option read_count) (own_option is_count)
-sealed_bid_part = option_part number_value read_count is_count count_part (λ n own. refl)
-
-abbrev sealed_members : Sealed → Members
-sealed_members entry = member (codes "bid") (option_value number_value entry.bid) no_members
-
-abbrev sealed_of : Option ℕ → Sealed
-sealed_of bid = record { bid = bid }
-
-abbrev pick_sealed : Data → Option Sealed
-pick_sealed d = apply (Some sealed_of) (read_member (codes "bid") (read_option read_count) d)
-
-abbrev SealedFrom : Members → Sealed → Type 0
-SealedFrom ms entry = IsTrue (own_sealed entry) × (MembersAreCanonical ms → AllByRecursion (λ name. get_member name ms ≡ get_member name (sealed_members entry)) (codes "bid" ∷ []))
-
-sealed_row : IsRow (codes "bid" ∷ []) sealed_members pick_sealed own_sealed
-sealed_row = record {
-  ordered = λ entry. (tt, tt);
-  no_more = λ entry. refl;
-  back = λ entry own. ap (apply (Some sealed_of)) (sealed_bid_part.back entry.bid own);
-  from = λ ms. applied (IsMemberFrom (codes "bid") (option_value number_value) (own_option is_count) ms) (SealedFrom ms) (Some sealed_of) _ (λ bid h. (h.0, λ canonical. (h.1 canonical, tt))) (member_from (codes "bid") (option_value number_value) (read_option read_count) (own_option is_count) sealed_bid_part ms);
-}
-
-sealed_from : (v : Data) → IfSome (read_sealed v) (IsReadFrom sealed_value own_sealed v)
-sealed_from null = tt
-sealed_from (boolean b) = tt
-sealed_from (number n) = tt
-sealed_from (string s) = tt
-sealed_from (array ds) = tt
-sealed_from (object ms) = object_from (codes "bid" ∷ []) sealed_members pick_sealed own_sealed sealed_row ms
-
-sealed_part : IsPart sealed_value read_sealed own_sealed
-sealed_part = record { back = object_back (codes "bid" ∷ []) sealed_members pick_sealed own_sealed sealed_row; from = sealed_from }
+sealed_bid_part : IsPart sealed_bid_value read_sealed_bid own_sealed_bid
+sealed_bid_part = sealed_part (codes "bid") (λ d. refl) (λ d. refl) (λ d. refl) number_value read_count is_count count_part (λ n own. refl)
 
 shown_part : IsPart (option_value (list_value number_value)) (read_option (read_list read_count)) (own_option (list_all is_count))
 shown_part = option_part (list_value number_value) (read_list read_count) (list_all is_count) counts_part (λ bids own. refl)
-
-abbrev bidding_names : List (List ℕ)
-bidding_names = codes "boasts" ∷ codes "revealed" ∷ []
 
 abbrev bidding_members : Bidding → Members
 bidding_members b = member (codes "boasts") (list_value number_value b.boasts) (member (codes "revealed") (option_value (list_value number_value) b.revealed) no_members)
@@ -109,155 +82,109 @@ bidding_from (string s) = tt
 bidding_from (array ds) = tt
 bidding_from (object ms) = object_from bidding_names bidding_members pick_bidding own_bidding bidding_row ms
 
-bidding_part : IsPart bidding_value read_bidding own_bidding
-bidding_part = record { back = object_back bidding_names bidding_members pick_bidding own_bidding bidding_row; from = bidding_from }
+bidding_written : (b : Bidding) → IsTrue (own_bidding b) → IsWritable (bidding_value b)
+bidding_written b own =
+    let parts = and_parts (list_all is_count b.boasts) (own_option (list_all is_count) b.revealed) own in
+    fixed (bidding_members b) refl (counts_part.written b.boasts parts.0, (shown_part.written b.revealed parts.1, tt))
 
-no_secret_part : IsPart no_secret_value read_no_secret own_no_secret
-no_secret_part = record { back = λ s own. absurd (false≢true own); from = λ v. tt }
+bidding_part : IsPart bidding_value read_bidding own_bidding
+bidding_part = record { back = object_back bidding_names bidding_members pick_bidding own_bidding bidding_row; from = bidding_from; written = bidding_written }
 
 bids_part : IsPart bids_value read_bids own_bids
-bids_part = passing_part bids_value _ (own_split own_bidding own_no_secret own_sealed) have_seats
+bids_part = passing_part bids_value (read_split read_bidding read_no_secret read_sealed_bid) (own_split own_bidding own_no_secret own_sealed_bid) have_bidders
     (split_part bidding_value read_bidding own_bidding bidding_part
-    no_secret_value read_no_secret own_no_secret (option_part no_secret_value read_no_secret own_no_secret no_secret_part (λ s own. absurd (false≢true own)))
-    sealed_value read_sealed own_sealed (list_part (option_value sealed_value) (read_option read_sealed) (own_option own_sealed) (option_part sealed_value read_sealed own_sealed sealed_part (λ entry own. refl))))
-
--- what was read is own, and is all of what it was read from
-read_from : (v : Data) (g : Bids) → read_bids v ≡ Some g → IsReadFrom bids_value own_bids v g
-read_from v g is = subst (λ o. IfSome o (IsReadFrom bids_value own_bids v)) is (bids_part.from v)
+    no_secret_value read_no_secret own_no_secret no_secrets_part
+    sealed_bid_value read_sealed_bid own_sealed_bid (list_part (option_value sealed_bid_value) (read_option read_sealed_bid) (own_option own_sealed_bid) (option_part sealed_bid_value read_sealed_bid own_sealed_bid sealed_bid_part (λ entry own. refl))))
 
 -- ---- what is own
 
--- the parts of an own state
-pub record OwnBids (g : Bids) : Type 0 where
-  pub seats : have_seats g ≡ true
-  pub common : own_bidding g.common ≡ true
-  pub secret : own_option own_no_secret g.secret ≡ true
-  pub players : list_all (own_option own_sealed) g.players ≡ true
+abbrev OwnBids : Bids → Type 0
+OwnBids g = OwnSplit have_bidders own_bidding own_no_secret own_sealed_bid g
 
-parts_of : (g : Bids) → IsTrue (own_bids g) → OwnBids g
-parts_of g own =
-    let outer = and_parts (have_seats g) (own_split own_bidding own_no_secret own_sealed g) own in
-    let middle = and_parts (own_bidding g.common && own_option own_no_secret g.secret) (list_all (own_option own_sealed) g.players) outer.1 in
-    let inner = and_parts (own_bidding g.common) (own_option own_no_secret g.secret) middle.0 in
-    record { seats = outer.0; common = inner.0; secret = inner.1; players = middle.1 }
+bid_parts : (g : Bids) → IsTrue (own_bids g) → OwnBids g
+bid_parts g own = parts_of have_bidders own_bidding own_no_secret own_sealed_bid g own
 
-of_parts : (g : Bids) → OwnBids g → IsTrue (own_bids g)
-of_parts g parts =
-    both_true (have_seats g) (own_split own_bidding own_no_secret own_sealed g) parts.seats
-    (both_true (own_bidding g.common && own_option own_no_secret g.secret) (list_all (own_option own_sealed) g.players)
-    (both_true (own_bidding g.common) (own_option own_no_secret g.secret) parts.common parts.secret) parts.players)
+of_bid_parts : (g : Bids) → OwnBids g → IsTrue (own_bids g)
+of_bid_parts g parts = of_parts have_bidders own_bidding own_no_secret own_sealed_bid g parts
 
-sealed_own : (g : Bids) (seat n : ℕ) → IsTrue (own_bids g) → IsTrue (is_count n) → IsTrue (own_bids (record g { players = slice_set g.players seat (Some (record { bid = Some n })) }))
-sealed_own g seat n own count =
-    let parts = parts_of g own in
-    let entry : Option Sealed = Some (record { bid = Some n }) in
-    of_parts (record g { players = slice_set g.players seat entry }) (record {
-      seats = ap (λ players. are_seats players (length g.common.boasts) (option_map (λ bids. length bids) g.common.revealed)) (length-set g.players seat entry) ∙ parts.seats;
-      common = parts.common;
-      secret = parts.secret;
-      players = all_set (own_option own_sealed) g.players seat entry parts.players count;
-    })
+as_many : (g : Bids) (players : List (Option (Sealed ℕ))) → length players ≡ length g.players → have_bidders (record g { players = players }) ≡ have_bidders g
+as_many g players same = ap (λ count. (length g.common.boasts == count) && are_seats 8 count (option_map (λ bids. length bids) g.common.revealed)) same
 
-bid_own : (g : Bids) (seat : ℕ) (args : List ℤ) (words : List ℕ) → IsTrue (own_bids g) → GivesOwn own_bids (bid g seat args words)
+bid_own : (g : Bids) (seat : ℕ) (args : List Arg) (words : List ℕ) → IsTrue (own_bids g) → GivesOwn own_bids (bid g seat args words)
 bid_own g seat [] words own = tt
-bid_own g seat (negsuc n ∷ rest) words own = tt
-bid_own g seat (pos n ∷ next ∷ rest) words own = tt
-bid_own g seat (pos n ∷ []) words own =
-    move_own own_bids (nat_le 1 n && nat_le n 100 && may_bid (slice_get g.players seat)) _ words
-    (λ made. let bounds = and_parts (nat_le 1 n && nat_le n 100) (may_bid (slice_get g.players seat)) made in sealed_own g seat n own (small_is_count n 100 (lit≤ tt) (and_parts (nat_le 1 n) (nat_le n 100) bounds.0).1))
+bid_own g seat (Text t ∷ rest) words own = tt
+bid_own g seat (Whole (negsuc n) ∷ rest) words own = tt
+bid_own g seat (Whole (pos n) ∷ next ∷ rest) words own = tt
+bid_own g seat (Whole (pos n) ∷ []) words own =
+    seal_own have_bidders own_bidding is_count as_many (is_bid n) g seat n words own
+    (λ allowed. small_is_count n 100 (lit≤ tt) (and_parts (nat_le 1 n) (nat_le n 100) allowed).1)
 
 boasted_own : (g : Bids) (seat n : ℕ) → IsTrue (own_bids g) → IsTrue (is_count n) → IsTrue (own_bids (record g { common = record g.common { boasts = slice_set g.common.boasts seat n } }))
 boasted_own g seat n own count =
-    let parts = parts_of g own in
-    let common = and_parts (list_all is_count g.common.boasts) (own_option (list_all is_count) g.common.revealed) parts.common in
-    of_parts (record g { common = record g.common { boasts = slice_set g.common.boasts seat n } }) (record {
-      seats = ap (λ boasts. are_seats (length g.players) boasts (option_map (λ bids. length bids) g.common.revealed)) (length-set g.common.boasts seat n) ∙ parts.seats;
-      common = both_true (list_all is_count (slice_set g.common.boasts seat n)) (own_option (list_all is_count) g.common.revealed) (all_set is_count g.common.boasts seat n common.0 count) common.1;
-      secret = parts.secret;
-      players = parts.players;
+    let parts = bid_parts g own in
+    let common = and_parts (list_all is_count g.common.boasts) (own_option (list_all is_count) g.common.revealed) parts.own_common in
+    of_bid_parts (record g { common = record g.common { boasts = slice_set g.common.boasts seat n } }) (record {
+      seats = ap (λ boasts. (boasts == length g.players) && are_seats 8 (length g.players) (option_map (λ bids. length bids) g.common.revealed)) (length-set g.common.boasts seat n) ∙ parts.seats;
+      own_common = both_true (list_all is_count (slice_set g.common.boasts seat n)) (own_option (list_all is_count) g.common.revealed) (all_set is_count g.common.boasts seat n common.0 count) common.1;
+      own_secret = parts.own_secret;
+      own_players = parts.own_players;
     })
 
-boast_own : (g : Bids) (seat : ℕ) (args : List ℤ) (words : List ℕ) → IsTrue (own_bids g) → GivesOwn own_bids (boast g seat args words)
+boast_own : (g : Bids) (seat : ℕ) (args : List Arg) (words : List ℕ) → IsTrue (own_bids g) → GivesOwn own_bids (boast g seat args words)
 boast_own g seat [] words own = tt
-boast_own g seat (negsuc n ∷ rest) words own = tt
-boast_own g seat (pos n ∷ next ∷ rest) words own = tt
-boast_own g seat (pos n ∷ []) words own =
+boast_own g seat (Text t ∷ rest) words own = tt
+boast_own g seat (Whole (negsuc n) ∷ rest) words own = tt
+boast_own g seat (Whole (pos n) ∷ next ∷ rest) words own = tt
+boast_own g seat (Whole (pos n) ∷ []) words own =
     move_own own_bids (nat_le n 9 && nat_lt seat (length g.common.boasts)) _ words
     (λ made. boasted_own g seat n own (small_is_count n 9 (lit≤ tt) (and_parts (nat_le n 9) (nat_lt seat (length g.common.boasts)) made).0))
 
-either_deed : (test : Bool) (one other : Deed Bids Barred) → GivesOwn own_bids one → GivesOwn own_bids other → GivesOwn own_bids (if test then one else other)
-either_deed true one other p q = p
-either_deed false one other p q = q
-
-bid_move_own : (g : Bids) (seat id : ℕ) (args : List ℤ) (words : List ℕ) → IsTrue (own_bids g) → GivesOwn own_bids (bid_move g seat id args words)
+bid_move_own : (g : Bids) (seat id : ℕ) (args : List Arg) (words : List ℕ) → IsTrue (own_bids g) → GivesOwn own_bids (bid_move g seat id args words)
 bid_move_own g seat id args words own =
-    either_deed (nat_lt seat 8) (if nat_eq id 0 then bid g seat args words else boast g seat args words) (GaveUp Invalid)
-    (either_deed (nat_eq id 0) (bid g seat args words) (boast g seat args words) (bid_own g seat args words own) (boast_own g seat args words own)) tt
+    either_gives own_bids (nat_lt seat 8) (if nat_eq id 0 then bid g seat args words else boast g seat args words) (GaveUp Invalid)
+    (either_gives own_bids (nat_eq id 0) (bid g seat args words) (boast g seat args words) (bid_own g seat args words own) (boast_own g seat args words own)) tt
 
-amount_own : (bid : Option ℕ) → IsTrue (own_option is_count bid) → IsTrue (is_count (unwrap_or bid 0))
-amount_own None own = refl
-amount_own (Some n) own = own
-
-entry_own : (entry : Option Sealed) → IsTrue (own_option own_sealed entry) → IsTrue (is_count (amount entry))
-entry_own None own = refl
-entry_own (Some sealed) own = amount_own sealed.bid own
-
-amounts_own : (players : List (Option Sealed)) → IsTrue (list_all (own_option own_sealed) players) → IsTrue (list_all is_count (map amount players))
-amounts_own [] own = refl
-amounts_own (entry ∷ players) own =
-    let parts = and_parts (own_option own_sealed entry) (list_all (own_option own_sealed) players) own in
-    both_true (is_count (amount entry)) (list_all is_count (map amount players)) (entry_own entry parts.0) (amounts_own players parts.1)
-
--- the seats that have boasts need no more than a shown bid each
-shown_seats : (players boasts : ℕ) (revealed : Option ℕ) (bids : ℕ) → bids ≡ players → are_seats players boasts revealed ≡ true → are_seats players boasts (Some bids) ≡ true
-shown_seats players boasts revealed bids same seats =
-    let parts = and_parts (nat_le 1 players && nat_le players 8 && (boasts == players)) (unwrap_or revealed players == players) seats in
-    both_true (nat_le 1 players && nat_le players 8 && (boasts == players)) (bids == players) parts.0 (eq-eqb bids players same)
-
-shown_own : (g : Bids) → IsTrue (own_bids g) → IsTrue (own_bids (record g { common = record g.common { revealed = Some (map amount g.players) } }))
-shown_own g own =
-    let parts = parts_of g own in
-    let common = and_parts (list_all is_count g.common.boasts) (own_option (list_all is_count) g.common.revealed) parts.common in
-    of_parts (record g { common = record g.common { revealed = Some (map amount g.players) } }) (record {
-      seats = shown_seats (length g.players) (length g.common.boasts) (option_map (λ bids. length bids) g.common.revealed) (length (map amount g.players)) (length-map g.players amount) parts.seats;
-      common = both_true (list_all is_count g.common.boasts) (list_all is_count (map amount g.players)) common.0 (amounts_own g.players parts.players);
-      secret = parts.secret;
-      players = parts.players;
+with_bids_own : (g : Bids) (bids : Option (List ℕ)) → IsTrue (own_bids g) → IfSome bids (λ items. (list_all is_count items ≡ true) × (length items ≡ length g.players)) → IsTrue (own_bids (with_bids g bids))
+with_bids_own g None own shown = own
+with_bids_own g (Some bids) own shown =
+    let parts = bid_parts g own in
+    let seats = and_parts (length g.common.boasts == length g.players) (are_seats 8 (length g.players) (option_map (λ items. length items) g.common.revealed)) parts.seats in
+    let common = and_parts (list_all is_count g.common.boasts) (own_option (list_all is_count) g.common.revealed) parts.own_common in
+    of_bid_parts (with_bids g (Some bids)) (record {
+      seats = both_true (length g.common.boasts == length g.players) (are_seats 8 (length g.players) (Some (length bids))) seats.0 (seats_shown 8 (length g.players) (option_map (λ items. length items) g.common.revealed) (length bids) shown.1 seats.1);
+      own_common = both_true (list_all is_count g.common.boasts) (list_all is_count bids) common.0 shown.0;
+      own_secret = parts.own_secret;
+      own_players = parts.own_players;
     })
 
 revealed_own : (g : Bids) → IsTrue (own_bids g) → IsTrue (own_bids (revealed g))
-revealed_own g own = either_own own_bids (all_bid g.players) _ g (λ all. shown_own g own) own
-
-first_seats : (seats : ℕ) → 2 ≤ seats → seats ≤ 8 → are_seats seats seats None ≡ true
-first_seats seats least most =
-    both_true (nat_le 1 seats && nat_le seats 8 && (seats == seats)) (seats == seats)
-    (both_true (nat_le 1 seats && nat_le seats 8) (seats == seats) (both_true (nat_le 1 seats) (nat_le seats 8) (le-leb 1 seats (le_trans {n = 1} {m = 2} {k = seats} (lit≤ tt) least)) (le-leb seats 8 most)) (eq-eqb seats seats refl))
-    (eq-eqb seats seats refl)
+revealed_own g own = with_bids_own g (shown_items g.players) own (shown_own is_count g.players (bid_parts g own).own_players)
 
 no_bids_own : (seats : ℕ) → 2 ≤ seats → seats ≤ 8 → IsTrue (own_bids (no_bids seats))
 no_bids_own seats least most =
-    let entry : Option Sealed = Some (record { bid = None }) in
-    of_parts (no_bids seats) (record {
-      seats = ap (λ players. are_seats players (length {A = ℕ} (replicate seats 0)) None) (length-replicate seats entry) ∙ ap (λ boasts. are_seats seats boasts None) (length-replicate {A = ℕ} seats 0) ∙ first_seats seats least most;
-      common = both_true (list_all is_count (replicate seats 0)) true (all_copies is_count seats 0 refl) refl;
-      secret = refl;
-      players = all_copies (own_option own_sealed) seats entry refl;
-    })
-
-seen_own : (g : Bids) (viewer : Option ℕ) → IsTrue (own_bids g) → IsTrue (own_bids (strip g viewer))
-seen_own g viewer own =
-    let parts = parts_of g own in
-    of_parts (strip g viewer) (record {
-      seats = ap (λ players. are_seats players (length g.common.boasts) (option_map (λ bids. length bids) g.common.revealed)) (count_seen viewer g.players) ∙ parts.seats;
-      common = parts.common;
-      secret = refl;
-      players = all_seen own_sealed viewer g.players parts.players;
+    let nothing : ℕ = 0 in
+    of_bid_parts (no_bids seats) (record {
+      seats = ap (λ players. (length (replicate seats nothing) == players) && are_seats 8 players None) (count_unsealed ℕ seats)
+          ∙ both_true (length (replicate seats nothing) == seats) (are_seats 8 seats None) (eq-eqb (length (replicate seats nothing)) seats (length-replicate seats nothing)) (first_seats 8 seats least most);
+      own_common = both_true (list_all is_count (replicate seats 0)) true (all_copies is_count seats 0 refl) refl;
+      own_secret = refl;
+      own_players = unsealed_own is_count seats;
     })
 
 -- ---- the laws
 
+bid_offers_known : (g : Bids) (seat : ℕ) → AllByRecursion (λ (offer : ℕ × List Arg). offer.0 < 2) (bid_offers g seat)
+bid_offers_known g seat =
+    all_if (λ (offer : ℕ × List Arg). offer.0 < 2) (may_seal (slice_get g.players seat)) (offers 0 offered_bids ++ offers 1 offered_boasts)
+    (all_joined (λ (offer : ℕ × List Arg). offer.0 < 2) (offers 0 offered_bids) (offers 1 offered_boasts) (offers_known 2 0 offered_bids (lit< tt)) (offers_known 2 1 offered_boasts (lit< tt)))
+
+bid_sheet_fits : broken bid_sheet ≡ 0
+unfolding broken
+bid_sheet_fits = refl
+
 pub blind_bid_lawful : Lawful blind_bid
 blind_bid_lawful = record {
+  fits = fits bid_sheet bid_sheet_fits;
   setup = λ seats words least most. no_bids_own seats least most;
   play = λ g ctx seat id args words own. bid_move_own g seat id args words own;
   on_move = λ g ctx seat words own. own;
@@ -266,13 +193,44 @@ blind_bid_lawful = record {
   phase_begin = λ g ctx phase words own. own;
   phase_end = λ g ctx phase words own. own;
   game_end = λ g ctx words own. revealed_own g own;
-  view = λ g ctx viewer own. seen_own g viewer own;
+  ends = λ g ctx outcome own is. greatest_ends (have_all g.players) _ g.players outcome is;
+  view = λ g ctx viewer own. view_own have_bidders own_bidding own_no_secret own_sealed_bid g viewer (as_many g (strip g viewer).players (count_seen viewer g.players)) own;
   view_again = λ g ctx viewer own. strip_twice g viewer;
   written_object = λ g own. refl;
-  written_float_free = λ g own. bids_float_free g;
+  written = λ g own. bids_part.written g own;
   reads_back = λ g own. bids_part.back g own;
-  read_own = λ v g is. (read_from v g is).0;
-  read_only = λ v g canonical is. (read_from v g is).1 canonical;
-  offers_known = λ g ctx seat. offered_known (λ offer. offer.0 < 2) ctx seat (bid_offers g seat) (all_if (λ (offer : ℕ × List ℤ). offer.0 < 2) (may_bid (slice_get g.players seat)) (offers 0 offered_bids ++ offers 1 offered_boasts) (all_joined (λ (offer : ℕ × List ℤ). offer.0 < 2) (offers 0 offered_bids) (offers 1 offered_boasts) (offers_known 2 0 offered_bids (lit< tt)) (offers_known 2 1 offered_boasts (lit< tt))));
+  read_own = λ v g is. (read_from bids_value read_bids own_bids bids_part v g is).0;
+  read_only = λ v g canonical is. (read_from bids_value read_bids own_bids bids_part v g is).1 canonical;
+  offers_known = λ g ctx seat. offered_known (λ offer. offer.0 < 2) ctx seat (bid_offers g seat) (bid_offers_known g seat);
   offers_none = λ g ctx seat none. offered_none ctx seat (bid_offers g seat) none;
+}
+
+-- ---- it queues nothing
+
+bid_keeps : (g : Bids) (seat : ℕ) (args : List Arg) (words : List ℕ) → QueuesInSheet bid_sheet (bid g seat args words)
+bid_keeps g seat [] words = tt
+bid_keeps g seat (Text t ∷ rest) words = tt
+bid_keeps g seat (Whole (negsuc n) ∷ rest) words = tt
+bid_keeps g seat (Whole (pos n) ∷ next ∷ rest) words = tt
+bid_keeps g seat (Whole (pos n) ∷ []) words = seal_keeps bid_sheet (is_bid n) g seat n words
+
+boast_keeps : (g : Bids) (seat : ℕ) (args : List Arg) (words : List ℕ) → QueuesInSheet bid_sheet (boast g seat args words)
+boast_keeps g seat [] words = tt
+boast_keeps g seat (Text t ∷ rest) words = tt
+boast_keeps g seat (Whole (negsuc n) ∷ rest) words = tt
+boast_keeps g seat (Whole (pos n) ∷ next ∷ rest) words = tt
+boast_keeps g seat (Whole (pos n) ∷ []) words = either_keeps bid_sheet (nat_le n 9 && nat_lt seat (length g.common.boasts)) _ _ tt tt
+
+bids_keep : (g : Bids) (seat id : ℕ) (args : List Arg) (words : List ℕ) → QueuesInSheet bid_sheet (bid_move g seat id args words)
+bids_keep g seat id args words = either_keeps bid_sheet (nat_lt seat 8) (if nat_eq id 0 then bid g seat args words else boast g seat args words) _ (either_keeps bid_sheet (nat_eq id 0) _ _ (bid_keeps g seat args words) (boast_keeps g seat args words)) tt
+
+pub blind_bid_in_sheet : KeepsToSheet blind_bid
+blind_bid_in_sheet = record {
+  play = λ g ctx seat id args words known. bids_keep g seat id args words;
+  on_move = λ g ctx seat words. tt;
+  turn_begin = λ g ctx words. tt;
+  turn_end = λ g ctx words. tt;
+  phase_begin = λ g ctx phase words. tt;
+  phase_end = λ g ctx phase words. tt;
+  game_end = λ g ctx words. tt;
 }

@@ -1,28 +1,35 @@
 -- High Hand keeps the laws of games.
-use Rattle.std.specs.Prelude.{◌≡◌, ℕ, ℤ, zero, suc, pos, negsuc, ◌+◌, ◌-◌, ◌^◌, ◌==◌, ◌<◌, ◌≤◌, ◌&&◌, nat_eq, nat_le, nat_lt, Bool, true, false, if◌then◌else◌, IsTrue, IfSome, List, [], ◌∷◌, ◌++◌, length, remove, replicate, slice_get, slice_index, slice_index_or, slice_set, swap, codes, Option, Some, None, refl}
+use Rattle.std.specs.Prelude.{◌≡◌, ℕ, zero, suc, pos, negsuc, ◌+◌, ◌-◌, ◌^◌, ◌==◌, ◌<◌, ◌≤◌, ◌&&◌, nat_eq, nat_le, nat_lt, Bool, true, false, if◌then◌else◌, IsTrue, IfSome, List, [], ◌∷◌, ◌++◌, length, remove, replicate, slice_get, slice_index, slice_index_or, slice_set, swap, codes, Option, Some, None, refl}
 use Rattle.std.specs.List.{AllByRecursion, list_all}
-use Rattle.std.proofs.Common.{◌∙◌, ap, subst, eq-eqb, lit<, lit≤}
+use Rattle.std.proofs.Common.{◌∙◌, ap, eq-eqb, lit<, lit≤}
 use Rattle.std.proofs.Math.Nat.{le_trans, min-le_right}
 use Rattle.std.proofs.lemmas.Bool.{and_parts, le-leb}
 use Rattle.std.proofs.lemmas.List.{length-replicate, length-set}
 use Rattle.std.proofs.lemmas.List.Edits.{length-swap}
 use Rattle.std.proofs.lemmas.List.Folds.{list_all-append}
-use Rattle.card_games.specs.FloatFree.{cards_float_free}
 use Rattle.card_games.specs.Greatest.{first_greatest}
-use Rattle.card_games.specs.HighHand.{Cards, after_turn, are_places, before_draws, card_move, card_offers, cards_value, deck_in, deck_value, draw, draw_to, hand_in, hand_of, hand_value, have_places, height, high_hand, is_free, is_full, laid, lay, lay_card, lay_from, lay_offers, lays, one_more, opened, own_deck, own_hand, own_state, own_table, point_at, read_card, read_cards, read_deck, read_hand, read_state, read_table, scored, set_up, table_names, table_of, table_value, with_deck, with_hand}
-use Rattle.card_games.specs.Json.{apply, is_count, list_value, number_value, option_value, own_option, own_split, read_count, read_list, read_member, read_option}
-use Rattle.card_games.specs.OwnLaws.{all_copies, all_if, all_joined, all_seen, all_set, count_seen, either_own, move_own}
+use Rattle.card_games.specs.HighHand.{Cards, after_turn, are_places, before_draws, card_move, card_offers, cards_value, deck_in, deck_value, draw, draw_to, hand_in, hand_of, hand_value, have_places, height, high_hand, high_hand_sheet, is_free, is_full, is_played, laid, lay, lay_card, lay_from, lay_offers, lays, one_more, opened, own_deck, own_hand, own_state, own_table, point_at, read_card, read_cards, read_deck, read_hand, read_state, read_table, scored, set_up, table_names, table_of, table_value, with_deck, with_hand}
+use Rattle.card_games.specs.Json.{apply, is_count, list_value, lone_value, number_value, option_value, own_option, own_split, read_count, read_list, read_lone, read_member, read_option}
+use Rattle.card_games.specs.OwnLaws.{OwnSplit, all_copies, all_if, all_joined, all_set, count_seen, either_gives, either_keeps, either_own, move_own, of_parts, parts_of, view_own}
 use Rattle.card_games.specs.Pack.{are_cards, are_few, is_card, pack}
-use Rattle.card_games.specs.PartLaws.{IsMemberFrom, IsPart, IsReadFrom, IsRow, applied, both_true, count_part, counts_part, list_part, member_from, number_part, object_back, object_from, option_part, passing_part, small_is_count, split_part}
+use Rattle.card_games.specs.PartLaws.{IsMemberFrom, IsPart, IsReadFrom, IsRow, applied, both_true, count_part, counts_part, list_part, lone_part, member_from, number_part, object_back, object_from, option_part, passing_part, read_from, small_is_count, split_part, wrapped_part}
+use Rattle.card_games.specs.SealedLaws.{greatest_ends}
 use Rattle.card_games.specs.declared.cards.CardTable.{CardTable}
 use Rattle.card_games.specs.declared.cards.Deck.{Deck}
 use Rattle.card_games.specs.declared.cards.Hand.{Hand}
 use Rattle.card_games.specs.declared.dealt.Dealt.{Dealt}
 use Rattle.dice_words.specs.Dice.{die, shuffled, shuffled_from}
-use Rattle.game_trait.specs.Deed.{Barred, Deed, GaveUp, Invalid}
+use Rattle.game_sheet.proofs.Fits.{fits}
+use Rattle.game_sheet.specs.SheetRules.{broken}
+use Rattle.game_sheet.specs.declared.args.Arg.{Arg}
+use Rattle.game_sheet.specs.declared.args.Arg.TheVariants.{Whole, Text}
+use Rattle.game_trait.specs.Deed.{GaveUp, Invalid}
 use Rattle.game_trait.specs.Lawful.{GivesOwn, Lawful}
+use Rattle.game_trait.specs.Queues.{KeepsToSheet, QueuesInSheet}
 use Rattle.game_trait.specs.Offers.{offered_known, offered_none}
+use Rattle.json_tree.proofs.WritableRows.{fixed}
 use Rattle.json_tree.specs.Canonical.{MembersAreCanonical}
+use Rattle.json_tree.specs.Writable.{IsWritable}
 use Rattle.secret_strip.specs.Strip.{strip}
 use Rattle.secret_strip.proofs.PlayersLemmas.{strip_twice}
 use Rattle.serde_json.specs.Data.{Data, null, boolean, number, string, array, object, Members, no_members, member}
@@ -31,7 +38,7 @@ use Rattle.serde_json.specs.Find.{get_member}
 -- ---- reading
 
 card_part : IsPart number_value read_card is_card
-card_part = number_part 51
+card_part = number_part 51 (lit< tt)
 
 places_part : IsPart (list_value (option_value number_value)) (read_list (read_option read_card)) (list_all (own_option is_card))
 places_part = list_part (option_value number_value) (read_option read_card) (own_option is_card) (option_part number_value read_card is_card card_part (λ card own. refl))
@@ -39,67 +46,19 @@ places_part = list_part (option_value number_value) (read_option read_card) (own
 pile_part : IsPart (list_value number_value) read_cards are_cards
 pile_part = passing_part (list_value number_value) (read_list read_card) (list_all is_card) are_few (list_part number_value read_card is_card card_part)
 
-abbrev hand_members : Hand → Members
-hand_members h = member (codes "hand") (list_value number_value h.cards) no_members
-
 abbrev hand_with : List ℕ → Hand
 hand_with cards = record { cards = cards }
 
-abbrev pick_hand : Data → Option Hand
-pick_hand d = apply (Some hand_with) (read_member (codes "hand") read_cards d)
-
-abbrev HandFrom : Members → Hand → Type 0
-HandFrom ms h = IsTrue (own_hand h) × (MembersAreCanonical ms → AllByRecursion (λ name. get_member name ms ≡ get_member name (hand_members h)) (codes "hand" ∷ []))
-
-hand_row : IsRow (codes "hand" ∷ []) hand_members pick_hand own_hand
-hand_row = record {
-  ordered = λ h. (tt, tt);
-  no_more = λ h. refl;
-  back = λ h own. ap (apply (Some hand_with)) (pile_part.back h.cards own);
-  from = λ ms. applied (IsMemberFrom (codes "hand") (list_value number_value) are_cards ms) (HandFrom ms) (Some hand_with) _ (λ cards h. (h.0, λ canonical. (h.1 canonical, tt))) (member_from (codes "hand") (list_value number_value) read_cards are_cards pile_part ms);
-}
-
-hand_from : (v : Data) → IfSome (read_hand v) (IsReadFrom hand_value own_hand v)
-hand_from null = tt
-hand_from (boolean b) = tt
-hand_from (number n) = tt
-hand_from (string s) = tt
-hand_from (array ds) = tt
-hand_from (object ms) = object_from (codes "hand" ∷ []) hand_members pick_hand own_hand hand_row ms
-
 hand_part : IsPart hand_value read_hand own_hand
-hand_part = record { back = object_back (codes "hand" ∷ []) hand_members pick_hand own_hand hand_row; from = hand_from }
-
-abbrev deck_members : Deck → Members
-deck_members d = member (codes "deck") (list_value number_value d.cards) no_members
+hand_part = wrapped_part (lone_value (codes "hand") (list_value number_value)) (read_lone (codes "hand") read_cards) are_cards hand_with (λ h. h.cards) (λ h. refl) (λ cards. refl)
+    (lone_part (codes "hand") (λ d. refl) (λ d. refl) (λ d. refl) (list_value number_value) read_cards are_cards pile_part)
 
 abbrev deck_with : List ℕ → Deck
 deck_with cards = record { cards = cards }
 
-abbrev pick_deck : Data → Option Deck
-pick_deck d = apply (Some deck_with) (read_member (codes "deck") read_cards d)
-
-abbrev DeckFrom : Members → Deck → Type 0
-DeckFrom ms d = IsTrue (own_deck d) × (MembersAreCanonical ms → AllByRecursion (λ name. get_member name ms ≡ get_member name (deck_members d)) (codes "deck" ∷ []))
-
-deck_row : IsRow (codes "deck" ∷ []) deck_members pick_deck own_deck
-deck_row = record {
-  ordered = λ d. (tt, tt);
-  no_more = λ d. refl;
-  back = λ d own. ap (apply (Some deck_with)) (pile_part.back d.cards own);
-  from = λ ms. applied (IsMemberFrom (codes "deck") (list_value number_value) are_cards ms) (DeckFrom ms) (Some deck_with) _ (λ cards h. (h.0, λ canonical. (h.1 canonical, tt))) (member_from (codes "deck") (list_value number_value) read_cards are_cards pile_part ms);
-}
-
-deck_from : (v : Data) → IfSome (read_deck v) (IsReadFrom deck_value own_deck v)
-deck_from null = tt
-deck_from (boolean b) = tt
-deck_from (number n) = tt
-deck_from (string s) = tt
-deck_from (array ds) = tt
-deck_from (object ms) = object_from (codes "deck" ∷ []) deck_members pick_deck own_deck deck_row ms
-
 deck_part : IsPart deck_value read_deck own_deck
-deck_part = record { back = object_back (codes "deck" ∷ []) deck_members pick_deck own_deck deck_row; from = deck_from }
+deck_part = wrapped_part (lone_value (codes "deck") (list_value number_value)) (read_lone (codes "deck") read_cards) are_cards deck_with (λ d. d.cards) (λ d. refl) (λ cards. refl)
+    (lone_part (codes "deck") (λ d. refl) (λ d. refl) (λ d. refl) (list_value number_value) read_cards are_cards pile_part)
 
 abbrev table_members : CardTable → Members
 table_members t = member (codes "hands") (list_value number_value t.hands) (member (codes "left") (number_value t.left) (member (codes "scores") (list_value number_value t.scores) (member (codes "table") (list_value (option_value number_value) t.places) no_members)))
@@ -180,8 +139,13 @@ table_from (string s) = tt
 table_from (array ds) = tt
 table_from (object ms) = object_from table_names table_members pick_table own_table table_row ms
 
+table_written : (t : CardTable) → IsTrue (own_table t) → IsWritable (table_value t)
+table_written t own =
+    let parts = table_parts t own in
+    fixed (table_members t) refl (counts_part.written t.hands parts.hands, (count_part.written t.left parts.left, (counts_part.written t.scores parts.scores, (places_part.written t.places parts.places, tt))))
+
 table_part : IsPart table_value read_table own_table
-table_part = record { back = object_back table_names table_members pick_table own_table table_row; from = table_from }
+table_part = record { back = object_back table_names table_members pick_table own_table table_row; from = table_from; written = table_written }
 
 state_part : IsPart cards_value read_state own_state
 state_part = passing_part cards_value _ (own_split own_table own_deck own_hand) have_places
@@ -189,30 +153,16 @@ state_part = passing_part cards_value _ (own_split own_table own_deck own_hand) 
     deck_value read_deck own_deck (option_part deck_value read_deck own_deck deck_part (λ deck own. refl))
     hand_value read_hand own_hand (list_part (option_value hand_value) (read_option read_hand) (own_option own_hand) (option_part hand_value read_hand own_hand hand_part (λ hand own. refl))))
 
-read_from : (v : Data) (g : Cards) → read_state v ≡ Some g → IsReadFrom cards_value own_state v g
-read_from v g is = subst (λ o. IfSome o (IsReadFrom cards_value own_state v)) is (state_part.from v)
-
 -- ---- what is own
 
--- the parts of an own state
-pub record OwnCards (g : Cards) : Type 0 where
-  pub seats : have_places g ≡ true
-  pub table : OwnTable g.common
-  pub secret : own_option own_deck g.secret ≡ true
-  pub players : list_all (own_option own_hand) g.players ≡ true
+abbrev OwnCards : Cards → Type 0
+OwnCards g = OwnSplit have_places own_table own_deck own_hand g
 
-parts_of : (g : Cards) → IsTrue (own_state g) → OwnCards g
-parts_of g own =
-    let outer = and_parts (have_places g) (own_split own_table own_deck own_hand g) own in
-    let middle = and_parts (own_table g.common && own_option own_deck g.secret) (list_all (own_option own_hand) g.players) outer.1 in
-    let inner = and_parts (own_table g.common) (own_option own_deck g.secret) middle.0 in
-    record { seats = outer.0; table = table_parts g.common inner.0; secret = inner.1; players = middle.1 }
+card_parts : (g : Cards) → IsTrue (own_state g) → OwnCards g
+card_parts g own = parts_of have_places own_table own_deck own_hand g own
 
-of_parts : (g : Cards) → OwnCards g → IsTrue (own_state g)
-of_parts g parts =
-    both_true (have_places g) (own_split own_table own_deck own_hand g) parts.seats
-    (both_true (own_table g.common && own_option own_deck g.secret) (list_all (own_option own_hand) g.players)
-    (both_true (own_table g.common) (own_option own_deck g.secret) (of_table_parts g.common parts.table) parts.secret) parts.players)
+of_card_parts : (g : Cards) → OwnCards g → IsTrue (own_state g)
+of_card_parts g parts = of_parts have_places own_table own_deck own_hand g parts
 
 -- a count of a few cards is one of 32 bits
 few_counted : (cards : List ℕ) → are_few cards ≡ true → IsTrue (is_count (length cards))
@@ -221,21 +171,24 @@ few_counted cards few = small_is_count (length cards) 52 (lit≤ tt) few
 with_hand_own : (g : Cards) (seat : ℕ) (hand : List ℕ) → OwnCards g → are_few hand ≡ true → list_all is_card hand ≡ true → OwnCards (with_hand g seat hand)
 with_hand_own g seat hand own few cards =
     let entry : Option Hand = Some (record { cards = hand }) in
+    let table = table_parts g.common own.own_common in
     record {
       seats = ap (λ players. are_places players (length (slice_set g.common.hands seat (length hand))) (length g.common.scores) (length g.common.places)) (length-set g.players seat entry)
           ∙ ap (λ hands. are_places (length g.players) hands (length g.common.scores) (length g.common.places)) (length-set g.common.hands seat (length hand)) ∙ own.seats;
-      table = record { hands = all_set is_count g.common.hands seat (length hand) own.table.hands (few_counted hand few); left = own.table.left; scores = own.table.scores; places = own.table.places };
-      secret = own.secret;
-      players = all_set (own_option own_hand) g.players seat entry own.players (both_true (are_few hand) (list_all is_card hand) few cards);
+      own_common = of_table_parts (with_hand g seat hand).common (record { hands = all_set is_count g.common.hands seat (length hand) table.hands (few_counted hand few); left = table.left; scores = table.scores; places = table.places });
+      own_secret = own.own_secret;
+      own_players = all_set (own_option own_hand) g.players seat entry own.own_players (both_true (are_few hand) (list_all is_card hand) few cards);
     }
 
 with_deck_own : (g : Cards) (deck : List ℕ) → OwnCards g → are_few deck ≡ true → list_all is_card deck ≡ true → OwnCards (with_deck g deck)
-with_deck_own g deck own few cards = record {
-  seats = own.seats;
-  table = record { hands = own.table.hands; left = few_counted deck few; scores = own.table.scores; places = own.table.places };
-  secret = both_true (are_few deck) (list_all is_card deck) few cards;
-  players = own.players;
-}
+with_deck_own g deck own few cards =
+    let table = table_parts g.common own.own_common in
+    record {
+      seats = own.seats;
+      own_common = of_table_parts (with_deck g deck).common (record { hands = table.hands; left = few_counted deck few; scores = table.scores; places = table.places });
+      own_secret = both_true (are_few deck) (list_all is_card deck) few cards;
+      own_players = own.own_players;
+    }
 
 all_get : {A : Type 0} (p : A → Bool) (xs : List A) (i : ℕ) → list_all p xs ≡ true → own_option p (slice_get xs i) ≡ true
 all_get p [] i all = refl
@@ -248,7 +201,7 @@ hand_in_own (Some None) own = refl
 hand_in_own (Some (Some hand)) own = own
 
 hand_own : (g : Cards) (seat : ℕ) → OwnCards g → own_option are_cards (hand_of g seat) ≡ true
-hand_own g seat own = hand_in_own (slice_get g.players seat) (all_get (own_option own_hand) g.players seat own.players)
+hand_own g seat own = hand_in_own (slice_get g.players seat) (all_get (own_option own_hand) g.players seat own.own_players)
 
 deck_in_own : (secret : Option Deck) → own_option own_deck secret ≡ true → are_cards (deck_in secret) ≡ true
 deck_in_own None own = refl
@@ -266,11 +219,11 @@ draw_to_own g seat (Some hand) (card ∷ deck) words own own_h own_d =
     let cards = and_parts (is_card card) (list_all is_card deck) in_deck.1 in
     move_own own_state (are_few (hand ++ card ∷ []) && are_few deck) _ words
     (λ made. let few = and_parts (are_few (hand ++ card ∷ [])) (are_few deck) made in
-    of_parts (with_deck (with_hand g seat (hand ++ card ∷ [])) deck) (with_deck_own (with_hand g seat (hand ++ card ∷ [])) deck (with_hand_own g seat (hand ++ card ∷ []) own few.0 (joined_cards hand card in_hand.1 cards.0)) few.1 cards.1))
+    of_card_parts (with_deck (with_hand g seat (hand ++ card ∷ [])) deck) (with_deck_own (with_hand g seat (hand ++ card ∷ [])) deck (with_hand_own g seat (hand ++ card ∷ []) own few.0 (joined_cards hand card in_hand.1 cards.0)) few.1 cards.1))
 
-draw_own : (g : Cards) (seat : ℕ) (args : List ℤ) (words : List ℕ) → OwnCards g → GivesOwn own_state (draw g seat args words)
+draw_own : (g : Cards) (seat : ℕ) (args : List Arg) (words : List ℕ) → OwnCards g → GivesOwn own_state (draw g seat args words)
 draw_own g seat (next ∷ rest) words own = tt
-draw_own g seat [] words own = draw_to_own g seat (hand_of g seat) (deck_in g.secret) words own (hand_own g seat own) (deck_in_own g.secret own.secret)
+draw_own g seat [] words own = draw_to_own g seat (hand_of g seat) (deck_in g.secret) words own (hand_own g seat own) (deck_in_own g.secret own.own_secret)
 
 all_removed : {A : Type 0} (p : A → Bool) (xs : List A) (i : ℕ) → list_all p xs ≡ true → list_all p (remove xs i) ≡ true
 all_removed p [] zero all = refl
@@ -282,18 +235,19 @@ laid_own : (g : Cards) (seat card : ℕ) (hand : List ℕ) → OwnCards g → is
 laid_own g seat card hand own here few cards =
     let place : Option ℕ = Some card in
     let after = with_hand_own g seat hand own few cards in
+    let table = table_parts (with_hand g seat hand).common after.own_common in
     record {
       seats = ap (λ places. are_places (length (slice_set g.players seat (Some (record { cards = hand })))) (length (slice_set g.common.hands seat (length hand))) (length g.common.scores) places) (length-set g.common.places seat place) ∙ after.seats;
-      table = record { hands = after.table.hands; left = after.table.left; scores = after.table.scores; places = all_set (own_option is_card) g.common.places seat place own.table.places here };
-      secret = after.secret;
-      players = after.players;
+      own_common = of_table_parts (laid g seat card hand).common (record { hands = table.hands; left = table.left; scores = table.scores; places = all_set (own_option is_card) g.common.places seat place table.places here });
+      own_secret = after.own_secret;
+      own_players = after.own_players;
     }
 
 lay_card_own : (g : Cards) (seat place : ℕ) (hand : List ℕ) (card : Option ℕ) (words : List ℕ) → OwnCards g → own_option is_card card ≡ true → list_all is_card hand ≡ true → GivesOwn own_state (lay_card g seat place hand card words)
 lay_card_own g seat place hand None words own here cards = tt
 lay_card_own g seat place hand (Some card) words own here cards =
     move_own own_state (are_few (remove hand place) && is_free (slice_get g.common.places seat)) _ words
-    (λ made. of_parts (laid g seat card (remove hand place)) (laid_own g seat card (remove hand place) own here (and_parts (are_few (remove hand place)) (is_free (slice_get g.common.places seat)) made).0 (all_removed is_card hand place cards)))
+    (λ made. of_card_parts (laid g seat card (remove hand place)) (laid_own g seat card (remove hand place) own here (and_parts (are_few (remove hand place)) (is_free (slice_get g.common.places seat)) made).0 (all_removed is_card hand place cards)))
 
 lay_from_own : (g : Cards) (seat place : ℕ) (hand : Option (List ℕ)) (words : List ℕ) → OwnCards g → own_option are_cards hand ≡ true → GivesOwn own_state (lay_from g seat place hand words)
 lay_from_own g seat place None words own own_h = tt
@@ -301,20 +255,17 @@ lay_from_own g seat place (Some hand) words own own_h =
     let cards = (and_parts (are_few hand) (list_all is_card hand) own_h).1 in
     lay_card_own g seat place hand (slice_get hand place) words own (all_get is_card hand place cards) cards
 
-lay_own : (g : Cards) (seat : ℕ) (args : List ℤ) (words : List ℕ) → OwnCards g → GivesOwn own_state (lay g seat args words)
+lay_own : (g : Cards) (seat : ℕ) (args : List Arg) (words : List ℕ) → OwnCards g → GivesOwn own_state (lay g seat args words)
 lay_own g seat [] words own = tt
-lay_own g seat (negsuc n ∷ rest) words own = tt
-lay_own g seat (pos place ∷ next ∷ rest) words own = tt
-lay_own g seat (pos place ∷ []) words own = lay_from_own g seat place (hand_of g seat) words own (hand_own g seat own)
+lay_own g seat (Text t ∷ rest) words own = tt
+lay_own g seat (Whole (negsuc n) ∷ rest) words own = tt
+lay_own g seat (Whole (pos place) ∷ next ∷ rest) words own = tt
+lay_own g seat (Whole (pos place) ∷ []) words own = lay_from_own g seat place (hand_of g seat) words own (hand_own g seat own)
 
-either_deed : (test : Bool) (one other : Deed Cards Barred) → GivesOwn own_state one → GivesOwn own_state other → GivesOwn own_state (if test then one else other)
-either_deed true one other p q = p
-either_deed false one other p q = q
-
-move_kept : (g : Cards) (seat id : ℕ) (args : List ℤ) (words : List ℕ) → OwnCards g → GivesOwn own_state (card_move g seat id args words)
+move_kept : (g : Cards) (seat id : ℕ) (args : List Arg) (words : List ℕ) → OwnCards g → GivesOwn own_state (card_move g seat id args words)
 move_kept g seat id args words own =
-    either_deed (nat_lt seat 4) (if nat_eq id 0 then draw g seat args words else lay g seat args words) (GaveUp Invalid)
-    (either_deed (nat_eq id 0) (draw g seat args words) (lay g seat args words) (draw_own g seat args words own) (lay_own g seat args words own)) tt
+    either_gives own_state (nat_lt seat 4) (if nat_eq id 0 then draw g seat args words else lay g seat args words) (GaveUp Invalid)
+    (either_gives own_state (nat_eq id 0) (draw g seat args words) (lay g seat args words) (draw_own g seat args words own) (lay_own g seat args words own)) tt
 
 more_counted : (score : ℕ) → IsTrue (is_count (one_more score))
 more_counted score = le-leb (one_more score) (2 ^ 32 - 1) (min-le_right (score + 1) (2 ^ 32 - 1))
@@ -331,16 +282,17 @@ scored_own : (g : Cards) → OwnCards g → OwnCards (scored g)
 scored_own g own =
     let place = first_greatest height g.common.places in
     let free : Option ℕ = None in
+    let table = table_parts g.common own.own_common in
     record {
       seats = ap (λ scores. are_places (length g.players) (length g.common.hands) scores (length (replicate (length g.common.places) free))) (point_length place g.common.scores)
           ∙ ap (λ places. are_places (length g.players) (length g.common.hands) (length g.common.scores) places) (length-replicate (length g.common.places) free) ∙ own.seats;
-      table = record { hands = own.table.hands; left = own.table.left; scores = point_own place g.common.scores own.table.scores; places = all_copies (own_option is_card) (length g.common.places) free refl };
-      secret = own.secret;
-      players = own.players;
+      own_common = of_table_parts (scored g).common (record { hands = table.hands; left = table.left; scores = point_own place g.common.scores table.scores; places = all_copies (own_option is_card) (length g.common.places) free refl });
+      own_secret = own.own_secret;
+      own_players = own.own_players;
     }
 
 turn_own : (g : Cards) → IsTrue (own_state g) → IsTrue (own_state (after_turn g))
-turn_own g own = either_own own_state (is_full g.common.places) (scored g) g (λ full. of_parts (scored g) (scored_own g (parts_of g own))) own
+turn_own g own = either_own own_state (is_full g.common.places) (scored g) g (λ full. of_card_parts (scored g) (scored_own g (card_parts g own))) own
 
 first_places : (seats : ℕ) → 2 ≤ seats → seats ≤ 4 → are_places seats seats seats seats ≡ true
 first_places seats least most =
@@ -357,14 +309,14 @@ first_own seats deck least most own =
     let free : Option ℕ = None in
     let hand : Option Hand = Some (record { cards = [] }) in
     let zeros = length-replicate seats nothing in
-    of_parts (before_draws seats deck) (record {
+    of_card_parts (before_draws seats deck) (record {
       seats = ap (λ players. are_places players (length (replicate seats nothing)) (length (replicate seats nothing)) (length (replicate seats free))) (length-replicate seats hand)
           ∙ ap (λ hands. are_places seats hands (length (replicate seats nothing)) (length (replicate seats free))) zeros
           ∙ ap (λ scores. are_places seats seats scores (length (replicate seats free))) zeros
           ∙ ap (λ places. are_places seats seats seats places) (length-replicate seats free) ∙ first_places seats least most;
-      table = record { hands = all_copies is_count seats nothing refl; left = refl; scores = all_copies is_count seats nothing refl; places = all_copies (own_option is_card) seats free refl };
-      secret = own;
-      players = all_copies (own_option own_hand) seats hand refl;
+      own_common = of_table_parts (before_draws seats deck).common (record { hands = all_copies is_count seats nothing refl; left = refl; scores = all_copies is_count seats nothing refl; places = all_copies (own_option is_card) seats free refl });
+      own_secret = own;
+      own_players = all_copies (own_option own_hand) seats hand refl;
     })
 
 all_at : {A : Type 0} (p : A → Bool) (xs : List A) (i : ℕ) (d : A) → list_all p xs ≡ true → p d ≡ true → p (slice_index_or xs i d) ≡ true
@@ -397,29 +349,23 @@ set_up_own : (dealt : Option Dealt) (seats : ℕ) (words : List ℕ) → 2 ≤ s
 set_up_own None seats words least most = opened_own seats (shuffled pack words) least most (shuffled_own (length pack - 1) pack words refl)
 set_up_own (Some dealt) seats words least most = first_own seats dealt.cards least most dealt.proper
 
-seen_own : (g : Cards) (viewer : Option ℕ) → OwnCards g → IsTrue (own_state (strip g viewer))
-seen_own g viewer own =
-    of_parts (strip g viewer) (record {
-      seats = ap (λ players. are_places players (length g.common.hands) (length g.common.scores) (length g.common.places)) (count_seen viewer g.players) ∙ own.seats;
-      table = own.table;
-      secret = refl;
-      players = all_seen own_hand viewer g.players own.players;
-    })
+as_many : (g : Cards) (viewer : Option ℕ) → have_places (strip g viewer) ≡ have_places g
+as_many g viewer = ap (λ players. are_places players (length g.common.hands) (length g.common.scores) (length g.common.places)) (count_seen viewer g.players)
 
 -- ---- what is offered
 
-abbrev IsKnown : ℕ × List ℤ → Type 0
+abbrev IsKnown : ℕ × List Arg → Type 0
 IsKnown offer = offer.0 < 2
 
 lays_known : (count : ℕ) → AllByRecursion IsKnown (lays count)
 lays_known zero = tt
-lays_known (suc place) = all_joined IsKnown (lays place) ((1, pos place ∷ []) ∷ []) (lays_known place) (lit< tt, tt)
+lays_known (suc place) = all_joined IsKnown (lays place) ((1, Whole (pos place) ∷ []) ∷ []) (lays_known place) (lit< tt, tt)
 
 lay_offers_known : (g : Cards) (seat : ℕ) (hand : Option (List ℕ)) → AllByRecursion IsKnown (lay_offers g seat hand)
 lay_offers_known g seat None = tt
 lay_offers_known g seat (Some hand) = all_if IsKnown (are_few hand && is_free (slice_get g.common.places seat)) (lays (length hand)) (lays_known (length hand))
 
-one_known : (test : Bool) (xs ys : List (ℕ × List ℤ)) → AllByRecursion IsKnown xs → AllByRecursion IsKnown ys → AllByRecursion IsKnown (if test then xs else ys)
+one_known : (test : Bool) (xs ys : List (ℕ × List Arg)) → AllByRecursion IsKnown xs → AllByRecursion IsKnown ys → AllByRecursion IsKnown (if test then xs else ys)
 one_known true xs ys p q = p
 one_known false xs ys p q = q
 
@@ -431,23 +377,69 @@ card_offers_known g seat (Some phase) =
 
 -- ---- the laws
 
+high_hand_sheet_fits : broken high_hand_sheet ≡ 0
+unfolding broken
+high_hand_sheet_fits = refl
+
 pub high_hand_lawful : (dealt : Option Dealt) → Lawful (high_hand dealt)
 high_hand_lawful dealt = record {
+  fits = fits high_hand_sheet high_hand_sheet_fits;
   setup = λ seats words least most. set_up_own dealt seats words least most;
-  play = λ g ctx seat id args words own. move_kept g seat id args words (parts_of g own);
+  play = λ g ctx seat id args words own. move_kept g seat id args words (card_parts g own);
   on_move = λ g ctx seat words own. own;
   turn_begin = λ g ctx words own. own;
   turn_end = λ g ctx words own. turn_own g own;
   phase_begin = λ g ctx phase words own. own;
   phase_end = λ g ctx phase words own. own;
   game_end = λ g ctx words own. own;
-  view = λ g ctx viewer own. seen_own g viewer (parts_of g own);
+  ends = λ g ctx outcome own is. greatest_ends (is_played g ctx.phase) _ g.common.scores outcome is;
+  view = λ g ctx viewer own. view_own have_places own_table own_deck own_hand g viewer (as_many g viewer) own;
   view_again = λ g ctx viewer own. strip_twice g viewer;
   written_object = λ g own. refl;
-  written_float_free = λ g own. cards_float_free g;
+  written = λ g own. state_part.written g own;
   reads_back = λ g own. state_part.back g own;
-  read_own = λ v g is. (read_from v g is).0;
-  read_only = λ v g canonical is. (read_from v g is).1 canonical;
+  read_own = λ v g is. (read_from cards_value read_state own_state state_part v g is).0;
+  read_only = λ v g canonical is. (read_from cards_value read_state own_state state_part v g is).1 canonical;
   offers_known = λ g ctx seat. offered_known IsKnown ctx seat (card_offers g seat ctx.phase) (card_offers_known g seat ctx.phase);
   offers_none = λ g ctx seat none. offered_none ctx seat (card_offers g seat ctx.phase) none;
+}
+
+-- ---- it queues nothing
+
+drawn_keeps : (g : Cards) (seat : ℕ) (hand : Option (List ℕ)) (deck words : List ℕ) → QueuesInSheet high_hand_sheet (draw_to g seat hand deck words)
+drawn_keeps g seat None deck words = tt
+drawn_keeps g seat (Some hand) [] words = tt
+drawn_keeps g seat (Some hand) (card ∷ deck) words = either_keeps high_hand_sheet (are_few (hand ++ card ∷ []) && are_few deck) _ _ tt tt
+
+draw_keeps : (g : Cards) (seat : ℕ) (args : List Arg) (words : List ℕ) → QueuesInSheet high_hand_sheet (draw g seat args words)
+draw_keeps g seat (next ∷ rest) words = tt
+draw_keeps g seat [] words = drawn_keeps g seat (hand_of g seat) (deck_in g.secret) words
+
+card_keeps : (g : Cards) (seat place : ℕ) (hand : List ℕ) (card : Option ℕ) (words : List ℕ) → QueuesInSheet high_hand_sheet (lay_card g seat place hand card words)
+card_keeps g seat place hand None words = tt
+card_keeps g seat place hand (Some card) words = either_keeps high_hand_sheet (are_few (remove hand place) && is_free (slice_get g.common.places seat)) _ _ tt tt
+
+from_keeps : (g : Cards) (seat place : ℕ) (hand : Option (List ℕ)) (words : List ℕ) → QueuesInSheet high_hand_sheet (lay_from g seat place hand words)
+from_keeps g seat place None words = tt
+from_keeps g seat place (Some hand) words = card_keeps g seat place hand (slice_get hand place) words
+
+lay_keeps : (g : Cards) (seat : ℕ) (args : List Arg) (words : List ℕ) → QueuesInSheet high_hand_sheet (lay g seat args words)
+lay_keeps g seat [] words = tt
+lay_keeps g seat (Text t ∷ rest) words = tt
+lay_keeps g seat (Whole (negsuc n) ∷ rest) words = tt
+lay_keeps g seat (Whole (pos place) ∷ next ∷ rest) words = tt
+lay_keeps g seat (Whole (pos place) ∷ []) words = from_keeps g seat place (hand_of g seat) words
+
+cards_keep : (g : Cards) (seat id : ℕ) (args : List Arg) (words : List ℕ) → QueuesInSheet high_hand_sheet (card_move g seat id args words)
+cards_keep g seat id args words = either_keeps high_hand_sheet (nat_lt seat 4) (if nat_eq id 0 then draw g seat args words else lay g seat args words) _ (either_keeps high_hand_sheet (nat_eq id 0) _ _ (draw_keeps g seat args words) (lay_keeps g seat args words)) tt
+
+pub high_hand_in_sheet : (deck : Option Dealt) → KeepsToSheet (high_hand deck)
+high_hand_in_sheet deck = record {
+  play = λ g ctx seat id args words known. cards_keep g seat id args words;
+  on_move = λ g ctx seat words. tt;
+  turn_begin = λ g ctx words. tt;
+  turn_end = λ g ctx words. tt;
+  phase_begin = λ g ctx phase words. tt;
+  phase_end = λ g ctx phase words. tt;
+  game_end = λ g ctx words. tt;
 }

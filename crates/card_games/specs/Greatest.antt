@@ -1,5 +1,5 @@
--- Who has the greatest number: of cards on a table, of scores, or of bids.
-use Rattle.std.specs.Prelude.{ℕ, ◌==◌, max, if◌then◌else◌, List, count_by, fold, position, Option, Some, None}
+-- Who has the greatest number: of cards on a table, of scores, of bids, or of bytes.
+use Rattle.std.specs.Prelude.{ℕ, ◌==◌, max, nat_lt, if◌then◌else◌, List, count_by, fold, position, Option, Some, None}
 use Rattle.game_sheet.specs.declared.act.Outcome.{Outcome}
 use Rattle.game_sheet.specs.declared.act.Outcome.TheVariants.{Winner, Draw}
 
@@ -15,9 +15,10 @@ first_greatest worth items = position (λ item. worth item == greatest worth ite
 abbrev pub count_greatest : {A : Type 0} → (A → ℕ) → List A → ℕ
 count_greatest worth items = count_by (λ item. worth item == greatest worth items) items
 
+-- a place is a seat's; no match has more than sixteen
 abbrev pub won_by : Option ℕ → Outcome
 won_by None = Draw
-won_by (Some seat) = Winner seat
+won_by (Some seat) = if nat_lt seat 16 then Winner seat else Draw
 
 -- the one seat whose item is worth the most wins; where several are, nobody does
 abbrev pub one_greatest : {A : Type 0} → (A → ℕ) → List A → Outcome

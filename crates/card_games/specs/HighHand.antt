@@ -1,8 +1,8 @@
 -- High Hand: two to four seats draw two cards each and lay them one by one; the highest card on a full table scores a point, and the greatest score wins.
-use Rattle.std.specs.Prelude.{ℕ, ◌+◌, ◌-◌, ◌^◌, ◌==◌, ◌&&◌, min, nat_eq, nat_le, nat_lt, true, false, Bool, if◌then◌else◌, ℤ, pos, List, [], ◌∷◌, ◌++◌, length, replicate, remove, slice_get, slice_index, slice_set, codes, is_some, is_none, unwrap_or, Option, Some, None, zero, suc}
+use Rattle.std.specs.Prelude.{ℕ, ◌+◌, ◌-◌, ◌^◌, ◌==◌, ◌&&◌, min, nat_eq, nat_le, nat_lt, true, false, Bool, if◌then◌else◌, pos, List, [], ◌∷◌, ◌++◌, length, replicate, remove, slice_get, slice_index, slice_set, codes, is_some, is_none, option_map, unwrap_or, Option, Some, None, zero, suc}
 use Rattle.std.specs.List.{list_all}
 use Rattle.card_games.specs.Greatest.{first_greatest, one_greatest}
-use Rattle.card_games.specs.Json.{apply, is_count, list_value, number_value, option_value, own_option, own_split, passing, read_count, read_list, read_member, read_number, read_object, read_option, read_split, split_value}
+use Rattle.card_games.specs.Json.{apply, is_count, list_value, lone_value, number_value, option_value, own_option, own_split, passing, read_count, read_list, read_lone, read_member, read_number, read_object, read_option, read_split, split_value}
 use Rattle.card_games.specs.Pack.{are_cards, are_few, is_card, pack}
 use Rattle.card_games.specs.declared.cards.CardTable.{CardTable}
 use Rattle.card_games.specs.declared.cards.Deck.{Deck}
@@ -11,6 +11,8 @@ use Rattle.card_games.specs.declared.dealt.Dealt.{Dealt}
 use Rattle.dice_words.specs.Dice.{shuffled}
 use Rattle.game_sheet.specs.declared.act.EventKind.TheVariants.{EndTurn}
 use Rattle.game_sheet.specs.declared.act.Outcome.{Outcome}
+use Rattle.game_sheet.specs.declared.args.Arg.{Arg}
+use Rattle.game_sheet.specs.declared.args.Arg.TheVariants.{Whole}
 use Rattle.game_sheet.specs.declared.sheet.Order.TheVariants.{Default, Once, Reset}
 use Rattle.game_sheet.specs.declared.sheet.Sheet.{Sheet}
 use Rattle.game_trait.specs.Deed.{Barred, Deed, Done, GaveUp, Invalid, Lack, Spent}
@@ -94,7 +96,7 @@ draw_to g seat None deck words = GaveUp Invalid
 draw_to g seat (Some hand) [] words = GaveUp Invalid
 draw_to g seat (Some hand) (card ∷ deck) words = if are_few (hand ++ card ∷ []) && are_few deck then Done (with_deck (with_hand g seat (hand ++ card ∷ [])) deck) words [] else GaveUp Invalid
 
-abbrev pub draw : Cards → ℕ → List ℤ → List ℕ → Deed Cards Barred
+abbrev pub draw : Cards → ℕ → List Arg → List ℕ → Deed Cards Barred
 draw g seat [] words = draw_to g seat (hand_of g seat) (deck_in g.secret) words
 draw g seat (_ ∷ _) words = GaveUp Invalid
 
@@ -120,11 +122,11 @@ lay_from g seat place None words = GaveUp Invalid
 lay_from g seat place (Some hand) words = lay_card g seat place hand (slice_get hand place) words
 
 -- the one argument is the card's place in the hand
-abbrev pub lay : Cards → ℕ → List ℤ → List ℕ → Deed Cards Barred
-lay g seat (pos place ∷ []) words = lay_from g seat place (hand_of g seat) words
+abbrev pub lay : Cards → ℕ → List Arg → List ℕ → Deed Cards Barred
+lay g seat (Whole (pos place) ∷ []) words = lay_from g seat place (hand_of g seat) words
 lay g seat _ words = GaveUp Invalid
 
-abbrev pub card_move : Cards → ℕ → ℕ → List ℤ → List ℕ → Deed Cards Barred
+abbrev pub card_move : Cards → ℕ → ℕ → List Arg → List ℕ → Deed Cards Barred
 card_move g seat id args words = if nat_lt seat 4 then (if nat_eq id 0 then draw g seat args words else lay g seat args words) else GaveUp Invalid
 
 -- a point more, unless that is past what 32 bits hold
@@ -163,23 +165,23 @@ is_clear places = list_all (λ place. is_none place) places
 -- in the second phase every hand is empty and so is the table
 abbrev pub is_played : Cards → Option ℕ → Bool
 is_played g None = false
-is_played g (Some phase) = nat_eq phase 1 && are_empty g.common.hands && is_clear g.common.places && nat_le (length g.common.scores) 8
+is_played g (Some phase) = nat_eq phase 1 && are_empty g.common.hands && is_clear g.common.places
 
 -- then the one seat with the greatest score wins; two such scores are a draw
 abbrev pub card_end : Cards → Option ℕ → Option Outcome
 card_end g phase = if is_played g phase then Some (one_greatest (λ score. score) g.common.scores) else None
 
 -- the moves that lay one of so many cards, each by its place
-abbrev pub lays : ℕ → List (ℕ × List ℤ)
+abbrev pub lays : ℕ → List (ℕ × List Arg)
 lays zero = []
-lays (suc place) = lays place ++ (1, pos place ∷ []) ∷ []
+lays (suc place) = lays place ++ (1, Whole (pos place) ∷ []) ∷ []
 
-abbrev pub lay_offers : Cards → ℕ → Option (List ℕ) → List (ℕ × List ℤ)
+abbrev pub lay_offers : Cards → ℕ → Option (List ℕ) → List (ℕ × List Arg)
 lay_offers g seat None = []
 lay_offers g seat (Some hand) = if are_few hand && is_free (slice_get g.common.places seat) then lays (length hand) else []
 
 -- in the first phase a seat is offered the draw, and in the second each card of its hand where its place on the table is free
-abbrev pub card_offers : Cards → ℕ → Option ℕ → List (ℕ × List ℤ)
+abbrev pub card_offers : Cards → ℕ → Option ℕ → List (ℕ × List Arg)
 card_offers g seat None = []
 card_offers g seat (Some phase) = if nat_eq phase 0 then (0, []) ∷ [] else (if nat_eq phase 1 then lay_offers g seat (hand_of g seat) else [])
 
@@ -206,19 +208,19 @@ abbrev pub read_cards : Data → Option (List ℕ)
 read_cards d = passing are_few (read_list read_card d)
 
 abbrev pub hand_value : Hand → Data
-hand_value h = object (member (codes "hand") (list_value number_value h.cards) no_members)
+hand_value h = lone_value (codes "hand") (list_value number_value) h.cards
 
 abbrev pub read_hand : Data → Option Hand
-read_hand v = read_object (codes "hand" ∷ []) (λ d. apply (Some (λ cards. record { cards = cards })) (read_member (codes "hand") read_cards d)) v
+read_hand v = option_map (λ cards. record { cards = cards }) (read_lone (codes "hand") read_cards v)
 
 abbrev pub own_hand : Hand → Bool
 own_hand h = are_cards h.cards
 
 abbrev pub deck_value : Deck → Data
-deck_value d = object (member (codes "deck") (list_value number_value d.cards) no_members)
+deck_value d = lone_value (codes "deck") (list_value number_value) d.cards
 
 abbrev pub read_deck : Data → Option Deck
-read_deck v = read_object (codes "deck" ∷ []) (λ d. apply (Some (λ cards. record { cards = cards })) (read_member (codes "deck") read_cards d)) v
+read_deck v = option_map (λ cards. record { cards = cards }) (read_lone (codes "deck") read_cards v)
 
 abbrev pub own_deck : Deck → Bool
 own_deck d = are_cards d.cards

@@ -1,9 +1,10 @@
--- How the parts of a state are written as JSON and read: a number as itself, a list item by item, and as null what is missing or hidden.
+-- How the parts of a state are written as JSON and read: a number or a text as itself, a list item by item, and as null what is missing or hidden.
 use Rattle.std.specs.Prelude.{ℕ, ◌-◌, ◌^◌, ◌&&◌, nat_le, Bool, true, if◌then◌else◌, List, [], ◌∷◌, map, codes, is_some, option_and_then, option_map, Option, Some, None}
 use Rattle.std.specs.List.{list_all}
+use Rattle.game_sheet.specs.Short.{is_short}
 use Rattle.json_tree.specs.Names.{extra_in}
 use Rattle.secret_strip.specs.declared.split.Split.{Split}
-use Rattle.serde_json.specs.Data.{Data, null, number, unsigned, array, object, Items, no_items, item, member, no_members}
+use Rattle.serde_json.specs.Data.{Data, null, number, unsigned, string, array, object, Items, no_items, item, member, no_members}
 use Rattle.serde_json.specs.Find.{as_array, as_null, as_number, as_u64, get}
 use Rattle.serde_json.specs.View.{items_of}
 
@@ -31,6 +32,14 @@ is_count n = nat_le n (2 ^ 32 - 1)
 
 abbrev pub read_count : Data → Option ℕ
 read_count d = read_number (2 ^ 32 - 1) d
+
+abbrev pub text_value : List ℕ → Data
+text_value text = string text
+
+-- a short text
+abbrev pub read_text : Data → Option (List ℕ)
+read_text (string text) = passing is_short (Some text)
+read_text _ = None
 
 abbrev pub option_value : {A : Type 0} → (A → Data) → Option A → Data
 option_value value None = null
@@ -63,6 +72,13 @@ read_member name read d = option_and_then read (get name d)
 -- what is read of an object without a member of another name
 abbrev pub read_object : {A : Type 0} → List (List ℕ) → (Data → Option A) → Data → Option A
 read_object names read d = if extra_in names d then None else read d
+
+-- an object with one member
+abbrev pub lone_value : {A : Type 0} → List ℕ → (A → Data) → A → Data
+lone_value name value x = object (member name (value x) no_members)
+
+abbrev pub read_lone : {A : Type 0} → List ℕ → (Data → Option A) → Data → Option A
+read_lone name read v = read_object (name ∷ []) (read_member name read) v
 
 -- a split state: what is common, an entry for each player, and what is secret
 abbrev pub split_value : {C S P : Type 0} → (C → Data) → (S → Data) → (P → Data) → Split C S P → Data

@@ -1,12 +1,15 @@
 pub mod BidLaws
 pub mod BlindBid
+pub mod CaptionLaws
+pub mod Captions
 pub mod CardLaws
 pub mod FloatFree
 pub mod Greatest
 pub mod HighHand
-pub mod InSheet
 pub mod Json
 pub mod Offers
 pub mod OwnLaws
 pub mod Pack
 pub mod PartLaws
+pub mod Sealed
+pub mod SealedLaws

@@ -10,7 +10,7 @@ pack =
     ∷ 39 ∷ 40 ∷ 41 ∷ 42 ∷ 43 ∷ 44 ∷ 45 ∷ 46 ∷ 47 ∷ 48 ∷ 49 ∷ 50 ∷ 51
     ∷ []
 
--- a hand and a deck have at most 52 cards
+-- a hand and a deck have at most 52 cards; where a state that isn't own has more, no card of them is drawn, laid or offered, so that each count fits its number
 abbrev pub are_few : List ℕ → Bool
 are_few cards = nat_le (length cards) 52
 

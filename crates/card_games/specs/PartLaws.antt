@@ -1,16 +1,21 @@
--- The proofs that what the parts of a state are written as reads back as them, and that nothing else reads so. No definition but laws of games cites them.
-use Rattle.std.specs.Prelude.{◌≡◌, ℕ, ◌-◌, ◌^◌, ◌≤◌, ◌&&◌, nat_le, Bool, true, false, if◌then◌else◌, IsTrue, IfSome, List, [], ◌∷◌, map, codes, is_some, option_and_then, option_map, Option, Some, None, refl}
+-- The proofs that what the parts of a state are written as may be written and reads back as them, and that nothing else reads so. No definition but laws of games cites them.
+use Rattle.std.specs.Prelude.{◌≡◌, ℕ, ◌-◌, ◌^◌, ◌<◌, ◌≤◌, ◌&&◌, nat_le, Bool, true, false, if◌then◌else◌, IsTrue, IfSome, List, [], ◌∷◌, length, map, codes, is_some, option_and_then, option_map, Option, Some, None, refl}
 use Rattle.std.specs.List.{AllByRecursion, list_all}
-use Rattle.std.proofs.Common.{◌∙◌, ap, sym}
-use Rattle.std.proofs.Math.Nat.{le_trans}
+use Rattle.std.proofs.Common.{◌∙◌, ap, lit<, subst, sym}
+use Rattle.std.proofs.Math.Nat.{le_trans, lt_of_le_of_lt}
 use Rattle.std.proofs.lemmas.Bool.{and_parts, le-leb, leb-true}
-use Rattle.card_games.specs.Json.{apply, first_of, is_count, list_value, number_value, option_value, own_option, own_split, passing, read_count, read_items, read_list, read_member, read_number, read_object, read_option, read_split, split_names, split_of, split_value}
+use Rattle.std.proofs.lemmas.Str.{IsUtf8-from_is_utf8}
+use Rattle.card_games.specs.Json.{apply, first_of, is_count, list_value, lone_value, number_value, option_value, own_option, own_split, passing, read_count, read_items, read_list, read_lone, read_member, read_number, read_object, read_option, read_split, read_text, split_names, split_of, split_value, text_value}
+use Rattle.game_sheet.specs.Short.{is_plain, is_short}
 use Rattle.json_tree.specs.Canonical.{IsCanonical, IsOrdered, ItemsAreCanonical, MembersAreCanonical}
 use Rattle.json_tree.specs.Names.{has_extra}
+use Rattle.json_tree.specs.Writable.{IsWritable, ItemsAreWritable}
 use Rattle.json_tree.proofs.Rows.{canonical_member, row_is}
+use Rattle.json_tree.proofs.WritableRows.{all_rise, fixed}
 use Rattle.secret_strip.specs.declared.split.Split.{Split}
 use Rattle.serde_json.specs.Data.{Data, null, boolean, number, string, array, object, unsigned, negative, float, Items, no_items, item, Members, no_members, member}
 use Rattle.serde_json.specs.Find.{as_null, get_member}
+use Rattle.std.specs.Str.{is_utf8}
 use Rattle.serde_json.specs.View.{items_of}
 
 pub both_true : (a b : Bool) → a ≡ true → b ≡ true → (a && b) ≡ true
@@ -20,10 +25,15 @@ both_true a b p q = ap (λ x. x && b) p ∙ q
 abbrev pub IsReadFrom : {A : Type 0} → (A → Data) → (A → Bool) → Data → A → Type 0
 IsReadFrom value own v x = IsTrue (own x) × (IsCanonical v → value x ≡ v)
 
--- the own parts read back from what they are written as, and all else that reads is written so
+-- the own parts may be written and read back from what they are written as, and all else that reads is written so
 pub record IsPart {A : Type 0} (value : A → Data) (read : Data → Option A) (own : A → Bool) : Type 0 where
   pub back : (x : A) → IsTrue (own x) → read (value x) ≡ Some x
   pub from : (v : Data) → IfSome (read v) (IsReadFrom value own v)
+  pub written : (x : A) → IsTrue (own x) → IsWritable (value x)
+
+-- what was read is own, and is all of what it was read from
+pub read_from : {A : Type 0} (value : A → Data) (read : Data → Option A) (own : A → Bool) → IsPart value read own → (v : Data) (x : A) → read v ≡ Some x → IsReadFrom value own v x
+read_from value read own part v x is = subst (λ o. IfSome o (IsReadFrom value own v)) is (part.from v)
 
 abbrev pub IsNeverNull : {A : Type 0} → (A → Data) → (A → Bool) → Type 0
 IsNeverNull {A = A} value own = (x : A) → IsTrue (own x) → is_some (as_null (value x)) ≡ false
@@ -62,8 +72,27 @@ number_from most (string s) = tt
 number_from most (array ds) = tt
 number_from most (object ms) = tt
 
-pub number_part : (most : ℕ) → IsPart number_value (read_number most) (λ n. nat_le n most)
-number_part most = record { back = λ n own. passing_back (λ m. nat_le m most) n own; from = number_from most }
+pub number_part : (most : ℕ) → most < 2 ^ 64 → IsPart number_value (read_number most) (λ n. nat_le n most)
+number_part most small = record {
+  back = λ n own. passing_back (λ m. nat_le m most) n own;
+  from = number_from most;
+  written = λ n own. lt_of_le_of_lt {n = n} {m = most} {k = 2 ^ 64} (leb-true n most own) small;
+}
+
+text_from : (v : Data) → IfSome (read_text v) (IsReadFrom text_value is_short v)
+text_from null = tt
+text_from (boolean b) = tt
+text_from (number n) = tt
+text_from (string s) = passed (λ text. IsCanonical (string s) → text_value text ≡ string s) is_short s (is_short s) refl (λ _. refl)
+text_from (array ds) = tt
+text_from (object ms) = tt
+
+pub text_part : IsPart text_value read_text is_short
+text_part = record {
+  back = λ text own. passing_back is_short text own;
+  from = text_from;
+  written = λ text own. IsUtf8-from_is_utf8 text (and_parts (nat_le (length text) 64 && is_plain text) (is_utf8 text) own).1;
+}
 
 option_from : {A : Type 0} (value : A → Data) (read : Data → Option A) (own : A → Bool) → IsPart value read own → (v : Data) → IfSome (read_option read v) (IsReadFrom (option_value value) (own_option own) v)
 option_from value read own part null = (refl, λ _. refl)
@@ -78,8 +107,12 @@ option_back value read own part never None own_o = refl
 option_back value read own part never (Some x) own_x =
     ap (λ nulls. if nulls then Some None else option_map (λ y. Some y) (read (value x))) (never x own_x) ∙ ap (option_map (λ y. Some y)) (part.back x own_x)
 
+option_written : {A : Type 0} (value : A → Data) (read : Data → Option A) (own : A → Bool) → IsPart value read own → (o : Option A) → IsTrue (own_option own o) → IsWritable (option_value value o)
+option_written value read own part None own_o = tt
+option_written value read own part (Some x) own_x = part.written x own_x
+
 pub option_part : {A : Type 0} (value : A → Data) (read : Data → Option A) (own : A → Bool) → IsPart value read own → IsNeverNull value own → IsPart (option_value value) (read_option read) (own_option own)
-option_part value read own part never = record { back = option_back value read own part never; from = option_from value read own part }
+option_part value read own part never = record { back = option_back value read own part never; from = option_from value read own part; written = option_written value read own part }
 
 abbrev AreReadFrom : {A : Type 0} → (A → Data) → (A → Bool) → Items → List A → Type 0
 AreReadFrom value own ds xs = IsTrue (list_all own xs) × (ItemsAreCanonical ds → items_of (map value xs) ≡ ds)
@@ -111,11 +144,15 @@ list_back value read own part (x ∷ xs) own_all =
     let parts = and_parts (own x) (list_all own xs) own_all in
     ap (λ o. first_of o (read_items read (items_of (map value xs)))) (part.back x parts.0) ∙ ap (first_of (Some x)) (list_back value read own part xs parts.1)
 
+list_written : {A : Type 0} (value : A → Data) (read : Data → Option A) (own : A → Bool) → IsPart value read own → (xs : List A) → IsTrue (list_all own xs) → ItemsAreWritable (items_of (map value xs))
+list_written value read own part [] own_all = tt
+list_written value read own part (x ∷ xs) own_all = let parts = and_parts (own x) (list_all own xs) own_all in (part.written x parts.0, list_written value read own part xs parts.1)
+
 pub list_part : {A : Type 0} (value : A → Data) (read : Data → Option A) (own : A → Bool) → IsPart value read own → IsPart (list_value value) (read_list read) (list_all own)
-list_part value read own part = record { back = list_back value read own part; from = list_from value read own part }
+list_part value read own part = record { back = list_back value read own part; from = list_from value read own part; written = list_written value read own part }
 
 pub count_part : IsPart number_value read_count is_count
-count_part = number_part (2 ^ 32 - 1)
+count_part = number_part (2 ^ 32 - 1) (lit< tt)
 
 pub counts_part : IsPart (list_value number_value) (read_list read_count) (list_all is_count)
 counts_part = list_part number_value read_count is_count count_part
@@ -160,6 +197,49 @@ object_from names members pick own row ms = row_from names members pick own row 
 
 pub object_back : {A : Type 0} (names : List (List ℕ)) (members : A → Members) (pick : Data → Option A) (own : A → Bool) → IsRow names members pick own → (x : A) → IsTrue (own x) → read_object names pick (object (members x)) ≡ Some x
 object_back names members pick own row x own_x = ap (λ extra. if extra then None else pick (object (members x))) (row.no_more x) ∙ row.back x own_x
+
+weaker : {A : Type 0} (P Q : A → Type 0) (o : Option A) → ((x : A) → P x → Q x) → IfSome o P → IfSome o Q
+weaker P Q None more h = tt
+weaker P Q (Some x) more h = more x h
+
+-- a part inside another type of the same content
+pub wrapped_part : {A R : Type 0} (value : A → Data) (read : Data → Option A) (own : A → Bool) (wrap : A → R) (inner : R → A) → ((r : R) → wrap (inner r) ≡ r) → ((x : A) → inner (wrap x) ≡ x)
+    → IsPart value read own → IsPart (λ r. value (inner r)) (λ v. option_map wrap (read v)) (λ r. own (inner r))
+wrapped_part value read own wrap inner wraps unwraps part = record {
+  back = λ r own_r. ap (option_map wrap) (part.back (inner r) own_r) ∙ ap Some (wraps r);
+  from = λ v. mapped (IsReadFrom value own v) (IsReadFrom (λ r. value (inner r)) (λ r. own (inner r)) v) wrap (read v) (λ x h. (ap own (unwraps x) ∙ h.0, λ canonical. ap value (unwraps x) ∙ h.1 canonical)) (part.from v);
+  written = λ r own_r. part.written (inner r) own_r;
+}
+
+-- an object with one member of a name, in which that member is found and no other
+module _ {A : Type 0} (name : List ℕ) (no_more : (d : Data) → has_extra (name ∷ []) (member name d no_members) ≡ false) (found : (d : Data) → get_member name (member name d no_members) ≡ Some d)
+    (rises : (d : Data) → all_rise (member name d no_members) ≡ true) (value : A → Data) (read : Data → Option A) (own : A → Bool) (part : IsPart value read own) where
+  abbrev lone_members : A → Members
+  lone_members x = member name (value x) no_members
+
+  lone_row : IsRow (name ∷ []) lone_members (read_member name read) own
+  lone_row = record {
+    ordered = λ x. (tt, tt);
+    no_more = λ x. no_more (value x);
+    back = λ x own_x. ap (option_and_then read) (found (value x)) ∙ part.back x own_x;
+    from = λ ms. weaker (IsMemberFrom name value own ms) (λ x. IsTrue (own x) × (MembersAreCanonical ms → AllByRecursion (λ n. get_member n ms ≡ get_member n (lone_members x)) (name ∷ []))) (read_member name read (object ms))
+        (λ x h. (h.0, λ canonical. (h.1 canonical ∙ sym (found (value x)), tt))) (member_from name value read own part ms);
+  }
+
+  lone_from : (v : Data) → IfSome (read_lone name read v) (IsReadFrom (lone_value name value) own v)
+  lone_from null = tt
+  lone_from (boolean b) = tt
+  lone_from (number n) = tt
+  lone_from (string s) = tt
+  lone_from (array ds) = tt
+  lone_from (object ms) = object_from (name ∷ []) lone_members (read_member name read) own lone_row ms
+
+  pub lone_part : IsPart (lone_value name value) (read_lone name read) own
+  lone_part = record {
+    back = object_back (name ∷ []) lone_members (read_member name read) own lone_row;
+    from = lone_from;
+    written = λ x own_x. fixed (lone_members x) (rises (value x)) (part.written x own_x, tt);
+  }
 
 -- ---- split states
 
@@ -209,20 +289,24 @@ module _ {C S P : Type 0} (common : C → Data) (read_common : Data → Option C
   split_from (array ds) = tt
   split_from (object ms) = object_from split_names (split_members common secret player) (pick_split read_common read_secret read_player) (own_split own_common own_secret own_player) split_row ms
 
+  split_written : (g : Split C S P) → IsTrue (own_split own_common own_secret own_player g) → IsWritable (split_value common secret player g)
+  split_written g own =
+      let outer = and_parts (own_common g.common && own_option own_secret g.secret) (list_all (own_option own_player) g.players) own in
+      let inner = and_parts (own_common g.common) (own_option own_secret g.secret) outer.0 in
+      fixed (split_members common secret player g) refl (commons.written g.common inner.0, (players.written g.players outer.1, (secrets.written g.secret inner.1, tt)))
+
   pub split_part : IsPart (split_value common secret player) (read_split read_common read_secret read_player) (own_split own_common own_secret own_player)
   split_part = record {
     back = object_back split_names (split_members common secret player) (pick_split read_common read_secret read_player) (own_split own_common own_secret own_player) split_row;
     from = split_from;
+    written = split_written;
   }
 
 -- ---- a part that passes a test besides
 
-weaker : {A : Type 0} (P Q : A → Type 0) (o : Option A) → ((x : A) → P x → Q x) → IfSome o P → IfSome o Q
-weaker P Q None more h = tt
-weaker P Q (Some x) more h = more x h
-
 pub passing_part : {A : Type 0} (value : A → Data) (read : Data → Option A) (own test : A → Bool) → IsPart value read own → IsPart value (λ v. passing test (read v)) (λ x. test x && own x)
 passing_part value read own test part = record {
   back = λ x own_x. let parts = and_parts (test x) (own x) own_x in ap (passing test) (part.back x parts.1) ∙ passing_back test x parts.0;
+  written = λ x own_x. part.written x (and_parts (test x) (own x) own_x).1;
   from = λ v. weaker (λ x. (test x ≡ true) × IsReadFrom value own v x) (IsReadFrom value (λ x. test x && own x) v) (passing test (read v)) (λ x h. (both_true (test x) (own x) h.0 h.1.0, h.1.1)) (passing_from (IsReadFrom value own v) test (read v) (part.from v));
 }

@@ -1,10 +1,9 @@
 //! The state of Blind Bid.
 
-ghost use Rattle.std.specs.Prelude.{◌≡◌, IfOk};
-ghost use Rattle.card_games.specs.BlindBid.{amount, bid_of, bidding_value, no_secret_value, read_bidding, read_no_secret, read_sealed, sealed_value};
+ghost use Rattle.card_games.specs.BlindBid.{bidding_value, read_bidding, read_sealed_bid, sealed_bid_value};
 
-use crate::greatest::Worth;
-use crate::json::{Part, member};
+use crate::json::{Part, lone_member, member};
+use crate::sealed::Sealed;
 use game_sheet::{List, NoMemory};
 use json_tree::extra_field;
 use secret_strip::CopyPart;
@@ -20,17 +19,6 @@ pub struct Bidding {
     pub revealed: Option<List<u32>>,
 }
 
-/// What nobody sees: there is nothing of that kind.
-#[derive(Clone, Copy)]
-pub struct NoSecret;
-
-/// What one seat alone sees.
-#[derive(Clone, Copy)]
-pub struct Sealed {
-    /// The seat's bid; none before it has bid.
-    pub bid: Option<u32>,
-}
-
 impl CopyPart for Bidding {
     fn copy(&self, alloc: Global) -> Result<Self, NoMemory> {
         let boasts = self.boasts.copy(alloc)?;
@@ -39,18 +27,6 @@ impl CopyPart for Bidding {
             None => None,
         };
         Ok(Bidding { boasts, revealed })
-    }
-}
-
-impl CopyPart for NoSecret {
-    fn copy(&self, alloc: Global) -> Result<Self, NoMemory> {
-        Ok(*self)
-    }
-}
-
-impl CopyPart for Sealed {
-    fn copy(&self, alloc: Global) -> Result<Self, NoMemory> {
-        Ok(*self)
     }
 }
 
@@ -87,72 +63,29 @@ impl Part for Bidding {
     }
 }
 
-impl Part for NoSecret {
-    ghost use Rattle.std.specs.Prelude.{refl};
+/// A seat's bid.
+impl Part for Sealed<u32> {
+    ghost use Rattle.card_games.specs.FloatFree.{sealed_bid_float_free};
 
-    ghost value = { no_secret_value };
+    ghost value = { sealed_bid_value };
 
-    ghost read = { read_no_secret };
+    ghost read = { read_sealed_bid };
 
-    ghost float_free = { λ _. refl };
-
-    fn to_json(&self, alloc: Global) -> Result<Value, AllocError> {
-        Ok(Value::Null)
-    }
-
-    fn from_json(alloc: Global, v: &Value) -> Result<Option<Self>, NoMemory> {
-        Ok(None)
-    }
-
-    fn same(&self, other: &Self) -> bool {
-        true
-    }
-}
-
-impl Part for Sealed {
-    ghost use Rattle.card_games.specs.FloatFree.{sealed_float_free};
-
-    ghost value = { sealed_value };
-
-    ghost read = { read_sealed };
-
-    ghost float_free = { sealed_float_free };
+    ghost float_free = { sealed_bid_float_free };
 
     fn to_json(&self, alloc: Global) -> Result<Value, AllocError> {
-        let bid = self.bid.to_json(alloc)?;
+        let bid = self.item.to_json(alloc)?;
         json!(in alloc; {"bid": bid})
     }
 
     fn from_json(alloc: Global, v: &Value) -> Result<Option<Self>, NoMemory> {
-        if extra_field(v, &["bid"]) {
-            return Ok(None);
-        }
-        match member(alloc, v, "bid")? {
-            Some(bid) => Ok(Some(Sealed { bid })),
+        match lone_member(alloc, v, "bid")? {
+            Some(item) => Ok(Some(Sealed { item })),
             None => Ok(None),
         }
     }
 
     fn same(&self, other: &Self) -> bool {
-        self.bid.same(&other.bid)
-    }
-}
-
-/// An entry counts for its bid.
-impl Worth for Option<Sealed> {
-    ghost worth = { amount };
-
-    fn worth(&self) -> u32 {
-        bid_of(self).unwrap_or(0)
-    }
-}
-
-/// The bid of an entry, where it is there and has one.
-pub(crate) fn bid_of(entry: &Option<Sealed>) -> Option<u32>
-    ensures { result ≡ bid_of entry.now }
-{
-    match entry {
-        Some(sealed) => sealed.bid,
-        None => None,
+        self.item.same(&other.item)
     }
 }

@@ -1,19 +1,23 @@
 //! Blind Bid for two to eight seats.
 
-ghost use Rattle.std.specs.Prelude.{◌≡◌, ◌<◌, ℕ, List as Items, [], length, map, slice_get, unwrap_or, IfOk};
-ghost use Rattle.card_games.specs.BlindBid.{Bids, all_bid, amount, bid, bid_end, bid_offers, bid_sheet, boast, have_bids, have_seats, may_bid, no_bids, read_bids, revealed};
+ghost use Rattle.std.specs.Prelude.{◌≡◌, ◌<◌, ℕ, List as Items, [], length, slice_get, unwrap_or, IfOk};
+ghost use Rattle.card_games.specs.BlindBid.{Bids, bid, bid_end, bid_offers, bid_sheet, boast, have_bidders, is_bid, no_bids, read_bids, revealed};
+ghost use Rattle.card_games.specs.Sealed.{seal};
 ghost use Rattle.game_trait.specs.Gives.{Gives};
 ghost use Rattle.serde_json.specs.View.{view};
 
-use crate::bids::{Bidding, NoSecret, Sealed, bid_of};
-use crate::greatest::{Worth, one_greatest};
+use crate::bids::Bidding;
 use crate::json::Part;
 use crate::lists::{changed, copied_split};
 use crate::offers::offer;
+use crate::sealed::{
+    NoSecret, Sealed, are_seats, may_seal, seal, sealed_end, sealing_specs, sealing_stages,
+    sealing_turn, shown_items, unsealed,
+};
 use dice_words::Tape;
 use game_sheet::{
-    Args, Ctx, EventQueue, List, MoveId, MoveRow, NoMemory, Order, Outcome, PhaseId, Place, Seat,
-    Sheet, SpecId, SpecRow, StageId, StageRow, Text, TurnRow, unbroken,
+    Arg, Args, Ctx, EventQueue, List, MoveId, MoveRow, NoMemory, Outcome, PhaseId, Seat, Sheet,
+    Text, unbroken,
 };
 use game_trait::{Game, Halt, HookHalt, may_be_offered};
 use secret_strip::{CopyPart, Split};
@@ -22,7 +26,7 @@ use std::alloc::Global;
 use std::marker::Model;
 
 /// The state: boasts for everybody, and a bid for each seat alone.
-pub type Bids = Split<Bidding, NoSecret, Sealed>;
+pub type Bids = Split<Bidding, NoSecret, Sealed<u32>>;
 
 /// The game, which holds its sheet.
 #[derive(Drop)]
@@ -57,15 +61,10 @@ fn make_sheet(alloc: Global) -> Result<Sheet, NoMemory>
         max_seats: 8,
         moves: make_moves(alloc)?,
         base: List::from_slice(alloc, &[MoveId::at(0), MoveId::at(1)])?,
-        turn: TurnRow {
-            order: Order::Default,
-            min_moves: 0,
-            max_moves: None,
-            active: Some(SpecId::at(0)),
-        },
+        turn: sealing_turn(),
         phases: List::new(alloc),
-        stages: make_stages(alloc)?,
-        specs: make_specs(alloc)?,
+        stages: sealing_stages(alloc, "bid")?,
+        specs: sealing_specs(alloc)?,
         events: List::new(alloc),
     })
 }
@@ -91,89 +90,51 @@ fn make_moves(alloc: Global) -> Result<List<MoveRow>, NoMemory>
     Ok(rows)
 }
 
-fn make_stages(alloc: Global) -> Result<List<StageRow>, NoMemory>
-    ensures { IfOk result (λ rows. rows ≡ bid_sheet.stages) }
-{
-    let mut rows = List::new(alloc);
-    rows.push(StageRow {
-        name: Text::from_str(alloc, "bid")?,
-        next: None,
-        moves: None,
-    })?;
-    Ok(rows)
-}
-
-fn make_specs(alloc: Global) -> Result<List<SpecRow>, NoMemory>
-    ensures { IfOk result (λ rows. rows ≡ bid_sheet.specs) }
-{
-    let mut rows = List::new(alloc);
-    rows.push(SpecRow {
-        current: None,
-        others: None,
-        all: Some(Place {
-            stage: Some(StageId::at(0)),
-        }),
-        value: List::new(alloc),
-        min_moves: 1,
-        max_moves: Some(1),
-        revert: false,
-        next: None,
-    })?;
-    Ok(rows)
-}
-
 /// No boast and no bid yet.
 fn no_bids(alloc: Global, seats: u8) -> Result<Bids, NoMemory>
     ensures { IfOk result (λ g. g ≡ no_bids seats) }
 {
     let boasts = vec![in alloc; 0u32; seats as usize]?;
-    let players = vec![in alloc; Some(Sealed { bid: None }); seats as usize]?;
     Ok(Split {
         common: Bidding {
             boasts: List::from_vec(boasts),
             revealed: None,
         },
         secret: None,
-        players: List::from_vec(players),
+        players: unsealed(alloc, seats)?,
     })
 }
 
 /// A seat seals a bid of 1 to 100, once.
-fn bid(alloc: Global, g: &Bids, seat: Seat, args: &[i32]) -> Result<Bids, Halt>
-    ensures { (words : Items ℕ) → Gives result words [] (bid g.now seat args.now words) }
+fn bid(alloc: Global, g: &Bids, seat: Seat, args: &[Arg]) -> Result<Bids, Halt>
+    ensures { (words : Items ℕ) → Gives result words words [] (bid g.now seat args.now words) }
 {
     match args {
-        [n] if *n >= 1 && *n <= 100 && may_bid(g, seat) => {
-            let sealed = Sealed {
-                bid: Some(*n as u32),
-            };
-            Ok(Split {
-                common: g.common.copy(alloc)?,
-                secret: g.secret,
-                players: changed(alloc, g.players.as_slice(), seat as usize, Some(sealed))?,
-            })
-        }
+        [Arg::Whole(n)] if *n >= 0 => seal_bid(alloc, g, seat, *n as u32),
         _ => Err(Halt::Invalid),
     }
 }
 
-/// Whether a seat's entry is there and has no bid.
-fn may_bid(g: &Bids, seat: Seat) -> bool
-    ensures { result ≡ may_bid (slice_get g.now.players seat) }
+fn seal_bid(alloc: Global, g: &Bids, seat: Seat, n: u32) -> Result<Bids, Halt>
+    ensures { (words : Items ℕ) → Gives result words words [] (seal (is_bid n) g.now seat n words) }
 {
-    match g.players.get(seat as usize) {
-        Some(Some(entry)) => entry.bid.is_none(),
-        _ => false,
-    }
+    seal(alloc, is_bid(n), g, seat, n)
+}
+
+/// A bid is 1 to 100.
+fn is_bid(n: u32) -> bool
+    ensures { result ≡ is_bid n }
+{
+    n >= 1 && n <= 100
 }
 
 /// A seat boasts with 0 to 9, as often as it likes.
-fn boast(alloc: Global, g: &Bids, seat: Seat, args: &[i32]) -> Result<Bids, Halt>
-    ensures { (words : Items ℕ) → Gives result words [] (boast g.now seat args.now words) }
+fn boast(alloc: Global, g: &Bids, seat: Seat, args: &[Arg]) -> Result<Bids, Halt>
+    ensures { (words : Items ℕ) → Gives result words words [] (boast g.now seat args.now words) }
 {
     let boasts = g.common.boasts.as_slice();
     match args {
-        [n] if *n >= 0 && *n <= 9 && (seat as usize) < boasts.len() => Ok(Split {
+        [Arg::Whole(n)] if *n >= 0 && *n <= 9 && (seat as usize) < boasts.len() => Ok(Split {
             common: Bidding {
                 boasts: changed(alloc, boasts, seat as usize, *n as u32)?,
                 revealed: g.common.copy(alloc)?.revealed,
@@ -185,72 +146,57 @@ fn boast(alloc: Global, g: &Bids, seat: Seat, args: &[i32]) -> Result<Bids, Halt
     }
 }
 
-/// Whether each of at most eight entries is there and has a bid.
-fn all_bid(players: &[Option<Sealed>]) -> bool
-    ensures { result ≡ all_bid players.now }
-{
-    players.len() <= 8 && have_bids(players)
-}
-
-fn have_bids(players: &[Option<Sealed>]) -> bool
-    ensures { result ≡ have_bids players.now }
-{
-    players.iter().all(|entry| bid_of(entry).is_some())
-}
-
-/// Once all have bid, the one greatest bid wins; two such bids are a draw.
-fn outcome(g: &Bids) -> Option<Outcome>
-    ensures { result ≡ bid_end g.now }
-{
-    let players = g.players.as_slice();
-    if all_bid(players) {
-        Some(one_greatest(players))
-    } else {
-        None
-    }
-}
-
 /// The state with all bids shown; none where not all have bid.
 fn reveal(alloc: Global, g: &Bids) -> Result<Option<Bids>, NoMemory>
     ensures { IfOk result (λ o. unwrap_or o g.now ≡ revealed g.now) }
 {
-    let players = g.players.as_slice();
-    if !all_bid(players) {
+    let Some(bids) = shown_items(alloc, g.players.as_slice())? else {
         return Ok(None);
-    }
+    };
     Ok(Some(Split {
         common: Bidding {
             boasts: g.common.boasts.copy(alloc)?,
-            revealed: Some(amounts(alloc, players)?),
+            revealed: Some(bids),
         },
         secret: g.secret,
         players: g.players.copy(alloc)?,
     }))
 }
 
-/// What each entry bids.
-fn amounts(alloc: Global, players: &[Option<Sealed>]) -> Result<List<u32>, NoMemory>
-    ensures { IfOk result (λ l. l ≡ map amount players.now) }
-{
-    let mut amounts = Vec::new(alloc);
-    for entry in players {
-        amounts.push(entry.worth())?;
-    }
-    Ok(List::from_vec(amounts))
-}
-
 /// The bids that are offered.
-const BIDS: [i32; 10] = [10, 20, 30, 40, 50, 60, 70, 80, 90, 100];
+const BIDS: [Arg; 10] = [
+    Arg::Whole(10),
+    Arg::Whole(20),
+    Arg::Whole(30),
+    Arg::Whole(40),
+    Arg::Whole(50),
+    Arg::Whole(60),
+    Arg::Whole(70),
+    Arg::Whole(80),
+    Arg::Whole(90),
+    Arg::Whole(100),
+];
 
 /// The boasts that are offered.
-const BOASTS: [i32; 10] = [0, 1, 2, 3, 4, 5, 6, 7, 8, 9];
+const BOASTS: [Arg; 10] = [
+    Arg::Whole(0),
+    Arg::Whole(1),
+    Arg::Whole(2),
+    Arg::Whole(3),
+    Arg::Whole(4),
+    Arg::Whole(5),
+    Arg::Whole(6),
+    Arg::Whole(7),
+    Arg::Whole(8),
+    Arg::Whole(9),
+];
 
 /// The bids and the boasts that a seat is offered where it hasn't bid.
 fn options(alloc: Global, g: &Bids, seat: Seat) -> Result<List<(MoveId, Args)>, NoMemory>
     ensures { IfOk result (λ offers. offers ≡ bid_offers g.now seat) }
 {
     let mut offers = List::new(alloc);
-    if may_bid(g, seat) {
+    if may_seal(g.players.as_slice(), seat) {
         offer(&mut offers, MoveId::at(0), &BIDS)?;
         offer(&mut offers, MoveId::at(1), &BOASTS)?;
     }
@@ -262,27 +208,22 @@ fn from_value(alloc: Global, v: &Value) -> Result<Option<Bids>, NoMemory>
     ensures { IfOk result (λ g. g ≡ read_bids (view v.now)) }
 {
     match Bids::from_json(alloc, v)? {
-        Some(g) if have_seats(&g) => Ok(Some(g)),
+        Some(g) if have_bidders(&g) => Ok(Some(g)),
         _ => Ok(None),
     }
 }
 
 /// Whether one to eight seats have a boast each, an entry each, and a bid each where the bids are shown.
-fn have_seats(g: &Bids) -> bool
-    ensures { result ≡ have_seats g.now }
+fn have_bidders(g: &Bids) -> bool
+    ensures { result ≡ have_bidders g.now }
 {
-    let seats = g.players.len();
-    let shown = match &g.common.revealed {
-        Some(bids) => bids.len(),
-        None => seats,
-    };
-    seats >= 1 && seats <= 8 && g.common.boasts.len() == seats && shown == seats
+    let shown = g.common.revealed.as_ref().map(|bids| bids.len());
+    g.common.boasts.len() == g.players.len() && are_seats(8, g.players.len(), shown)
 }
 
 impl Game for BlindBid {
-    ghost use Rattle.card_games.specs.BidLaws.{blind_bid_lawful};
     ghost use Rattle.card_games.specs.BlindBid.{blind_bid};
-    ghost use Rattle.card_games.specs.InSheet.{blind_bid_in_sheet};
+    ghost use Rattle.card_games.specs.BidLaws.{blind_bid_in_sheet, blind_bid_lawful};
 
     type G = Bids;
 
@@ -391,7 +332,7 @@ impl Game for BlindBid {
     }
 
     fn end_if(&self, g: &Bids, ctx: &Ctx) -> Option<Outcome> {
-        outcome(g)
+        sealed_end(g.players.as_slice())
     }
 
     fn turn_end_if(&self, g: &Bids, ctx: &Ctx) -> bool {

@@ -1,12 +1,12 @@
 //! The state of High Hand.
 
 ghost use Rattle.std.specs.Prelude.{◌≡◌, IfOk};
-ghost use Rattle.card_games.specs.Json.{read_member};
+ghost use Rattle.card_games.specs.Json.{read_lone};
 ghost use Rattle.serde_json.specs.View.{view};
 ghost use Rattle.card_games.specs.HighHand.{deck_value, hand_value, height, read_cards, read_deck, read_hand, read_table, table_value};
 
 use crate::greatest::Worth;
-use crate::json::{Part, member};
+use crate::json::{Part, lone_member, member};
 use game_sheet::{List, NoMemory};
 use json_tree::extra_field;
 use secret_strip::CopyPart;
@@ -128,10 +128,7 @@ impl Part for Hand {
     }
 
     fn from_json(alloc: Global, v: &Value) -> Result<Option<Self>, NoMemory> {
-        if extra_field(v, &["hand"]) {
-            return Ok(None);
-        }
-        match cards_of(alloc, v, "hand")? {
+        match lone_cards(alloc, v, "hand")? {
             Some(cards) => Ok(Some(Hand { cards })),
             None => Ok(None),
         }
@@ -157,10 +154,7 @@ impl Part for Deck {
     }
 
     fn from_json(alloc: Global, v: &Value) -> Result<Option<Self>, NoMemory> {
-        if extra_field(v, &["deck"]) {
-            return Ok(None);
-        }
-        match cards_of(alloc, v, "deck")? {
+        match lone_cards(alloc, v, "deck")? {
             Some(cards) => Ok(Some(Deck { cards })),
             None => Ok(None),
         }
@@ -183,11 +177,11 @@ impl Worth for Option<u8> {
     }
 }
 
-/// The cards that the member of an object with this name holds, at most 52.
-fn cards_of(alloc: Global, v: &Value, name: &str) -> Result<Option<List<u8>>, NoMemory>
-    ensures { IfOk result (λ cards. cards ≡ read_member name.now read_cards (view v.now)) }
+/// The cards that an object holds as its one member, of this name; at most 52.
+fn lone_cards(alloc: Global, v: &Value, name: &str) -> Result<Option<List<u8>>, NoMemory>
+    ensures { IfOk result (λ cards. cards ≡ read_lone name.now read_cards (view v.now)) }
 {
-    match member::<List<u8>>(alloc, v, name)? {
+    match lone_member::<List<u8>>(alloc, v, name)? {
         Some(cards) if cards.len() <= 52 => Ok(Some(cards)),
         _ => Ok(None),
     }

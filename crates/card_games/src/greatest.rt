@@ -1,9 +1,9 @@
 //! Who has the greatest number.
 
-ghost use Rattle.std.specs.Prelude.{◌≡◌, ◌<◌, ◌≤◌, length, IfSome};
+ghost use Rattle.std.specs.Prelude.{◌≡◌, ◌<◌, length, IfSome};
 ghost use Rattle.card_games.specs.Greatest.{count_greatest, first_greatest, greatest, one_greatest};
 
-use game_sheet::Outcome;
+use game_sheet::{Outcome, Short};
 
 /// An item that counts for a number.
 pub(crate) trait Worth {
@@ -21,6 +21,17 @@ impl Worth for u32 {
 
     fn worth(&self) -> u32 {
         *self
+    }
+}
+
+/// A text counts for its bytes.
+impl Worth for Short {
+    ghost use Rattle.std.specs.Prelude.{length};
+
+    ghost worth = { λ text. length text };
+
+    fn worth(&self) -> u32 {
+        self.as_str().len() as u32
     }
 }
 
@@ -48,16 +59,15 @@ fn count_greatest<W: Worth>(items: &[W]) -> usize
     items.iter().filter(|item| item.worth() == most).count()
 }
 
-/// The one seat whose item counts for the most wins; where several do, nobody wins.
+/// The one seat whose item counts for the most wins; where several do, nobody wins. A place past the sixteenth is no seat's.
 pub(crate) fn one_greatest<W: Worth>(items: &[W]) -> Outcome
-    requires { length items.now ≤ 8 }
     ensures { result ≡ one_greatest W.worth items.now }
 {
     if count_greatest(items) != 1 {
         return Outcome::Draw;
     }
     match first_greatest(items) {
-        Some(place) => Outcome::Winner(place as u8),
-        None => Outcome::Draw,
+        Some(place) if place < 16 => Outcome::Winner(place as u8),
+        _ => Outcome::Draw,
     }
 }

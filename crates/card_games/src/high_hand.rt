@@ -15,8 +15,8 @@ use crate::json::Part;
 use crate::lists::{changed, copied_split, with_entry};
 use dice_words::Tape;
 use game_sheet::{
-    Args, Ctx, EventKind, EventQueue, List, MoveId, MoveRow, NoMemory, Order, Outcome, PhaseId,
-    PhaseRow, Seat, Sheet, Text, TurnRow, unbroken,
+    Arg, Args, Ctx, EventKind, EventQueue, List, MoveId, MoveRow, NoMemory, Order, Outcome,
+    PhaseId, PhaseRow, Seat, Sheet, Text, TurnRow, unbroken,
 };
 use game_trait::{Game, Halt, HookHalt, may_be_offered};
 use secret_strip::{CopyPart, Split};
@@ -237,8 +237,8 @@ fn with_deck(mut g: Cards, deck: List<u8>) -> Cards
 }
 
 /// The first card of the deck goes to the end of the mover's hand.
-fn draw(alloc: Global, g: &Cards, seat: Seat, args: &[i32]) -> Result<Cards, Halt>
-    ensures { (words : Items ℕ) → Gives result words [] (draw g.now seat args.now words) }
+fn draw(alloc: Global, g: &Cards, seat: Seat, args: &[Arg]) -> Result<Cards, Halt>
+    ensures { (words : Items ℕ) → Gives result words words [] (draw g.now seat args.now words) }
 {
     if !args.is_empty() {
         return Err(Halt::Invalid);
@@ -251,7 +251,7 @@ fn draw(alloc: Global, g: &Cards, seat: Seat, args: &[i32]) -> Result<Cards, Hal
 
 /// The first card of this deck goes to the end of the mover's hand.
 fn draw_to(alloc: Global, g: &Cards, seat: Seat, deck: &[u8]) -> Result<Cards, Halt>
-    ensures { (words : Items ℕ) → Gives result words [] (draw_to g.now seat (hand_of g.now seat) deck.now words) }
+    ensures { (words : Items ℕ) → Gives result words words [] (draw_to g.now seat (hand_of g.now seat) deck.now words) }
 {
     let Some(hand) = hand_of(g, seat) else {
         return Err(Halt::Invalid);
@@ -286,17 +286,17 @@ fn drawn(
 }
 
 /// A card of the mover's hand, whose place there is the one argument, goes to its free place on the table.
-fn lay(alloc: Global, g: &Cards, seat: Seat, args: &[i32]) -> Result<Cards, Halt>
-    ensures { (words : Items ℕ) → Gives result words [] (lay g.now seat args.now words) }
+fn lay(alloc: Global, g: &Cards, seat: Seat, args: &[Arg]) -> Result<Cards, Halt>
+    ensures { (words : Items ℕ) → Gives result words words [] (lay g.now seat args.now words) }
 {
     match args {
-        [place] if *place >= 0 => lay_from(alloc, g, seat, *place as usize),
+        [Arg::Whole(place)] if *place >= 0 => lay_from(alloc, g, seat, *place as usize),
         _ => Err(Halt::Invalid),
     }
 }
 
 fn lay_from(alloc: Global, g: &Cards, seat: Seat, place: usize) -> Result<Cards, Halt>
-    ensures { (words : Items ℕ) → Gives result words [] (lay_from g.now seat place (hand_of g.now seat) words) }
+    ensures { (words : Items ℕ) → Gives result words words [] (lay_from g.now seat place (hand_of g.now seat) words) }
 {
     match hand_of(g, seat) {
         Some(hand) => lay_card(alloc, g, seat, place, hand),
@@ -305,7 +305,7 @@ fn lay_from(alloc: Global, g: &Cards, seat: Seat, place: usize) -> Result<Cards,
 }
 
 fn lay_card(alloc: Global, g: &Cards, seat: Seat, place: usize, hand: &[u8]) -> Result<Cards, Halt>
-    ensures { (words : Items ℕ) → Gives result words [] (lay_card g.now seat place hand.now (slice_get hand.now place) words) }
+    ensures { (words : Items ℕ) → Gives result words words [] (lay_card g.now seat place hand.now (slice_get hand.now place) words) }
 {
     let Some(card) = hand.get(place) else {
         return Err(Halt::Invalid);
@@ -316,7 +316,7 @@ fn lay_card(alloc: Global, g: &Cards, seat: Seat, place: usize, hand: &[u8]) -> 
 
 /// A card goes to the mover's free place on the table, and this hand is left to the mover.
 fn lay_down(alloc: Global, g: &Cards, seat: Seat, card: u8, left: List<u8>) -> Result<Cards, Halt>
-    ensures { (words : Items ℕ) → Gives result words [] (lay_down g.now seat card left words) }
+    ensures { (words : Items ℕ) → Gives result words words [] (lay_down g.now seat card left words) }
 {
     if left.len() > 52 || !is_free(g, seat) {
         return Err(Halt::Invalid);
@@ -410,7 +410,7 @@ fn outcome(g: &Cards, phase: Option<PhaseId>) -> Option<Outcome>
     }
 }
 
-/// Whether the hands and the table are empty in the second phase, at a table of at most eight seats.
+/// Whether the hands and the table are empty in the second phase.
 fn is_played(g: &Cards, phase: Option<PhaseId>) -> bool
     ensures { result ≡ is_played g.now phase }
 {
@@ -419,7 +419,6 @@ fn is_played(g: &Cards, phase: Option<PhaseId>) -> bool
             phase.place() == 1
                 && are_empty(g.common.hands.as_slice())
                 && is_clear(g.common.places.as_slice())
-                && g.common.scores.len() <= 8
         }
         None => false,
     }
@@ -475,7 +474,7 @@ fn lays(alloc: Global, count: u8) -> Result<List<(MoveId, Args)>, NoMemory>
     let mut offers = List::new(alloc);
     for place in 0..count {
         let mut args = Args::new();
-        args.push(place as i32);
+        args.push(Arg::Whole(place as i32));
         offers.push((MoveId::at(1), args))?;
     }
     Ok(offers)
@@ -504,9 +503,8 @@ fn have_places(g: &Cards) -> bool
 }
 
 impl Game for HighHand {
-    ghost use Rattle.card_games.specs.CardLaws.{high_hand_lawful};
     ghost use Rattle.card_games.specs.HighHand.{high_hand};
-    ghost use Rattle.card_games.specs.InSheet.{high_hand_in_sheet};
+    ghost use Rattle.card_games.specs.CardLaws.{high_hand_in_sheet, high_hand_lawful};
 
     type G = Cards;
 

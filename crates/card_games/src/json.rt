@@ -1,11 +1,11 @@
 //! The parts of a state: written as JSON, read back, and compared.
 
 ghost use Rattle.std.specs.Prelude.{◌≡◌, ◌↔◌, false, length, IfOk, IsTrue};
-ghost use Rattle.card_games.specs.Json.{list_value, number_value, option_value, read_count, read_items, read_list, read_member, read_number, read_option, read_split, split_value};
+ghost use Rattle.card_games.specs.Json.{list_value, number_value, option_value, read_count, read_items, read_list, read_lone, read_member, read_number, read_option, read_split, read_text, split_value, text_value};
 ghost use Rattle.serde_json.specs.View.{items_view, view};
 ghost use Rattle.serde_json.specs.Written.{has_float};
 
-use game_sheet::{List, NoMemory};
+use game_sheet::{List, NoMemory, Short};
 use json_tree::extra_field;
 use secret_strip::Split;
 use serde_json::{Value, json};
@@ -85,6 +85,31 @@ impl Part for u32 {
 
     fn same(&self, other: &Self) -> bool {
         *self == *other
+    }
+}
+
+impl Part for Short {
+    ghost use Rattle.card_games.specs.FloatFree.{text_float_free};
+
+    ghost value = { text_value };
+
+    ghost read = { read_text };
+
+    ghost float_free = { text_float_free };
+
+    fn to_json(&self, alloc: Global) -> Result<Value, AllocError> {
+        Ok(Value::String(String::from_str(alloc, self.as_str())?))
+    }
+
+    fn from_json(alloc: Global, v: &Value) -> Result<Option<Self>, NoMemory> {
+        match v.as_str() {
+            Some(text) => Ok(Short::of(text.as_bytes())),
+            None => Ok(None),
+        }
+    }
+
+    fn same(&self, other: &Self) -> bool {
+        self.as_str() == other.as_str()
     }
 }
 
@@ -225,6 +250,20 @@ pub(crate) fn member<T: Part>(alloc: Global, v: &Value, name: &str) -> Result<Op
         Some(member) => T::from_json(alloc, member),
         None => Ok(None),
     }
+}
+
+/// The part that an object holds as its one member, of this name; none where there is no such member, another one or no such part.
+pub(crate) fn lone_member<T: Part>(
+    alloc: Global,
+    v: &Value,
+    name: &str,
+) -> Result<Option<T>, NoMemory>
+    ensures { IfOk result (λ part. part ≡ read_lone name.now T.read (view v.now)) }
+{
+    if extra_field(v, &[name]) {
+        return Ok(None);
+    }
+    member(alloc, v, name)
 }
 
 /// Whether two lists of one length have the same items.

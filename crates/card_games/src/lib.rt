@@ -3,6 +3,7 @@
 
 mod bids;
 mod blind_bid;
+mod captions;
 mod cards;
 mod dealt;
 mod greatest;
@@ -10,11 +11,16 @@ mod high_hand;
 mod json;
 mod lists;
 mod offers;
+mod sealed;
+mod texts;
 
-pub use bids::{Bidding, NoSecret, Sealed};
+pub use bids::Bidding;
 pub use blind_bid::{Bids, BlindBid};
+pub use captions::{Captions, Texts};
 pub use cards::{CardTable, Deck, Hand};
 pub use dealt::Dealt;
 pub use high_hand::{Cards, HighHand};
 pub use json::Part;
 pub use lists::copied_split;
+pub use sealed::{NoSecret, Sealed};
+pub use texts::Shown;
