@@ -1,6 +1,7 @@
 pub mod Answers
 pub mod Apart
 pub mod Aside
+pub mod Attachments
 pub mod Clauses
 pub mod Cutting
 pub mod Growing

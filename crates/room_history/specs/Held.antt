@@ -8,21 +8,24 @@ use Rattle.game_sheet.specs.declared.act.Bye.{Bye}
 use Rattle.game_sheet.specs.declared.act.Bye.TheVariants as bye
 use Rattle.player_sight.specs.SnapshotData.{snapshot_data}
 use Rattle.room_object.specs.Entry.{Entry}
-use Rattle.seat_roster.specs.Roster.{is_empty}
+use Rattle.seat_roster.specs.Roster.{is_empty, join, rename, leave}
 use Rattle.wire_json.specs.declared.protocol.Protocol.{Protocol}
 use Rattle.room_history.specs.Does.{is_left}
 use Rattle.room_history.specs.Match.{Match, number_of}
 use Rattle.room_history.specs.Message.{Message, Sync, Ok as Accepts, No, line}
 use Rattle.room_history.specs.Outbox.{Attachment, outbox_with, attachment_of}
-use Rattle.room_history.specs.Piece.{Piece, Line, End, State, Open, Ended, Closed}
-use Rattle.room_history.specs.Reply.{Fate, Goes, Turned}
+use Rattle.room_history.specs.Piece.{Piece, Line, Mark, End, State, Open, Ended, Closed}
+use Rattle.room_history.specs.Reply.{Fate, Unheard, Goes, Turned, reply_by, created_match, named_match, looked_match, reseated_match, attached_match, fate_in, submit_reply, match_row}
 use Rattle.room_history.specs.Room.{room_of}
+use Rattle.room_history.specs.Session.{detach_reply}
 use Rattle.room_history.specs.Showing.{update_message}
 use Rattle.room_history.specs.Shown.{snapshot}
 use Rattle.game_sheet.specs.Viewer.{Viewer, seat_of}
 use Rattle.room_history.specs.declared.call.RoomCall.{RoomCall}
+use Rattle.room_history.specs.declared.call.RoomCall.TheVariants.{Create, Join, Rename, Leave, Look, Attach, Submit, Take, Detach}
 use Rattle.room_history.specs.declared.reply.RoomReply.{RoomReply}
 use Rattle.room_history.specs.declared.reply.RoomReply.TheVariants as reply
+use Rattle.room_history.specs.declared.submission.Submission.{Submission}
 
 -- how a pass's latest session stands
 abbrev pub state_by : Option Bye → State
@@ -77,6 +80,42 @@ module _ {X G : Type 0} (rules : X → Rules G) (room : ℕ) where
       end = None;
     };
   }
+
+  abbrev pub attachment_after_attach : Viewer → Protocol → Result (Match X G) RoomReply → Option Attachment → Option Attachment
+  attachment_after_attach viewer protocol (Ok m) a = Some (new_attachment viewer protocol m)
+  attachment_after_attach viewer protocol (Err why) a = a
+
+  -- what becomes of a submission, by the attachment of the pass that makes it
+  abbrev pub attachment_fate : Option (Match X G) → Option Attachment → Submission → Fate X G
+  attachment_fate standing None s = Unheard
+  attachment_fate standing (Some a) s = fate_in rules room standing (state_by a.outbox.end) a.viewer s
+
+  -- what a call makes of a pass's attachment, by the attachment of the pass that makes it and whether both are one
+  abbrev pub attachment_after : Option (Match X G) → Option Attachment → Bool → Option Attachment → RoomCall X → Option Attachment
+  attachment_after standing caller own a (Leave serial seat key) =
+      attachment_after_leave seat (reseated_match (named_match standing serial) (λ roster. leave roster seat key)) a
+  attachment_after standing caller own a (Attach serial viewer protocol) =
+      if own then attachment_after_attach viewer protocol (attached_match standing (attachment_state caller) serial viewer) a else a
+  attachment_after standing caller own a (Submit s) = attachment_after_submission rules standing (attachment_fate standing caller s) own s.ticket a
+  attachment_after standing caller own a Take = if own then attachment_with Mark a else a
+  attachment_after standing caller own a Detach = if own then None else a
+  attachment_after standing caller own a call = a
+
+  -- the reply to a call, by the attachment of the pass that makes it
+  abbrev pub reply_held : ℕ → Option (Match X G) → Option Attachment → RoomCall X → RoomReply
+  reply_held serials standing a (Create game seats seed) = reply_by (λ (m : Match X G). reply.Created m.serial) (created_match rules serials standing game seats seed)
+  reply_held serials standing a (Join serial seat name key) =
+      reply_by (λ (m : Match X G). reply.Joined) (reseated_match (named_match standing serial) (λ roster. join roster seat name key))
+  reply_held serials standing a (Rename serial seat key name) =
+      reply_by (λ (m : Match X G). reply.Renamed) (reseated_match (named_match standing serial) (λ roster. rename roster seat key name))
+  reply_held serials standing a (Leave serial seat key) =
+      reply_by (λ (m : Match X G). reply.Left) (reseated_match (named_match standing serial) (λ roster. leave roster seat key))
+  reply_held serials standing a (Look serial) = reply_by (λ m. reply.Looked (match_row rules room m)) (looked_match standing serial)
+  reply_held serials standing a (Attach serial viewer protocol) =
+      reply_by (λ (m : Match X G). reply.Attached) (attached_match standing (attachment_state a) serial viewer)
+  reply_held serials standing a (Submit s) = submit_reply (attachment_fate standing a s)
+  reply_held serials standing a Take = attachment_take_reply a
+  reply_held serials standing a Detach = detach_reply (attachment_state a)
 
   -- what is held of each pass is what its latest session's stream leaves waiting
   abbrev pub HoldsSessions : List (ℕ × Attachment) → List (Entry (RoomCall X)) → Type 0

@@ -1,18 +1,20 @@
 //! Laws of rooms, over every history. There is nothing to run.
 
-ghost use Rattle.std.specs.Prelude.{◌≡◌, ◌∷◌, ℕ, Bool, true, false, List, None, Some};
+ghost use Rattle.std.specs.Prelude.{◌≡◌, ◌==◌, ◌∷◌, ℕ, Bool, true, false, List, None, Some};
 ghost use Rattle.room_object.specs.Entry.{Entry, entry};
 ghost use Rattle.wire_json.specs.declared.reason.Reason.{Reason};
 ghost use Rattle.wire_json.specs.declared.verdict.Verdict.TheVariants as verdict;
 ghost use Rattle.room_history.specs.Alike.{AreAlike, AreAlikeButForTakes, AreToldAlike, OwnCall, own_call};
 ghost use Rattle.room_history.specs.Course.{GoesOn};
+ghost use Rattle.room_history.specs.Held.{attachment_after, reply_held};
 ghost use Rattle.room_history.specs.Judgment.{SeesPresent, IsJudged};
 ghost use Rattle.room_history.specs.Match.{Match};
 ghost use Rattle.room_history.specs.News.{TellsSight};
 ghost use Rattle.room_history.specs.Others.{KeepsAll, KeepsOthers, TellsRefusal};
+ghost use Rattle.room_history.specs.Outbox.{attachment_of};
 ghost use Rattle.room_history.specs.Piece.{state_of};
 ghost use Rattle.room_history.specs.Removal.{IsOfSeat};
-ghost use Rattle.room_history.specs.Room.{latest_session, reply, room_of, session, standing};
+ghost use Rattle.room_history.specs.Room.{latest_session, reply, room_of, serials, session, standing};
 ghost use Rattle.room_history.specs.Sent.{IsToldOf, SendsReply};
 ghost use Rattle.room_history.specs.Session.{Session, is_looking, stream_of};
 ghost use Rattle.room_history.specs.Sight.{SeesMatch};
@@ -91,6 +93,17 @@ pub fn calls_leave_others<X: Game>(game: &X)
     ensures refused { (room : ℕ) (h : List (Entry (Asks X))) (pass : ℕ) (s : Asked) (number : ℕ) (reason : Reason)
         → reply X.rules room h (entry pass (ask.Submit s) false) ≡ answer.Verdict (verdict.No number reason) → TellsRefusal X.rules room h pass s number reason }
     ensures starved { (room : ℕ) (h : List (Entry (Asks X))) (pass : ℕ) (call : Asks X) → KeepsAll (room_of X.rules room h) (room_of X.rules room (entry pass call true ∷ h)) }
+{
+    let _game = game;
+}
+
+/// What a call makes of each pass's attachment, and its reply, are found from what is held: how many matches were made, the match
+/// that stands, and the attachments.
+pub fn rooms_go_by_what_is_held<X: Game>(game: &X)
+    ensures attached { (room : ℕ) (h : List (Entry (Asks X))) (pass q : ℕ) (call : Asks X) → attachment_of ((room_of X.rules room (entry pass call false ∷ h)).sessions q)
+        ≡ attachment_after X.rules room (standing X.rules room h) (attachment_of ((room_of X.rules room h).sessions pass)) (pass == q) (attachment_of ((room_of X.rules room h).sessions q)) call }
+    ensures replied { (room : ℕ) (h : List (Entry (Asks X))) (pass : ℕ) (call : Asks X) → reply X.rules room h (entry pass call false)
+        ≡ reply_held X.rules room (serials X.rules room h) (standing X.rules room h) (attachment_of ((room_of X.rules room h).sessions pass)) call }
 {
     let _game = game;
 }
