@@ -1,9 +1,8 @@
 //! One entry of the log, whole and as a viewer sees it.
 
-ghost use Rattle.std.specs.Prelude.{◌≡◌, IfOk};
+ghost use Rattle.std.specs.Prelude.{◌≡◌};
 
-use game_sheet::{Act, Args, NoMemory, Number, PhaseId, Seat, Sheet};
-use std::alloc::Global;
+use game_sheet::{Act, Args, Number, PhaseId, Seat, Sheet};
 
 /// An accepted action of a match, with the state that it was made on.
 #[derive(Drop)]
@@ -28,10 +27,10 @@ impl Entry {
     ghost use Rattle.move_log.specs.Redact.{conceals, without_args, redact};
 
     /// An equal entry.
-    pub fn copy(&self, _alloc: Global) -> Result<Entry, NoMemory>
-        ensures { IfOk result (λ e. e ≡ self.now) }
+    pub fn copy(&self) -> Entry
+        ensures { result ≡ self.now }
     {
-        Ok(Entry {
+        Entry {
             seat: self.seat,
             act: self.act.copy(),
             hidden: self.hidden,
@@ -39,19 +38,14 @@ impl Entry {
             turn: self.turn,
             phase: self.phase,
             words: self.words,
-        })
+        }
     }
 
     /// The entry as a viewer sees it: a seat, or a spectator where there is none.
     ///
     /// The count of words is 0. Another seat's move shows no arguments where its row on the sheet says `redact`.
-    pub fn redacted(
-        &self,
-        _alloc: Global,
-        sheet: &Sheet,
-        viewer: Option<Seat>,
-    ) -> Result<Entry, NoMemory>
-        ensures { IfOk result (λ e. e ≡ redact sheet.now viewer self.now) }
+    pub fn redacted(&self, sheet: &Sheet, viewer: Option<Seat>) -> Entry
+        ensures { result ≡ redact sheet.now viewer self.now }
     {
         let concealed = self.is_concealed(sheet, viewer);
         let act = if concealed {
@@ -59,7 +53,7 @@ impl Entry {
         } else {
             self.act.copy()
         };
-        Ok(Entry {
+        Entry {
             seat: self.seat,
             act,
             hidden: self.hidden || concealed,
@@ -67,7 +61,7 @@ impl Entry {
             turn: self.turn,
             phase: self.phase,
             words: 0,
-        })
+        }
     }
 
     fn is_concealed(&self, sheet: &Sheet, viewer: Option<Seat>) -> bool
