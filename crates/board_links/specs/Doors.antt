@@ -24,6 +24,10 @@ module _ {L : Type 0} where
   fails visit.Failed = true
   fails answer = false
 
+  abbrev pub starves : Visit L → Bool
+  starves visit.NoMemory = true
+  starves answer = false
+
   -- the link that comes, if any
   abbrev pub links_in : Visit L → List L
   links_in (visit.Came link) = link ∷ []

@@ -56,8 +56,8 @@ impl<L: Link> MemoryDoor<L> {
 }
 
 impl<L: Link> Door for MemoryDoor<L> {
-    ghost use Rattle.std.specs.Prelude.{◌≡◌, ◌≤◌, ◌+◌, ◌-◌, ◌++◌, ◌||◌, Some, vec_len};
-    ghost use Rattle.board_links.specs.Doors.{ComesFresh, Lets, VisitRaises, fails, gives, links_in, shuts};
+    ghost use Rattle.std.specs.Prelude.{◌≡◌, ◌≤◌, ◌+◌, ◌-◌, ◌++◌, ◌||◌, Some, false, vec_len};
+    ghost use Rattle.board_links.specs.Doors.{ComesFresh, Lets, VisitRaises, fails, gives, links_in, shuts, starves};
     ghost use Rattle.board_links.specs.Memory.{is_failing, next_count};
 
     type L = L;
@@ -82,6 +82,7 @@ impl<L: Link> Door for MemoryDoor<L> {
         ensures fresh { ComesFresh L.faults result }
         ensures told { Lets result (vec_len self.old.links) (Some (vec_len self.new.links)) }
         ensures fails { fails result ≡ is_failing self.old.failing (next_count self.old.calls) }
+        ensures memory { starves result ≡ false }
         ensures counts { (self.new.calls ≡ next_count self.old.calls) × (self.new.failing ≡ self.old.failing) }
         ensures links { self.old.links.items ≡ self.new.links.items ++ links_in result }
     {
