@@ -73,19 +73,13 @@ fn shown(act: &Act) -> usize {
 }
 
 /// What a viewer is shown of an action: whether it is hidden, how many arguments, and how many words.
-fn seen(
-    alloc: Global,
-    sheet: &Sheet,
-    act: Act,
-    viewer: Option<Seat>,
-) -> Result<(bool, usize, u32), NoMemory> {
+fn seen(sheet: &Sheet, act: Act, viewer: Option<Seat>) -> (bool, usize, u32) {
     let entry = entry(act);
-    let seen = entry.redacted(alloc, sheet, viewer);
+    let seen = entry.redacted(sheet, viewer);
     drop(entry);
-    let seen = seen?;
     let told = (seen.hidden, shown(&seen.act), seen.words);
     drop(seen);
-    Ok(told)
+    told
 }
 
 /// A bid or a boast, who looks, and what is seen of it.
@@ -98,51 +92,48 @@ const SEEN: [(u8, Option<Seat>, (bool, usize, u32)); 6] = [
     (1, None, (false, 1, 0)),
 ];
 
-fn are_seen(rt: &impl Abort, alloc: Global, sheet: &Sheet) -> Result<(), NoMemory> {
+fn are_seen(rt: &impl Abort, sheet: &Sheet) {
     for (place, viewer, told) in SEEN {
-        let seen = seen(alloc, sheet, of_forty(place), viewer)?;
+        let seen = seen(sheet, of_forty(place), viewer);
         assert!(rt; seen == told, "move {place} to {viewer:?}");
     }
-    Ok(())
-}
-
-/// Whether any action but a move is hidden from a spectator.
-fn others_are_hidden(alloc: Global, sheet: &Sheet) -> Result<bool, NoMemory> {
-    let event = seen(alloc, sheet, Act::Event(Event::EndPhase), None)?;
-    let undo = seen(alloc, sheet, Act::Undo, None)?;
-    let redo = seen(alloc, sheet, Act::Redo, None)?;
-    Ok(event.0 || undo.0 || redo.0)
-}
-
-#[test]
-fn other_actions_are_never_hidden(rt: HostRuntime) -> Result<(), Fail> {
-    let sheet = auction(rt.alloc())?;
-    let hidden = others_are_hidden(rt.alloc(), &sheet);
-    drop(sheet);
-    assert!(rt; !hidden?);
-    Ok(())
 }
 
 #[test]
 fn only_the_bidder_sees_a_bid(rt: HostRuntime) -> Result<(), Fail> {
     let sheet = auction(rt.alloc())?;
-    let seen = are_seen(&rt, rt.alloc(), &sheet);
+    are_seen(&rt, &sheet);
     drop(sheet);
-    Ok(seen?)
+    Ok(())
 }
 
-/// The numbers of an entry's copy: its seat, its state number, its turn and its words.
-fn copied(alloc: Global, entry: Entry) -> Result<[u32; 4], NoMemory> {
-    let copy = entry.copy(alloc);
-    drop(entry);
-    let copy = copy?;
-    let numbers = [u32::from(copy.seat), copy.number, copy.turn, copy.words];
-    drop(copy);
-    Ok(numbers)
+/// Whether any action but a move is hidden from a spectator.
+fn others_are_hidden(sheet: &Sheet) -> bool {
+    let event = seen(sheet, Act::Event(Event::EndPhase), None);
+    let undo = seen(sheet, Act::Undo, None);
+    let redo = seen(sheet, Act::Redo, None);
+    event.0 || undo.0 || redo.0
 }
 
 #[test]
-fn a_copy_is_the_whole_entry(rt: HostRuntime) -> Result<(), Fail> {
-    assert!(rt; copied(rt.alloc(), entry(of_forty(0)))? == [3, 5, 1, 7]);
+fn other_actions_are_never_hidden(rt: HostRuntime) -> Result<(), Fail> {
+    let sheet = auction(rt.alloc())?;
+    let hidden = others_are_hidden(&sheet);
+    drop(sheet);
+    assert!(rt; !hidden);
     Ok(())
+}
+
+/// The numbers of an entry's copy: its seat, its state number, its turn and its words.
+fn copied(entry: Entry) -> [u32; 4] {
+    let copy = entry.copy();
+    drop(entry);
+    let numbers = [u32::from(copy.seat), copy.number, copy.turn, copy.words];
+    drop(copy);
+    numbers
+}
+
+#[test]
+fn a_copy_is_the_whole_entry(rt: HostRuntime) {
+    assert!(rt; copied(entry(of_forty(0))) == [3, 5, 1, 7]);
 }
