@@ -11,7 +11,7 @@ use Rattle.room_history.specs.Piece.{Closed, Ended, Open, State, state_of}
 use Rattle.room_history.specs.Reply.{fate_in, game_answer, submit_reply}
 use Rattle.room_history.specs.Session.{Session, is_detached, number_in, session_state, stream_of, with_item}
 use Rattle.room_history.specs.Stream.{public_reason_on}
-use Rattle.room_history.specs.declared.submission.Submission.{Submission}
+use Rattle.wire_json.specs.declared.submission.Submission.{Submission}
 use Rattle.room_history.proofs.Keeps.{Head}
 use Rattle.room_history.proofs.Replies.{submission_answered, same_state}
 use Rattle.room_history.specs.Course.{IsOpen}

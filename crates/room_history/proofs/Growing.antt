@@ -8,7 +8,7 @@ use Rattle.room_history.specs.Piece.{End, Line, Mark, Piece, without_marks}
 use Rattle.room_history.specs.Showing.{Showing, showings_above, showings_up_to, snapshot_of_number}
 use Rattle.room_history.specs.Stream.{item_pieces, lines_of_showings, long_list, public_reason_on, verdict_pieces}
 use Rattle.game_sheet.specs.Viewer.{Viewer}
-use Rattle.room_history.specs.declared.submission.Submission.{Submission}
+use Rattle.wire_json.specs.declared.submission.Submission.{Submission}
 
 -- the newest told number is at most n
 abbrev pub TopBy : ℕ → List Showing → Type 0

@@ -8,7 +8,7 @@ use Rattle.room_history.specs.Match.{Match, number_of, table_of}
 use Rattle.room_history.specs.Rule.{has_key}
 use Rattle.room_history.specs.Verdict.{first_reason, game_reason, is_named, match_accepting, public_reason, with_act}
 use Rattle.game_sheet.specs.Viewer.{Viewer, seat_of}
-use Rattle.room_history.specs.declared.submission.Submission.{Submission}
+use Rattle.wire_json.specs.declared.submission.Submission.{Submission}
 use Rattle.room_history.proofs.RuleLaws.{IsAdmitted, public_admits, or_none}
 
 -- the match after one more accepted action

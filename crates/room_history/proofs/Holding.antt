@@ -21,7 +21,7 @@ use Rattle.room_history.specs.Shown.{snapshot}
 use Rattle.room_history.specs.Stream.{cut, public_reason_on, stream, verdict_pieces}
 use Rattle.room_history.specs.Verdict.{else_reason, public_reason}
 use Rattle.game_sheet.specs.Viewer.{seat_of}
-use Rattle.room_history.specs.declared.submission.Submission.{Submission}
+use Rattle.wire_json.specs.declared.submission.Submission.{Submission}
 use Rattle.room_history.proofs.Growing.{shown_new}
 use Rattle.room_history.proofs.Growth.{grown}
 use Rattle.room_history.proofs.Keeps.{Fits, Head}

@@ -21,7 +21,7 @@ use Rattle.room_history.specs.Stream.{long_list, public_reason_on, stream}
 use Rattle.room_history.specs.Verdict.{public_reason}
 use Rattle.game_sheet.specs.Viewer.{Viewer, seat_of}
 use Rattle.room_history.specs.declared.call.RoomCall.{RoomCall}
-use Rattle.room_history.specs.declared.submission.Submission.{Submission}
+use Rattle.wire_json.specs.declared.submission.Submission.{Submission}
 use Rattle.room_history.proofs.Apart.{OneIsFirst, one_is_first, told_unmarked}
 use Rattle.room_history.proofs.Aside.{out_first, first_of_first}
 use Rattle.room_history.proofs.Cutting.{parted, hands_rest, told_first}

@@ -19,7 +19,7 @@ use Rattle.room_history.specs.Session.{Session, after_take, after_detach, number
 use Rattle.room_history.specs.declared.call.RoomCall.{RoomCall}
 use Rattle.room_history.specs.declared.call.RoomCall.TheVariants.{Create, Join, Rename, Leave, Look, Attach, Submit, Take, Detach}
 use Rattle.room_history.specs.declared.reply.RoomReply.TheVariants as answer
-use Rattle.room_history.specs.declared.submission.Submission.{Submission}
+use Rattle.wire_json.specs.declared.submission.Submission.{Submission}
 use Rattle.room_history.proofs.Holding.{starved_kept}
 use Rattle.room_history.proofs.Keeps.{Kept, Listed, kept, same_pass, fate_list}
 use Rattle.room_history.proofs.Responses.{same_number}

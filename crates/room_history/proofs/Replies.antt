@@ -14,7 +14,7 @@ use Rattle.room_history.specs.Stream.{public_reason_on}
 use Rattle.room_history.specs.Verdict.{else_reason, game_reason, match_accepting, public_reason}
 use Rattle.game_sheet.specs.Viewer.{Viewer}
 use Rattle.room_history.specs.declared.reply.RoomReply.TheVariants as reply
-use Rattle.room_history.specs.declared.submission.Submission.{Submission}
+use Rattle.wire_json.specs.declared.submission.Submission.{Submission}
 use Rattle.room_history.proofs.Growth.{accept_grows}
 use Rattle.room_history.proofs.Growth.{grown}
 use Rattle.room_history.proofs.Keeps.{Fits, Head}

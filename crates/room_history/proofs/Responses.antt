@@ -13,7 +13,7 @@ use Rattle.room_history.specs.Shown.{snapshot}
 use Rattle.game_sheet.specs.Viewer.{seat_of}
 use Rattle.room_history.specs.declared.call.RoomCall.{RoomCall}
 use Rattle.room_history.specs.declared.call.RoomCall.TheVariants.{Submit}
-use Rattle.room_history.specs.declared.submission.Submission.{Submission}
+use Rattle.wire_json.specs.declared.submission.Submission.{Submission}
 use Rattle.room_history.proofs.Answers.{alike_submit}
 use Rattle.room_history.proofs.Clauses.{some_session}
 use Rattle.room_history.proofs.Judging.{Latest, latest_is, head_of}

@@ -25,7 +25,7 @@ use Rattle.room_history.specs.declared.call.RoomCall.{RoomCall}
 use Rattle.room_history.specs.declared.call.RoomCall.TheVariants.{Create, Join, Rename, Leave, Look, Attach, Submit, Take, Detach}
 use Rattle.room_history.specs.declared.reply.RoomReply.{RoomReply}
 use Rattle.room_history.specs.declared.reply.RoomReply.TheVariants as reply
-use Rattle.room_history.specs.declared.submission.Submission.{Submission}
+use Rattle.wire_json.specs.declared.submission.Submission.{Submission}
 use Rattle.room_history.proofs.Judging.{Latest, latest_is}
 use Rattle.room_history.proofs.Keeps.{Listed, Kept, kept, Fresh, fresh, GoesFrom, FateFrom, fate_from}
 use Rattle.room_history.proofs.Sessions.{plus_item}

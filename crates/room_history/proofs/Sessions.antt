@@ -15,7 +15,7 @@ use Rattle.room_history.specs.Session.{Session, after_take, is_detached, is_look
 use Rattle.room_history.specs.Showing.{Showing, showings, snapshot_of_number, update_message}
 use Rattle.room_history.specs.Stream.{cut, item_pieces, line_or_end, long_list, most_waiting, public_reason_on, stream, verdict_pieces, with_piece}
 use Rattle.game_sheet.specs.Viewer.{Viewer}
-use Rattle.room_history.specs.declared.submission.Submission.{Submission}
+use Rattle.wire_json.specs.declared.submission.Submission.{Submission}
 use Rattle.room_history.proofs.Cutting.{grows_same, cut_grows, rest, parted, hands_rest}
 use Rattle.room_history.proofs.Growing.{TopBy, CameTo, InOrder, number_at, item_grows, snapshot_grows}
 

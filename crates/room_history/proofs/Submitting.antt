@@ -16,7 +16,7 @@ use Rattle.room_history.specs.Session.{Session, is_detached, is_looking, number_
 use Rattle.room_history.specs.Verdict.{else_reason, game_reason, match_accepting, public_reason}
 use Rattle.room_history.specs.Shown.{snapshot}
 use Rattle.game_sheet.specs.Viewer.{seat_of}
-use Rattle.room_history.specs.declared.submission.Submission.{Submission}
+use Rattle.wire_json.specs.declared.submission.Submission.{Submission}
 use Rattle.room_history.proofs.Growth.{accept_grows}
 use Rattle.room_history.proofs.Growth.{grown}
 use Rattle.room_history.proofs.Holding.{news_kept, accepted_kept, refused_kept, unheard_kept}

@@ -9,7 +9,7 @@ use Rattle.room_history.specs.Piece.{Piece, End, all_lines, message_lines, messa
 use Rattle.room_history.specs.Session.{Session, stream_of}
 use Rattle.room_history.specs.declared.call.RoomCall.{RoomCall}
 use Rattle.room_history.specs.declared.call.RoomCall.TheVariants.{Submit, Take, Detach}
-use Rattle.room_history.specs.declared.submission.Submission.{Submission}
+use Rattle.wire_json.specs.declared.submission.Submission.{Submission}
 
 pub record SeeAlike (s t : Session) : Type 0 where
   pub name : s.name ≡ t.name

@@ -1,7 +1,7 @@
 -- What a session does, in the order in which the room heard it.
 use Rattle.std.specs.Prelude.{ℕ, ◌+◌, List, [], ◌∷◌}
 use Rattle.wire_json.specs.declared.reason.Reason.{Reason}
-use Rattle.room_history.specs.declared.submission.Submission.{Submission}
+use Rattle.wire_json.specs.declared.submission.Submission.{Submission}
 
 -- what became of a submission, apart from the public rules: there was no memory, the game wasn't asked, or it answered
 pub data GameAnswer : Type 0 where

@@ -18,7 +18,7 @@ use Rattle.room_history.specs.declared.call.RoomCall.{RoomCall}
 use Rattle.room_history.specs.declared.call.RoomCall.TheVariants.{Submit}
 use Rattle.room_history.specs.declared.reply.RoomReply.{RoomReply}
 use Rattle.room_history.specs.declared.reply.RoomReply.TheVariants as answer
-use Rattle.room_history.specs.declared.submission.Submission.{Submission}
+use Rattle.wire_json.specs.declared.submission.Submission.{Submission}
 
 -- the verdict at a state number, by the public rule that is broken and the game's answer
 abbrev pub verdict_by : ℕ → Option Reason → GameAnswer → RoomReply

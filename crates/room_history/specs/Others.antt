@@ -11,7 +11,7 @@ use Rattle.room_history.specs.Piece.{Line}
 use Rattle.room_history.specs.Room.{room_of}
 use Rattle.room_history.specs.declared.call.RoomCall.{RoomCall}
 use Rattle.room_history.specs.declared.call.RoomCall.TheVariants.{Submit}
-use Rattle.room_history.specs.declared.submission.Submission.{Submission}
+use Rattle.wire_json.specs.declared.submission.Submission.{Submission}
 
 -- the matches stay
 pub record KeepsMatches {X G : Type 0} (before after : Room X G) : Type 0 where

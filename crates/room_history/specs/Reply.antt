@@ -20,7 +20,7 @@ use Rattle.room_history.specs.Verdict.{first_reason, public_reason, game_reason,
 use Rattle.game_sheet.specs.Viewer.{Viewer}
 use Rattle.room_history.specs.declared.reply.RoomReply.{RoomReply}
 use Rattle.room_history.specs.declared.reply.RoomReply.TheVariants as reply
-use Rattle.room_history.specs.declared.submission.Submission.{Submission}
+use Rattle.wire_json.specs.declared.submission.Submission.{Submission}
 
 -- the greatest serial
 abbrev pub last_serial : ℕ

@@ -13,7 +13,7 @@ use Rattle.room_history.specs.Piece.{Piece, Line, Mark, End, State, Open, state_
 use Rattle.room_history.specs.Rule.{public, has_key}
 use Rattle.room_history.specs.Showing.{Showing, showings, showings_above, showings_up_to, snapshot_of_number}
 use Rattle.game_sheet.specs.Viewer.{Viewer, seat_of}
-use Rattle.room_history.specs.declared.submission.Submission.{Submission}
+use Rattle.wire_json.specs.declared.submission.Submission.{Submission}
 
 abbrev pub lines_of_showings : List Showing → List Piece
 lines_of_showings [] = []

@@ -9,7 +9,7 @@ use Rattle.reducer.specs.Fold.{answer}
 use Rattle.wire_json.specs.Resolve.{act_of}
 use Rattle.wire_json.specs.declared.reason.Reason.{Reason}
 use Rattle.wire_json.specs.declared.reason.Reason.TheVariants.{NothingToUndo, NothingToRedo, NotYours, NotUndoable, InvalidMove, TooEarly, TooManyWords, TooManyEvents}
-use Rattle.room_history.specs.declared.submission.Submission.{Submission}
+use Rattle.wire_json.specs.declared.submission.Submission.{Submission}
 use Rattle.room_history.specs.Match.{Match, table_of, number_of}
 use Rattle.room_history.specs.Rule.{public, has_key}
 use Rattle.game_sheet.specs.Viewer.{Viewer, seat_of}

@@ -1,8 +1,7 @@
 //! What a room is asked.
 
-use crate::submission::Submission;
 use game_sheet::{Key, Seat, Text, Viewer};
-use wire_json::Protocol;
+use wire_json::{Protocol, Submission};
 
 /// One call on a room, made by a pass.
 #[derive(Drop)]

@@ -21,7 +21,7 @@ ghost use Rattle.room_history.specs.Sight.{SeesMatch};
 ghost use Rattle.room_history.specs.declared.call.RoomCall.{RoomCall as Asks};
 ghost use Rattle.room_history.specs.declared.call.RoomCall.TheVariants as ask;
 ghost use Rattle.room_history.specs.declared.reply.RoomReply.TheVariants as answer;
-ghost use Rattle.room_history.specs.declared.submission.Submission.{Submission as Asked};
+ghost use Rattle.wire_json.specs.declared.submission.Submission.{Submission as Asked};
 
 use game_trait::Game;
 

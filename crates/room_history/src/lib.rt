@@ -4,7 +4,6 @@
 mod call;
 mod laws;
 mod reply;
-mod submission;
 
 pub use call::RoomCall;
 pub use laws::{
@@ -14,4 +13,3 @@ pub use laws::{
     sessions_see_their_match, submissions_are_judged_by_what_is_seen,
 };
 pub use reply::RoomReply;
-pub use submission::Submission;
