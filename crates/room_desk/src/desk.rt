@@ -6,12 +6,12 @@ ghost use Rattle.room_desk.specs.History.{dealt, Unites};
 ghost use Rattle.room_desk.specs.Turns.{fresh, view};
 ghost use Rattle.room_desk.specs.Plays.{past_of, United};
 
-use room_object::Object;
 use crate::pass::Pass;
 use crate::turns::{Beginning, Open, Part, Reach, Turns, Unite};
 use crate::view::View;
 use atomic_table::{Seat, Table};
 use game_sheet::NoMemory;
+use room_object::Object;
 use std::alloc::Global;
 use std::marker::Model;
 use std::snapshot::Snapshot;

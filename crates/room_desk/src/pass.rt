@@ -3,9 +3,9 @@
 ghost use Rattle.std.specs.Prelude.{◌≡◌, ◌∷◌, [], Some, None, false};
 ghost use Rattle.room_desk.specs.Turns.{past, view};
 
-use room_object::Object;
 use crate::view::View;
 use atomic_table::Seat;
+use room_object::Object;
 use std::marker::Model;
 
 /// A pass of a desk. A thread that has it makes calls there, one after another. Contracts see it as its desk, its number, and the history that it has

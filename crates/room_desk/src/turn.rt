@@ -12,11 +12,11 @@ ghost use Rattle.room_desk.specs.Turns.{past, view, number_in, seen_in};
 ghost use Rattle.room_desk.specs.Plays.{noted, Rests, Takes, Waits, Entered, Tells};
 
 use crate::desk::Desk;
-use room_object::Object;
 use crate::pass::Pass;
 use crate::turns::{Asked, Draw, PassOn, Said, Try};
 use crate::view::View;
 use atomic_table::Seat;
+use room_object::Object;
 use std::marker::Brand;
 use std::sync::Wait;
 

@@ -1,8 +1,8 @@
 //! The rule of a desk's table, and what each of its steps tells.
 
-use room_object::Object;
 use crate::view::View;
 use atomic_table::{Join, Play, Split, TableRule};
+use room_object::Object;
 use std::marker::{Brand, PhantomData};
 use std::snapshot::Snapshot;
 
