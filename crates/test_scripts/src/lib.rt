@@ -1,9 +1,7 @@
-//! Tests of sources, sinks and the lines of scripts, of which some calls fail and some lines are at the limit.
+//! Tests of the lines of scripts, of which some are at the limit and some reads fail.
 #![tactic(auto)]
 
 #[cfg(test)]
 mod lengths;
 #[cfg(test)]
 mod lines;
-#[cfg(test)]
-mod links;
