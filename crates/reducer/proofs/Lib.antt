@@ -1,5 +1,7 @@
+mod Grounds
 mod Performing
 mod Seats
 mod States
 mod Stepping
 mod Walks
+mod Ways

@@ -10,7 +10,7 @@ use Rattle.undo_redo.specs.IsTrail.{IsTrail}
 use Rattle.undo_redo.specs.Kept.{Kept}
 use Rattle.undo_redo.specs.StruckList.{strike}
 use Rattle.reducer.specs.Accepted.{Accepted}
-use Rattle.reducer.specs.Folded.{folded}
+use Rattle.reducer.specs.Folded.{folded, leads_to}
 use Rattle.reducer.specs.Sound.{IsSound}
 use Rattle.reducer.specs.Standing.{Standing}
 use Rattle.reducer.specs.Steps.{state_after, with_lists}
@@ -18,7 +18,7 @@ use Rattle.reducer.specs.Struck.{call_of}
 use Rattle.reducer.specs.Trails.{IsCounted, standing_at, trail_of}
 use Rattle.reducer.specs.Walk.{Fits, InSheet, reached_at, walked, waypoint}
 use Rattle.reducer.specs.declared.waypoint.Waypoint.{Waypoint}
-use Rattle.reducer.proofs.Walks.{counts, folds}
+use Rattle.reducer.proofs.Walks.{ahead_counted, ahead_folds, counts, folds, past_counted, past_folds}
 
 -- a copy of a context and a map, with counts of at most so many moves, is sound with room for more
 pub copy_sound : (sheet : Sheet) (most more : ℕ) (ctx copied : Ctx) (active shown : Map) → BoundGrows → most ≤ more → copied ≡ ctx → shown ≡ active → TableIsSound sheet most ctx active → TableIsSound sheet more copied shown
@@ -38,11 +38,21 @@ one_shorter {xs = xs} {ys = ys} {x = x} e =
     let same : length xs ≡ length (x ∷ ys) = ap length e in
     omega arith
 
+kept_same : {G : Type 0} {first first' now now' : Waypoint G} {done undone : List Accepted} {past past' ahead ahead' : List (Waypoint G)} → first ≡ first' → now ≡ now' → past ≡ past' → ahead ≡ ahead'
+    → let t : Kept (Waypoint G) Accepted = record { first = first; done = done; undone = undone; now = now; past = past; ahead = ahead } in
+    let u : Kept (Waypoint G) Accepted = record { first = first'; done = done; undone = undone; now = now'; past = past'; ahead = ahead' } in t ≡ u
+kept_same f n p a = cc
+
 same_trail : {G : Type 0} (number : ℕ) (t : Kept (Waypoint G) Accepted) → IsCounted t → trail_of (standing_at number t) ≡ t
 same_trail {G = G} number t h =
     let first : waypoint 0 (reached_at t.first) ≡ t.first = ap (λ (k : ℕ). record t.first { count = k }) (sym h.first) in
     let now : waypoint (length t.done) (reached_at t.now) ≡ t.now = ap (λ (k : ℕ). record t.now { count = k }) (sym h.now) in
-    ap (λ (w : Waypoint G). record (trail_of (standing_at number t)) { first = w }) first ∙ ap (λ (w : Waypoint G). record t { now = w }) now
+    kept_same first now (sym h.past) (sym h.ahead)
+
+standing_same : {G : Type 0} {number : ℕ} {table table' first : Reached G} {done undone : List Accepted} {past past' ahead ahead' : List (Reached G)} → table ≡ table' → past ≡ past' → ahead ≡ ahead'
+    → let s : Standing G = record { number = number; table = table; first = first; done = done; undone = undone; past = past; ahead = ahead } in
+    let u : Standing G = record { number = number; table = table'; first = first; done = done; undone = undone; past = past'; ahead = ahead' } in s ≡ u
+standing_same t p a = cc
 
 module _ {G : Type 0} (rules : Rules G) where
   -- a trail of the game's machine
@@ -52,7 +62,13 @@ module _ {G : Type 0} (rules : Rules G) where
   pub counted : (t : Kept (Waypoint G) Accepted) → t.first.count ≡ 0 → IsWalk t → IsCounted t
   counted t none trail =
       let all : t.now.count ≡ t.first.count + length t.done = counts rules t.first t.done t.now trail.stands in
-      record { first = none; now = omega arith }
+      let now : t.now.count ≡ length t.done = omega arith in
+      record {
+        first = none;
+        now = now;
+        past = past_counted rules t.first t.done t.past none trail.came_by;
+        ahead = ahead_counted rules t.now t.undone t.ahead (length t.done) now trail.leads_to;
+      }
 
   pub sound_at : (number : ℕ) (t : Kept (Waypoint G) Accepted) → BoundGrows → t.first.count ≡ 0 → number ≤ 4096 → length t.done ≤ number → IsWalk t → IsSound rules (standing_at number t)
   sound_at number t grows none room most trail =
@@ -73,9 +89,11 @@ module _ {G : Type 0} (rules : Rules G) where
       → standing_at (number + 1) next ≡ state_after rules (standing_at number t) a
   stands_after number t next a first lists trail =
       let table : folded rules (reached_at next.first) next.done ≡ reached_at next.now = folds rules next.first next.done next.now trail.stands in
-      ap (λ (r : Reached G). record (standing_at (number + 1) next) { table = r }) (sym table)
-      ∙ ap (λ (w : Waypoint G). record { number = number + 1; table = folded rules (reached_at w) next.done; first = reached_at w; done = next.done; undone = next.undone }) first
-      ∙ ap (with_lists rules (standing_at number t)) (sym lists)
+      let after : Waypoint G → Standing G = λ w. with_lists rules (standing_at number (record t { first = w })) (record { done = next.done; undone = next.undone }) in
+      let whole : standing_at (number + 1) next ≡ after next.first =
+      standing_same (sym table) (past_folds rules next.first next.done next.past trail.came_by)
+      (ahead_folds rules next.now next.undone next.ahead trail.leads_to ∙ ap (λ (r : Reached G). leads_to rules r next.undone) (sym table)) in
+      whole ∙ ap after first ∙ ap (with_lists rules (standing_at number t)) (sym lists)
 
   -- the state of which the number and the trail are these, as it is opened
   pub record Opened (number : ℕ) (t : Kept (Waypoint G) Accepted) (s : Standing G) : Type 0 where

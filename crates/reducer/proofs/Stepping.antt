@@ -1,31 +1,36 @@
--- Each way in which a state goes on is answered as it should be, by what the trail's call did.
-use Rattle.std.proofs.Common.{◌≡◌, ◌+◌, ◌<◌, ◌≤◌, ◌&&◌, ℕ, Bool, true, false, nat_eq, nat_lt, if◌then◌else◌, List, [], ◌∷◌, length, slice_get, Option, Some, None, Ok, Err, All, arith, refl, sym, subst, ap, ◌∙◌}
+-- What is prepared on a state is answered as it should be, and the state that takes it in is the one after it.
+use Rattle.std.proofs.Common.{◌≡◌, ◌+◌, ◌<◌, ◌≤◌, ◌&&◌, ℕ, Bool, true, false, nat_eq, nat_lt, if◌then◌else◌, List, [], ◌∷◌, length, slice_get, Option, Some, None, option_and_then, Result, Ok, Err, IsOk, All, arith, refl, sym, subst, ap, ◌∙◌}
 use Rattle.std.proofs.lemmas.Bool.Decides.{nat_tests}
 use Rattle.game_sheet.specs.declared.act.Act.{Act}
 use Rattle.game_sheet.specs.declared.act.Act.TheVariants.{Move, Event as Asks, Undo, Redo}
+use Rattle.game_sheet.specs.declared.memory.NoMemory.{NoMemory as Starved}
 use Rattle.game_sheet.specs.declared.refusal.GameNo.{GameNo}
 use Rattle.game_sheet.specs.declared.refusal.GameNo.TheVariants.{Broken, NoMemory}
 use Rattle.game_sheet.specs.declared.refusal.GameRule.{GameRule}
-use Rattle.game_sheet.specs.declared.refusal.GameRule.TheVariants.{NotYours}
+use Rattle.game_sheet.specs.declared.refusal.GameRule.TheVariants.{NotYours, NothingToRedo, NothingToUndo}
+use Rattle.game_trait.specs.InSheet.{ActInSheet}
 use Rattle.game_trait.specs.Rules.{Rules}
 use Rattle.phase_flow.specs.Action.{once}
 use Rattle.phase_flow.specs.Reached.{Reached}
+use Rattle.stage_map.specs.Moves.{may}
 use Rattle.undo_redo.specs.Kept.{Kept}
-use Rattle.undo_redo.specs.Moves.{Advanced, Does, Redoes, Redone, Undoes, Undone}
-use Rattle.undo_redo.specs.StruckList.{Call, advance, strike, undo_last, redo_first}
+use Rattle.undo_redo.specs.Moves.{Does, Redoes, Redone, Undoes, Undone}
+use Rattle.undo_redo.specs.StruckList.{Call, Struck, advance, strike, undo_last, redo_first}
 use Rattle.reducer.specs.Accepted.{Accepted}
 use Rattle.reducer.specs.Answer.{answer_on, redo_answer, refusal, undo_answer, undo_broken}
-use Rattle.reducer.specs.Folded.{folded}
+use Rattle.reducer.specs.Folded.{folded, unless_refused}
 use Rattle.reducer.specs.Performs.{Performs}
+use Rattle.reducer.specs.Prepared.{Coming, IsReady, Prepares}
 use Rattle.reducer.specs.Sound.{IsSound}
 use Rattle.reducer.specs.Standing.{Standing}
-use Rattle.reducer.specs.Steps.{Steps}
+use Rattle.reducer.specs.Steps.{state_after}
 use Rattle.reducer.specs.Struck.{IsDeed, call_of, called}
 use Rattle.reducer.specs.Trails.{standing_at}
-use Rattle.reducer.specs.Walk.{reached_at, walked}
+use Rattle.reducer.specs.Walk.{Fits, reached_at, walked, waypoint}
 use Rattle.reducer.specs.declared.waypoint.Waypoint.{Waypoint}
-use Rattle.reducer.proofs.States.{IsWalk, Opened, stands_after}
-use Rattle.reducer.proofs.Walks.{folds, goes_on, leads}
+use Rattle.reducer.proofs.Seats.{may_is_seat}
+use Rattle.reducer.proofs.States.{IsWalk, Opened, stands_after, trail_held}
+use Rattle.reducer.proofs.Walks.{came_last, folds, leads_first, none_came, none_leads, walks_on}
 
 deed_call : (act : Act) (a : Accepted) → IsDeed act → called act a ≡ advance a
 deed_call (Move id args) a d = refl
@@ -33,36 +38,18 @@ deed_call (Asks event) a d = refl
 deed_call Undo a d = absurd d
 deed_call Redo a d = absurd d
 
-yes_advanced : {S A : Type 0} (step : S → A → Option S) (act : A) (b : Bool) (before after : Kept S A) → b ≡ true → Advanced step act (Ok b) before after → Does step act before after
-yes_advanced step act true before after t h = h
-yes_advanced step act false before after t h = cc
-
-not_advanced : {S A : Type 0} (step : S → A → Option S) (act : A) (b : Bool) (before after : Kept S A) → b ≡ false → Advanced step act (Ok b) before after → step before.now act ≡ None
-not_advanced step act true before after t h = cc
-not_advanced step act false before after t h = h.0
-
-yes_undone : {S A : Type 0} (step : S → A → Option S) (b : Bool) (before after : Kept S A) → b ≡ true → Undone step (Ok b) before after → (act : A) × Undoes step act before after
-yes_undone step true before after t h = h
-yes_undone step false before after t h = cc
-
-yes_redone : {S A : Type 0} (step : S → A → Option S) (b : Bool) (before after : Kept S A) → b ≡ true → Redone step (Ok b) before after → (act : A) × Redoes step act before after
-yes_redone step true before after t h = h
-yes_redone step false before after t h = cc
-
--- the first of a list is the one that was told
-same_first : {A : Type 0} (told act : A) (all rest : List A) → Some told ≡ slice_get all 0 → all ≡ act ∷ rest → act ≡ told
-same_first told act all rest h e =
-    let first : slice_get all 0 ≡ Some act = ap (λ xs. slice_get xs 0) e in
-    cc
-
 pub first_has : {A : Type 0} (P : A → Type 0) (told : A) (xs : List A) → Some told ≡ slice_get xs 0 → All P xs → P told
-first_has P told [] h all = cc
+first_has P told [] h all = absurd (cc)
 first_has P told (x ∷ xs) h all =
-    let same : x ≡ told = same_first told x (x ∷ xs) xs h refl in
+    let same : x ≡ told = cc in
     subst P same (all 0 x (omega arith))
 
 both : (a b c d : ℕ) → a < b → c < d → (nat_lt a b && nat_lt c d) ≡ true
 both a b c d h k = grind (arith, nat_tests)
+
+ok_of : {G : Type 0} (o : Result (Reached G) GameRule) (r before : Reached G) → refusal o ≡ None → r ≡ unless_refused before o → o ≡ Ok r
+ok_of (Ok after) r before none e = ap (λ x. Ok x) (sym e)
+ok_of (Err rule) r before none e = absurd (cc)
 
 module _ {G : Type 0} (rules : Rules G) where
   deed_answer : (s : Standing G) (seat : ℕ) (act : Act) → IsDeed act → answer_on rules s seat act ≡ refusal (once rules s.table seat act)
@@ -71,89 +58,206 @@ module _ {G : Type 0} (rules : Rules G) where
   deed_answer s seat Undo d = absurd d
   deed_answer s seat Redo d = absurd d
 
-  -- an action was done on a copy of the trail
-  pub went : (t copied next : Kept (Waypoint G) Accepted) (seat : ℕ) (given act : Act) (b : Bool) → copied ≡ t → given ≡ act → b ≡ true → Advanced (walked rules) (record { seat = seat; act = given }) (Ok b) copied next
-      → Does (walked rules) (record { seat = seat; act = act }) t next
-  went t copied next seat given act b same is did h =
-      let does : Does (walked rules) (record { seat = seat; act = given }) copied next = yes_advanced (walked rules) (record { seat = seat; act = given }) b copied next did h in
-      let of_act : Does (walked rules) (record { seat = seat; act = act }) copied next = subst (λ (a : Act). Does (walked rules) (record { seat = seat; act = a }) copied next) is does in
-      subst (λ (k : Kept (Waypoint G) Accepted). Does (walked rules) (record { seat = seat; act = act }) k next) same of_act
+  -- the trail of a state that is opened
+  walk : (number : ℕ) (t : Kept (Waypoint G) Accepted) (s : Standing G) → Opened rules number t s → IsWalk rules t
+  walk number t s o = trail_held rules number t t s o refl
 
-  pub went_on : (number : ℕ) (t next : Kept (Waypoint G) Accepted) (s : Standing G) (seat : ℕ) (act : Act) → standing_at number t ≡ s → IsDeed act → Does (walked rules) (record { seat = seat; act = act }) t next → IsWalk rules next
-      → Steps rules s seat act (Ok (standing_at (number + 1) next))
-  went_on number t next s seat act shown d h trail =
+  at : (number : ℕ) (t : Kept (Waypoint G) Accepted) (s : Standing G) → Opened rules number t s → IsSound rules (standing_at number t)
+  at number t s o = subst (IsSound rules) (sym o.shown) o.sound
+
+  -- what done actions have come to is the present table
+  stood : (t : Kept (Waypoint G) Accepted) → IsWalk rules t → folded rules (reached_at t.first) t.done ≡ reached_at t.now
+  stood t trail = folds rules t.first t.done t.now trail.stands
+
+  -- a move or an event leads from what was done to one more
+  deed_table : (t : Kept (Waypoint G) Accepted) (number : ℕ) (a : Accepted) → IsWalk rules t → IsDeed a.act
+      → (state_after rules (standing_at number t) a).table ≡ unless_refused (reached_at t.now) (once rules (reached_at t.now) a.seat a.act)
+  deed_table t number a trail d =
+      ap (λ (call : Call Accepted). folded rules (reached_at t.first) (strike call (record { done = t.done; undone = t.undone })).done) (deed_call a.act a d)
+      ∙ ap (λ (r : Reached G). unless_refused r (once rules r a.seat a.act)) (stood t trail)
+
+  -- ---- what is prepared
+
+  shown_as : (number : ℕ) (t : Kept (Waypoint G) Accepted) (s : Standing G) (seat : ℕ) (act : Act) (p told : Coming G) → standing_at number t ≡ s → told ≡ p → told.action ≡ record { seat = seat; act = act } → IsReady rules (standing_at number t) told
+      → Prepares rules s seat act (Ok p)
+  shown_as number t s seat act p told shown is action ready =
+      (ap (λ (c : Coming G). c.action) (sym is) ∙ action, subst (λ (c : Coming G). IsReady rules s c) is (subst (λ (x : Standing G). IsReady rules x told) shown ready))
+
+  pub applied : (number : ℕ) (t : Kept (Waypoint G) Accepted) (s : Standing G) (seat : ℕ) (act : Act) (w next : Waypoint G) (p : Coming G) → Opened rules number t s → s.number < 4096 → may s.table.ctx seat ≡ true → ActInSheet rules.sheet act → IsDeed act
+      → w ≡ t.now → Performs rules w seat act (Ok next) → Fits rules next → p ≡ record { action = record { seat = seat; act = act }; number = number + 1; count = next.count; table = reached_at next } → Prepares rules s seat act (Ok p)
+  applied number t s seat act w next p o room active known d is h fits e =
       let a : Accepted = record { seat = seat; act = act } in
-      let lists : strike (call_of a) (record { done = t.done; undone = t.undone }) ≡ record { done = next.done; undone = next.undone } =
-      ap (λ (call : Call Accepted). strike call (record { done = t.done; undone = t.undone })) (deed_call act a d)
-      ∙ ap (λ (done : List Accepted). record { done = done; undone = [] }) (sym h.done)
-      ∙ ap (λ (undone : List Accepted). record { done = next.done; undone = undone }) (sym h.undone) in
-      let none : answer_on rules (standing_at number t) seat act ≡ None = deed_answer (standing_at number t) seat act d ∙ ap refusal (leads rules t.now a next.now h.now).accepted in
-      subst (λ (x : Standing G). Steps rules x seat act (Ok (standing_at (number + 1) next))) shown (none, stands_after rules number t next a h.first lists trail)
+      let told : Coming G = record { action = a; number = number + 1; count = next.count; table = reached_at next } in
+      let trail : IsWalk rules t = walk number t s o in
+      let accepted : once rules (reached_at t.now) seat act ≡ Ok (reached_at next) = ap (λ (v : Waypoint G). once rules (reached_at v) seat act) (sym is) ∙ h.0 in
+      let counts : w.count ≡ length t.done = ap (λ (v : Waypoint G). v.count) is ∙ o.counted.now in
+      let numbers : number ≡ s.number = ap (λ (x : Standing G). x.number) o.shown in
+      let more : next.count ≡ length t.done + 1 = omega (arith, h.1) in
+      let ready : IsReady rules (standing_at number t) told = record {
+        room = omega arith;
+        active = subst (λ (x : Standing G). may x.table.ctx seat ≡ true) (sym o.shown) active;
+        act = known;
+        accepted = deed_answer (standing_at number t) seat act d ∙ ap refusal accepted;
+        number = refl;
+        table = sym (deed_table t number a trail d ∙ ap (unless_refused (reached_at t.now)) accepted);
+        leads_on = λ _. record { count = more; fits = fits };
+      } in
+      shown_as number t s seat act p told o.shown (sym e) refl ready
 
-  pub refused_on : (number : ℕ) (t : Kept (Waypoint G) Accepted) (s : Standing G) (w : Waypoint G) (seat : ℕ) (act : Act) (why : GameNo) → standing_at number t ≡ s → IsDeed act → w ≡ t.now → Performs rules w seat act (Err why) → Steps rules s seat act (Err why)
+  pub refused_on : (number : ℕ) (t : Kept (Waypoint G) Accepted) (s : Standing G) (w : Waypoint G) (seat : ℕ) (act : Act) (why : GameNo) → standing_at number t ≡ s → IsDeed act → w ≡ t.now → Performs rules w seat act (Err why) → Prepares rules s seat act (Err why)
   refused_on number t s w seat act (Broken rule) shown d is h =
       deed_answer s seat act d ∙ ap (λ (x : Standing G). refusal (once rules x.table seat act)) (sym shown)
       ∙ ap (λ (v : Waypoint G). refusal (once rules (reached_at v) seat act)) (sym is) ∙ ap refusal h
   refused_on number t s w seat act NoMemory shown d is h = tt
 
-  -- what the trail refuses on a state with room, the flow doesn't accept
-  pub stuck : (number : ℕ) (t copied next : Kept (Waypoint G) Accepted) (s : Standing G) (w : Waypoint G) (seat : ℕ) (given act : Act) (b : Bool) (after : Reached G) → Opened rules number t s → s.number < 4096 → seat < s.table.ctx.seats
-      → copied ≡ t → given ≡ act → b ≡ false → Advanced (walked rules) (record { seat = seat; act = given }) (Ok b) copied next → w ≡ t.now → once rules (reached_at w) seat act ≡ Ok after → ⊥
-  stuck number t copied next s w seat given act b after o room seated same is f h now e =
-      let at : IsSound rules (standing_at number t) = subst (IsSound rules) (sym o.shown) o.sound in
-      let most : length t.done ≤ number = at.done in
-      let count : t.now.count ≡ length t.done = o.counted.now in
-      let numbers : number ≡ s.number = ap (λ (x : Standing G). x.number) o.shown in
-      let seats : t.now.table.ctx.seats ≡ s.table.ctx.seats = ap (λ (x : Standing G). x.table.ctx.seats) o.shown in
-      let test : (nat_lt t.now.count 4096 && nat_lt seat t.now.table.ctx.seats) ≡ true = both t.now.count 4096 seat t.now.table.ctx.seats (omega arith) (omega arith) in
-      let refused : walked rules t.now (record { seat = seat; act = act }) ≡ None =
-      ap (λ (k : Kept (Waypoint G) Accepted). walked rules k.now (record { seat = seat; act = act })) (sym same)
-      ∙ ap (λ (a : Act). walked rules copied.now (record { seat = seat; act = a })) (sym is)
-      ∙ not_advanced (walked rules) (record { seat = seat; act = given }) b copied next f h in
-      goes_on rules t.now (record { seat = seat; act = act }) after test (ap (λ (v : Waypoint G). once rules (reached_at v) seat act) (sym now) ∙ e) refused
-
-  -- the last action was undone on a copy of the trail
-  pub undid : (t copied next : Kept (Waypoint G) Accepted) (last : Accepted) (b : Bool) → copied ≡ t → Some last ≡ slice_get t.done 0 → b ≡ true → Undone (walked rules) (Ok b) copied next → Undoes (walked rules) last t next
-  undid t copied next last b same told did h =
-      let on_copy = yes_undone (walked rules) b copied next did h in
-      let on_trail : Undoes (walked rules) on_copy.0 t next = subst (λ (k : Kept (Waypoint G) Accepted). Undoes (walked rules) on_copy.0 k next) same on_copy.1 in
-      subst (λ (a : Accepted). Undoes (walked rules) a t next) (same_first last on_copy.0 t.done next.done told on_trail.done) on_trail
-
-  -- what an undo is answered, by the trail before and after it
-  pub undo_asked : (number : ℕ) (t next : Kept (Waypoint G) Accepted) (s : Standing G) (now before : Waypoint G) (seat : ℕ) (last : Accepted) (told : Option GameRule) → standing_at number t ≡ s → Undoes (walked rules) last t next → IsWalk rules next
-      → now ≡ t.now → before ≡ next.now → told ≡ undo_broken rules (reached_at now) before.table.ctx.turn last seat → answer_on rules s seat Undo ≡ told
-  undo_asked number t next s now before seat last told shown h trail n b e =
-      let folds_to : folded rules (reached_at t.first) next.done ≡ reached_at next.now =
-      ap (λ (w : Waypoint G). folded rules (reached_at w) next.done) (sym h.first) ∙ folds rules next.first next.done next.now trail.stands in
-      ap (λ (x : Standing G). answer_on rules x seat Undo) (sym shown)
-      ∙ ap (λ (done : List Accepted). undo_answer rules (standing_at number t) done seat) h.done
-      ∙ ap (λ (r : Reached G). undo_broken rules (reached_at t.now) r.ctx.turn last seat) folds_to
-      ∙ ap (λ (w : Waypoint G). undo_broken rules (reached_at t.now) w.table.ctx.turn last seat) (sym b)
+  -- what an undo is answered, by the last action and the waypoint before it
+  pub undo_asked : (number : ℕ) (t : Kept (Waypoint G) Accepted) (s : Standing G) (now before : Waypoint G) (seat : ℕ) (last : Accepted) (told : Option GameRule) → Opened rules number t s → Some last ≡ slice_get t.done 0 → Some before ≡ slice_get t.past 0
+      → now ≡ t.now → told ≡ undo_broken rules (reached_at now) before.table.ctx.turn last seat → answer_on rules s seat Undo ≡ told
+  undo_asked number t s now before seat last told o l b n e =
+      let trail : IsWalk rules t = walk number t s o in
+      let came = came_last rules t.first t.done t.past last before trail.came_by l b in
+      ap (λ (x : Standing G). answer_on rules x seat Undo) (sym o.shown)
+      ∙ ap (λ (done : List Accepted). undo_answer rules (standing_at number t) done seat) came.1
+      ∙ ap (λ (r : Reached G). undo_broken rules (reached_at t.now) r.ctx.turn last seat) (folds rules t.first came.0 before came.2)
       ∙ ap (λ (w : Waypoint G). undo_broken rules (reached_at w) before.table.ctx.turn last seat) (sym n)
       ∙ sym e
 
-  pub took_back : (number : ℕ) (t next : Kept (Waypoint G) Accepted) (s : Standing G) (seat : ℕ) (last : Accepted) → standing_at number t ≡ s → Undoes (walked rules) last t next → IsWalk rules next → answer_on rules s seat Undo ≡ None
-      → Steps rules s seat Undo (Ok (standing_at (number + 1) next))
-  took_back number t next s seat last shown h trail none =
-      let a : Accepted = record { seat = seat; act = Undo } in
-      let lists : undo_last t.done t.undone ≡ record { done = next.done; undone = next.undone } =
-      ap (λ (done : List Accepted). undo_last done t.undone) h.done ∙ ap (λ (undone : List Accepted). record { done = next.done; undone = undone }) (sym h.undone) in
-      let on_trail : answer_on rules (standing_at number t) seat Undo ≡ None = ap (λ (x : Standing G). answer_on rules x seat Undo) shown ∙ none in
-      subst (λ (x : Standing G). Steps rules x seat Undo (Ok (standing_at (number + 1) next))) shown (on_trail, stands_after rules number t next a h.first lists trail)
+  pub undo_prepared : (number : ℕ) (t : Kept (Waypoint G) Accepted) (s : Standing G) (before : Waypoint G) (seat : ℕ) (last : Accepted) (p : Coming G) → Opened rules number t s → s.number < 4096 → may s.table.ctx seat ≡ true
+      → Some last ≡ slice_get t.done 0 → Some before ≡ slice_get t.past 0 → answer_on rules s seat Undo ≡ None
+      → p ≡ record { action = record { seat = seat; act = Undo }; number = number + 1; count = before.count; table = reached_at before } → Prepares rules s seat Undo (Ok p)
+  undo_prepared number t s before seat last p o room active l b none e =
+      let told : Coming G = record { action = record { seat = seat; act = Undo }; number = number + 1; count = before.count; table = reached_at before } in
+      let trail : IsWalk rules t = walk number t s o in
+      let came = came_last rules t.first t.done t.past last before trail.came_by l b in
+      let numbers : number ≡ s.number = ap (λ (x : Standing G). x.number) o.shown in
+      let ready : IsReady rules (standing_at number t) told = record {
+        room = omega arith;
+        active = subst (λ (x : Standing G). may x.table.ctx seat ≡ true) (sym o.shown) active;
+        act = tt;
+        accepted = ap (λ (x : Standing G). answer_on rules x seat Undo) o.shown ∙ none;
+        number = refl;
+        table = sym (ap (λ (done : List Accepted). folded rules (reached_at t.first) (undo_last done t.undone).done) came.1 ∙ folds rules t.first came.0 before came.2);
+        leads_on = λ d. absurd d;
+      } in
+      shown_as number t s seat Undo p told o.shown (sym e) refl ready
 
-  -- the first undone action was done again on a copy of the trail
-  pub redid : (t copied after : Kept (Waypoint G) Accepted) (next : Accepted) (b : Bool) → copied ≡ t → Some next ≡ slice_get t.undone 0 → b ≡ true → Redone (walked rules) (Ok b) copied after → Redoes (walked rules) next t after
-  redid t copied after next b same told did h =
-      let on_copy = yes_redone (walked rules) b copied after did h in
-      let on_trail : Redoes (walked rules) on_copy.0 t after = subst (λ (k : Kept (Waypoint G) Accepted). Redoes (walked rules) on_copy.0 k after) same on_copy.1 in
-      subst (λ (a : Accepted). Redoes (walked rules) a t after) (same_first next on_copy.0 t.undone after.undone told on_trail.undone) on_trail
+  pub nothing_done : (number : ℕ) (t : Kept (Waypoint G) Accepted) (s : Standing G) (seat : ℕ) → Opened rules number t s → None ≡ slice_get t.past 0 → answer_on rules s seat Undo ≡ Some NothingToUndo
+  nothing_done number t s seat o n =
+      let trail : IsWalk rules t = walk number t s o in
+      ap (λ (x : Standing G). answer_on rules x seat Undo) (sym o.shown)
+      ∙ ap (λ (done : List Accepted). undo_answer rules (standing_at number t) done seat) (none_came rules t.first t.done t.past trail.came_by n)
 
-  pub did_again : (number : ℕ) (t after : Kept (Waypoint G) Accepted) (s : Standing G) (seat : ℕ) (next : Accepted) → standing_at number t ≡ s → Redoes (walked rules) next t after → IsWalk rules after → nat_eq next.seat seat ≡ true
-      → Steps rules s seat Redo (Ok (standing_at (number + 1) after))
-  did_again number t after s seat next shown h trail own =
-      let a : Accepted = record { seat = seat; act = Redo } in
-      let lists : redo_first t.done t.undone ≡ record { done = after.done; undone = after.undone } =
-      ap (λ (undone : List Accepted). redo_first t.done undone) h.undone ∙ ap (λ (done : List Accepted). record { done = done; undone = after.undone }) (sym h.done) in
-      let none : answer_on rules (standing_at number t) seat Redo ≡ None =
-      ap (λ (undone : List Accepted). redo_answer undone seat) h.undone ∙ ap (λ (b : Bool). if b then None else Some NotYours) own in
-      subst (λ (x : Standing G). Steps rules x seat Redo (Ok (standing_at (number + 1) after))) shown (none, stands_after rules number t after a h.first lists trail)
+  pub redo_prepared : (number : ℕ) (t : Kept (Waypoint G) Accepted) (s : Standing G) (after : Waypoint G) (seat : ℕ) (next : Accepted) (p : Coming G) → Opened rules number t s → s.number < 4096 → may s.table.ctx seat ≡ true
+      → Some next ≡ slice_get t.undone 0 → Some after ≡ slice_get t.ahead 0 → nat_eq next.seat seat ≡ true
+      → p ≡ record { action = record { seat = seat; act = Redo }; number = number + 1; count = after.count; table = reached_at after } → Prepares rules s seat Redo (Ok p)
+  redo_prepared number t s after seat next p o room active l b own e =
+      let told : Coming G = record { action = record { seat = seat; act = Redo }; number = number + 1; count = after.count; table = reached_at after } in
+      let trail : IsWalk rules t = walk number t s o in
+      let leads = leads_first rules t.now t.undone t.ahead next after trail.leads_to l b in
+      let numbers : number ≡ s.number = ap (λ (x : Standing G). x.number) o.shown in
+      let more : folded rules (reached_at t.first) (next ∷ t.done) ≡ reached_at after =
+      folds rules t.first (next ∷ t.done) after (ap (λ q. option_and_then (λ w. walked rules w next) q) trail.stands ∙ leads.2) in
+      let ready : IsReady rules (standing_at number t) told = record {
+        room = omega arith;
+        active = subst (λ (x : Standing G). may x.table.ctx seat ≡ true) (sym o.shown) active;
+        act = tt;
+        accepted = ap (λ (undone : List Accepted). redo_answer undone seat) leads.1 ∙ ap (λ (b : Bool). if b then None else Some NotYours) own;
+        number = refl;
+        table = sym (ap (λ (undone : List Accepted). folded rules (reached_at t.first) (redo_first t.done undone).done) leads.1 ∙ more);
+        leads_on = λ d. absurd d;
+      } in
+      shown_as number t s seat Redo p told o.shown (sym e) refl ready
+
+  pub nothing_undone : (number : ℕ) (t : Kept (Waypoint G) Accepted) (s : Standing G) (seat : ℕ) → Opened rules number t s → None ≡ slice_get t.ahead 0 → answer_on rules s seat Redo ≡ Some NothingToRedo
+  nothing_undone number t s seat o n =
+      let trail : IsWalk rules t = walk number t s o in
+      ap (λ (x : Standing G). answer_on rules x seat Redo) (sym o.shown)
+      ∙ ap (λ (undone : List Accepted). redo_answer undone seat) (none_leads rules t.now t.undone t.ahead trail.leads_to n)
+
+  -- ---- what is taken in
+
+  -- the step of what is ready is one of the game's machine
+  pub steps_on : (number : ℕ) (t : Kept (Waypoint G) Accepted) (s : Standing G) (p : Coming G) (act : Accepted) (after : Waypoint G) → Opened rules number t s → IsReady rules s p → IsDeed p.action.act → act ≡ p.action → after.count ≡ p.count → reached_at after ≡ p.table
+      → walked rules t.now act ≡ Some after
+  steps_on number t s p act after o ready d is count table =
+      let a = p.action in
+      let trail : IsWalk rules t = walk number t s o in
+      let here : IsReady rules (standing_at number t) p = subst (λ (x : Standing G). IsReady rules x p) (sym o.shown) ready in
+      let sound : IsSound rules (standing_at number t) = at number t s o in
+      let seated : a.seat < t.now.table.ctx.seats = may_is_seat rules.sheet number t.now.table.ctx t.now.table.active a.seat sound.table here.active in
+      let few : t.now.count < 4096 = let c = o.counted.now in let m = sound.done in let r = here.room in omega arith in
+      let none : refusal (once rules (reached_at t.now) a.seat a.act) ≡ None = sym (deed_answer (standing_at number t) a.seat a.act d) ∙ here.accepted in
+      let leads : once rules (reached_at t.now) a.seat a.act ≡ Ok (reached_at after) =
+      ok_of (once rules (reached_at t.now) a.seat a.act) (reached_at after) (reached_at t.now) none (table ∙ here.table ∙ deed_table t number a trail d) in
+      let counted : t.now.count + 1 ≡ after.count = let c = o.counted.now in let l = (here.leads_on d).count in omega arith in
+      ap (λ (x : Accepted). walked rules t.now x) is
+      ∙ walks_on rules t.now a (reached_at after) (both t.now.count 4096 a.seat t.now.table.ctx.seats few seated) leads
+      ∙ ap (λ (k : ℕ). Some (waypoint k (reached_at after))) counted
+
+  pub fits_on : (s : Standing G) (p : Coming G) (after : Waypoint G) → IsReady rules s p → IsDeed p.action.act → after.count ≡ p.count → reached_at after ≡ p.table → Fits rules after
+  fits_on s p after ready d count table =
+      subst (λ (r : Reached G). Fits rules (waypoint after.count r)) (sym table) (subst (λ (k : ℕ). Fits rules (waypoint k p.table)) (sym count) (ready.leads_on d).fits)
+
+  pub went_on : (number : ℕ) (t next : Kept (Waypoint G) Accepted) (s : Standing G) (a act : Accepted) → standing_at number t ≡ s → IsDeed a.act → act ≡ a → Does (walked rules) act t next → IsWalk rules next → standing_at (number + 1) next ≡ state_after rules s a
+  went_on number t next s a act shown d is h trail =
+      let lists : strike (call_of a) (record { done = t.done; undone = t.undone }) ≡ record { done = next.done; undone = next.undone } =
+      ap (λ (call : Call Accepted). strike call (record { done = t.done; undone = t.undone })) (deed_call a.act a d)
+      ∙ ap (λ (x : Accepted). record { done = x ∷ t.done; undone = [] }) (sym is)
+      ∙ ap (λ (done : List Accepted). record { done = done; undone = [] }) (sym h.done)
+      ∙ ap (λ (undone : List Accepted). record { done = next.done; undone = undone }) (sym h.undone) in
+      subst (λ (x : Standing G). standing_at (number + 1) next ≡ state_after rules x a) shown (stands_after rules number t next a h.first lists trail)
+
+  -- a trail one move back or on again
+  pub record Moved (lists : Struck Accepted) (t next : Kept (Waypoint G) Accepted) : Type 0 where
+    pub first : next.first ≡ t.first
+    pub lists_are : lists ≡ record { done = next.done; undone = next.undone }
+    pub few : length next.done ≤ length t.done + 1
+
+  pub went_back : (r : Result Bool Starved) (t next : Kept (Waypoint G) Accepted) → IsOk r → Undone (walked rules) r t next → Moved (undo_last t.done t.undone) t next
+  went_back (Ok true) t next sure h =
+      let u : Undoes (walked rules) h.0 t next = h.1 in
+      let longer : length t.done ≡ length (h.0 ∷ next.done) = ap length u.done in
+      record {
+        first = u.first;
+        lists_are =
+            ap (λ (done : List Accepted). undo_last done t.undone) u.done ∙ ap (λ (undone : List Accepted). record { done = next.done; undone = undone }) (sym u.undone);
+        few = omega arith;
+      }
+  went_back (Ok false) t next sure h =
+      let same : next ≡ t = h.1 in
+      let longer : length next.done ≡ length t.done = ap (λ (k : Kept (Waypoint G) Accepted). length k.done) same in
+      record {
+        first = ap (λ (k : Kept (Waypoint G) Accepted). k.first) same;
+        lists_are =
+            ap (λ (done : List Accepted). undo_last done t.undone) h.0 ∙ ap (λ (done : List Accepted). record { done = done; undone = t.undone }) (sym h.0)
+            ∙ ap (λ (k : Kept (Waypoint G) Accepted). record { done = k.done; undone = k.undone }) (sym same);
+        few = omega arith;
+      }
+  went_back (Err why) t next sure h = absurd (cc)
+
+  pub went_again : (r : Result Bool Starved) (t next : Kept (Waypoint G) Accepted) → IsOk r → Redone (walked rules) r t next → Moved (redo_first t.done t.undone) t next
+  went_again (Ok true) t next sure h =
+      let u : Redoes (walked rules) h.0 t next = h.1 in
+      let longer : length next.done ≡ length (h.0 ∷ t.done) = ap length u.done in
+      record {
+        first = u.first;
+        lists_are =
+            ap (λ (undone : List Accepted). redo_first t.done undone) u.undone ∙ ap (λ (done : List Accepted). record { done = done; undone = next.undone }) (sym u.done);
+        few = omega arith;
+      }
+  went_again (Ok false) t next sure h =
+      let same : next ≡ t = h.1 in
+      let longer : length next.done ≡ length t.done = ap (λ (k : Kept (Waypoint G) Accepted). length k.done) same in
+      record {
+        first = ap (λ (k : Kept (Waypoint G) Accepted). k.first) same;
+        lists_are =
+            ap (λ (undone : List Accepted). redo_first t.done undone) h.0 ∙ ap (λ (undone : List Accepted). record { done = t.done; undone = undone }) (sym h.0)
+            ∙ ap (λ (k : Kept (Waypoint G) Accepted). record { done = k.done; undone = k.undone }) (sym same);
+        few = omega arith;
+      }
+  went_again (Err why) t next sure h = absurd (cc)
+
+  pub moved_to : (number : ℕ) (t next : Kept (Waypoint G) Accepted) (s : Standing G) (a : Accepted) → standing_at number t ≡ s → Moved (strike (call_of a) (record { done = t.done; undone = t.undone })) t next → IsWalk rules next
+      → standing_at (number + 1) next ≡ state_after rules s a
+  moved_to number t next s a shown m trail =
+      subst (λ (x : Standing G). standing_at (number + 1) next ≡ state_after rules x a) shown (stands_after rules number t next a m.first m.lists_are trail)

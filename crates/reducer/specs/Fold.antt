@@ -6,7 +6,7 @@ use Rattle.game_trait.specs.Rules.{Rules}
 use Rattle.phase_flow.specs.Reached.{Reached}
 use Rattle.reducer.specs.Accepted.{Accepted}
 use Rattle.reducer.specs.Answer.{answer_on}
-use Rattle.reducer.specs.Folded.{folded}
+use Rattle.reducer.specs.Folded.{came_by, folded, leads_to}
 use Rattle.reducer.specs.Standing.{Standing}
 use Rattle.reducer.specs.Struck.{struck_of}
 
@@ -21,6 +21,8 @@ standing rules first accepted = record {
   first = first;
   done = (struck_of accepted).done;
   undone = (struck_of accepted).undone;
+  past = came_by rules first (struck_of accepted).done;
+  ahead = leads_to rules (fold rules first accepted) (struck_of accepted).undone;
 }
 
 -- what a further action is answered; none where it is accepted

@@ -14,3 +14,13 @@ unless_refused before (Err rule) = before
 abbrev pub folded : {G : Type 0} → Rules G → Reached G → List Accepted → Reached G
 folded rules first [] = first
 folded rules first (a ∷ done) = unless_refused (folded rules first done) (once rules (folded rules first done) a.seat a.act)
+
+-- what each done action led on from
+abbrev pub came_by : {G : Type 0} → Rules G → Reached G → List Accepted → List (Reached G)
+came_by rules first [] = []
+came_by rules first (a ∷ done) = folded rules first done ∷ came_by rules first done
+
+-- what each undone action leads to, the next first in the list
+abbrev pub leads_to : {G : Type 0} → Rules G → Reached G → List Accepted → List (Reached G)
+leads_to rules now [] = []
+leads_to rules now (a ∷ undone) = unless_refused now (once rules now a.seat a.act) ∷ leads_to rules (unless_refused now (once rules now a.seat a.act)) undone

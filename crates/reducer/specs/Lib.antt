@@ -4,6 +4,7 @@ pub mod Answer
 pub mod Fold
 pub mod Folded
 pub mod Performs
+pub mod Prepared
 pub mod Refuses
 pub mod Sound
 pub mod Standing
@@ -12,3 +13,4 @@ pub mod Steps
 pub mod Struck
 pub mod Trails
 pub mod Walk
+pub mod Way

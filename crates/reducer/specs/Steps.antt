@@ -8,7 +8,7 @@ use Rattle.game_trait.specs.Rules.{Rules}
 use Rattle.undo_redo.specs.StruckList.{Struck, strike}
 use Rattle.reducer.specs.Accepted.{Accepted}
 use Rattle.reducer.specs.Answer.{answer_on}
-use Rattle.reducer.specs.Folded.{folded}
+use Rattle.reducer.specs.Folded.{came_by, folded, leads_to}
 use Rattle.reducer.specs.Standing.{Standing}
 use Rattle.reducer.specs.Struck.{call_of}
 
@@ -24,6 +24,8 @@ with_lists rules s lists = record {
   first = s.first;
   done = lists.done;
   undone = lists.undone;
+  past = came_by rules s.first lists.done;
+  ahead = leads_to rules (folded rules s.first lists.done) lists.undone;
 }
 
 -- the state after an accepted action

@@ -5,16 +5,19 @@ ghost use Rattle.game_trait.specs.InSheet.{ActInSheet};
 ghost use Rattle.phase_flow.specs.Reached.{Reached};
 ghost use Rattle.reducer.specs.Accepted.{Accepted};
 ghost use Rattle.reducer.specs.Fold.{answer, standing};
+ghost use Rattle.reducer.specs.Prepared.{IsReady};
 ghost use Rattle.reducer.specs.Refuses.{Refuses};
 ghost use Rattle.reducer.specs.Sound.{IsSound};
 ghost use Rattle.reducer.specs.Acts.{flow_answer};
 ghost use Rattle.reducer.specs.Starts.{Starts, start_answer};
-ghost use Rattle.reducer.specs.Steps.{Steps};
+ghost use Rattle.reducer.specs.Steps.{Steps, state_after};
 ghost use Rattle.stage_map.specs.Moves.{may};
 
 use crate::act::flow_answer;
+use crate::prepared::Prepared;
+use crate::preparing::prepare;
 use crate::state::State;
-use crate::steps::{do_again, go_on, take_back};
+use crate::taking::commit;
 use crate::waypoint::Waypoint;
 use dice_words::Tape;
 use game_sheet::{Act, GameNo, GameRule, Seat};
@@ -91,11 +94,28 @@ pub fn step<X: Game>(
     ensures refused { IfErr result (λ why. (first : Reached X.G) (accepted : List Accepted) → state.now ≡ standing (X.rules game.now) first accepted
         → Refuses why (answer (X.rules game.now) first accepted seat act.now)) }
 {
-    match act {
-        Act::Undo => take_back(alloc, game, state, seat),
-        Act::Redo => do_again(alloc, game, state, seat),
-        Act::Move { .. } | Act::Event(_) => go_on(alloc, game, state, seat, act),
+    match prepare(alloc, game, state, seat, act) {
+        Ok(prepared) => match state.copy(alloc) {
+            Ok(copied) => Ok(taken_in(game, copied, prepared)),
+            Err(_) => {
+                drop(prepared);
+                Err(GameNo::NoMemory)
+            }
+        },
+        Err(why) => Err(why),
     }
+}
+
+/// The state with an action taken in.
+fn taken_in<X: Game>(game: &X, state: State<X::G>, prepared: Prepared<X::G>) -> State<X::G>
+    requires sound { IsSound (X.rules game.now) state }
+    requires ready { IsReady (X.rules game.now) state prepared }
+    ensures after { result ≡ state_after (X.rules game.now) state prepared.action }
+    ensures sound { IsSound (X.rules game.now) result }
+{
+    let mut next = state;
+    commit(game, &mut next, prepared);
+    next
 }
 
 /// Why a match didn't start whose beginning has no table.

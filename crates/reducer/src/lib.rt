@@ -3,11 +3,19 @@
 
 mod act;
 mod fold;
+mod laws;
 mod machine;
+mod prepared;
+mod preparing;
 mod state;
-mod steps;
+mod taking;
+mod way;
 mod waypoint;
 
 pub use fold::{StartNo, start, step};
+pub use laws::matches_stay_sound;
 pub use machine::MOST_ACTIONS;
+pub use prepared::Prepared;
+pub use preparing::prepare;
 pub use state::State;
+pub use taking::commit;

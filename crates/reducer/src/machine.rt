@@ -10,7 +10,7 @@ use crate::waypoint::{Deed, Waypoint};
 use dice_words::Tape;
 use game_sheet::{Act, GameNo, NoMemory, Seat};
 use game_trait::Game;
-use phase_flow::{Table, bounds_grow};
+use phase_flow::bounds_grow;
 use std::alloc::Global;
 use undo_redo::Machine;
 
@@ -46,21 +46,6 @@ impl<'a, X: Game> Machine for Reducer<'a, X> {
         act: &Deed,
     ) -> Result<Option<Waypoint<X::G>>, NoMemory> {
         walk(alloc, self.game, state, act)
-    }
-
-    fn copy_state(
-        &self,
-        alloc: Global,
-        state: &Waypoint<X::G>,
-    ) -> Result<Waypoint<X::G>, NoMemory> {
-        copy_of(alloc, self.game, state)
-    }
-
-    fn copy_act(&self, alloc: Global, act: &Deed) -> Result<Deed, NoMemory> {
-        Ok(Deed {
-            seat: act.seat,
-            act: act.act.copy(),
-        })
     }
 }
 
@@ -114,23 +99,4 @@ pub(crate) fn perform<X: Game>(
         }),
         Err(why) => Err(why),
     }
-}
-
-/// An equal waypoint.
-fn copy_of<X: Game>(
-    alloc: Global,
-    game: &X,
-    waypoint: &Waypoint<X::G>,
-) -> Result<Waypoint<X::G>, NoMemory>
-    ensures { IfOk result (λ copied. copied ≡ waypoint.now) }
-{
-    let g = game.copy(alloc, &waypoint.table.g)?;
-    let ctx = waypoint.table.ctx.copy(alloc)?;
-    let active = waypoint.table.active.copy()?;
-    Ok(Waypoint {
-        table: Table { g, ctx, active },
-        seed: waypoint.seed,
-        place: waypoint.place,
-        count: waypoint.count,
-    })
 }

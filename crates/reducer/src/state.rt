@@ -1,9 +1,10 @@
 //! The state of a match: how many actions it has accepted, and the trail of those that are done and undone.
 
-ghost use Rattle.std.specs.Prelude.{◌≡◌};
+ghost use Rattle.std.specs.Prelude.{◌≡◌, IfOk};
 
 use crate::waypoint::{Deed, Waypoint};
-use game_sheet::{Ctx, Number};
+use game_sheet::{Ctx, NoMemory, Number};
+use std::alloc::Global;
 use std::marker::Model;
 use undo_redo::Trail;
 
@@ -54,5 +55,18 @@ impl<G> State<G> {
         ensures { result ≡ self.now.table.place }
     {
         self.trail.now().place
+    }
+}
+
+impl<G: Drop> State<G> {
+    /// An equal state, which shares what its actions came to.
+    pub fn copy(&self, alloc: Global) -> Result<Self, NoMemory>
+        ensures { IfOk result (λ copied. copied ≡ self.now) }
+    {
+        let trail = self.trail.copy(alloc)?;
+        Ok(State {
+            number: self.number,
+            trail,
+        })
     }
 }

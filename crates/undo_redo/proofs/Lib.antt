@@ -1,3 +1,3 @@
-mod Folds
 mod Strikes
 mod Trails
+mod Winds

@@ -1,23 +1,12 @@
--- A trail stays a machine's after an undo and a redo.
-use Rattle.std.proofs.Common.{◌≡◌, ℕ, zero, suc, ◌≤◌, ◌+◌, ◌<◌, List, [], ◌∷◌, length, get_or, take, drop, reverse, All, Option, Some, IfSome, IsSome, arith, ap, sym, subst, ◌∙◌, refl, add-one, drop-cons}
-use Rattle.std.proofs.lemmas.List.Elements.{All-cons, All-nil, All-more}
-use Rattle.undo_redo.specs.Fold.{fold, GoesOn}
+-- A trail stays a machine's after a step, an undo and a redo.
+use Rattle.std.proofs.Common.{◌≡◌, suc, List, ◌∷◌, All, Option, Some, arith, ap, sym, subst, ◌∙◌, refl, option_and_then}
+use Rattle.std.proofs.lemmas.List.Elements.{All-cons, All-nil}
+use Rattle.undo_redo.specs.Fold.{fold, CameBy, GoesOn, LeadsTo}
 use Rattle.undo_redo.specs.IsTrail.{IsTrail}
 use Rattle.undo_redo.specs.Kept.{Kept}
-use Rattle.undo_redo.specs.Moves.{Undoes}
-use Rattle.undo_redo.proofs.Folds.{back_more, before_last, fold_more}
-
--- a trail of which a number of acts is done
-abbrev pub kept : {S A : Type 0} → S → S → List A → ℕ → Kept S A
-kept first now acts count = record { first = first; done = reverse (take count acts); undone = drop count acts; now = now }
-
-pub drop_more : {A : Type 0} (acts : List A) (n : ℕ) (d : A) → n < length acts → drop n acts ≡ get_or acts n d ∷ drop (n + 1) acts
-drop_more acts n d h = drop-cons acts n d h ∙ ap (λ k. get_or acts n d ∷ drop k acts) (sym (add-one n))
-
--- an act of a list that isn't empty
-pub one_of : {A : Type 0} (acts : List A) (n : ℕ) → n < length acts → A
-one_of [] n h = absurd (omega arith)
-one_of (act ∷ acts) n h = act
+use Rattle.undo_redo.specs.Moves.{Does, Redoes, Undoes}
+use Rattle.undo_redo.specs.Taken.{Taken}
+use Rattle.undo_redo.proofs.Winds.{Shifts, put_on}
 
 head : {A : Type 0} (P : A → Type 0) (act : A) (acts : List A) → All P (act ∷ acts) → P act
 head P act acts all = all 0 act (omega arith)
@@ -25,75 +14,95 @@ head P act acts all = all 0 act (omega arith)
 tail : {A : Type 0} (P : A → Type 0) (act : A) (acts : List A) → All P (act ∷ acts) → All P acts
 tail P act acts all = λ k d h. all (suc k) d (omega (arith, h))
 
--- what holds of each of the first acts, the latest first, holds of each of them
-pub all_back : {A : Type 0} (P : A → Type 0) (acts : List A) (n : ℕ) → n ≤ length acts → All P (reverse (take n acts)) → All P (take n acts)
-all_back P acts zero h all = All-nil P
-all_back P acts (suc n) h all =
-    let d = one_of acts n (omega arith) in
-    let inside : n < length acts = omega arith in
-    let more : suc n ≡ n + 1 = omega arith in
-    let parts : All P (get_or acts n d ∷ reverse (take n acts)) = subst (All P) (ap (λ k. reverse (take k acts)) more ∙ back_more acts n d inside) all in
-    subst (λ k. All P (take k acts)) (sym more) (All-more P acts n d inside (all_back P acts n (omega arith) (tail P _ _ parts)) (head P _ _ parts))
+module _ {S A : Type 0} (step : S → A → Option S) (state_fits : S → Type 0) (act_fits : A → Type 0) where
+  pub put_moves : (s : Taken S A) (t : Kept S A) → step t.now s.act ≡ Some s.after → Does step s.act t (put_on s t)
+  put_moves s t e = record { first = refl; done = refl; undone = refl; now = e }
 
-one_state : {S A : Type 0} (step : S → A → Option S) (now : S) (act : A) (a b : S) → step now act ≡ Some a → step now act ≡ Some b → a ≡ b
-one_state step now act a b p q = cc
+  pub put_trail : (s : Taken S A) (t : Kept S A) → IsTrail step state_fits act_fits t → act_fits s.act → state_fits s.after → step t.now s.act ≡ Some s.after → IsTrail step state_fits act_fits (put_on s t)
+  put_trail s t trail act state e = record {
+    first_fits = trail.first_fits;
+    now_fits = state;
+    done_fit = All-cons act_fits s.act t.done act trail.done_fit;
+    undone_fit = All-nil act_fits;
+    stands = ap (λ o. option_and_then (λ state. step state s.act) o) trail.stands ∙ e;
+    goes_on = tt;
+    past_fit = All-cons state_fits t.now t.past trail.now_fits trail.past_fit;
+    ahead_fit = All-nil state_fits;
+    came_by = (trail.stands, trail.came_by);
+    leads_to = tt;
+  }
 
-pub redo_keeps : {S A : Type 0} (step : S → A → Option S) (state_fits : S → Type 0) (act_fits : A → Type 0) (first now next : S) (acts : List A) (count : ℕ) (d : A) → count < length acts → IsTrail step state_fits act_fits (kept first now acts count) → step now (get_or acts count d) ≡ Some next → state_fits next → IsTrail step state_fits act_fits (kept first next acts (count + 1))
-redo_keeps step state_fits act_fits first now next acts count d h trail e fits =
-    let undone : All act_fits (get_or acts count d ∷ drop (count + 1) acts) = subst (All act_fits) (drop_more acts count d h) trail.undone_fit in
-    let again : GoesOn step now (get_or acts count d ∷ drop (count + 1) acts) = subst (GoesOn step now) (drop_more acts count d h) trail.goes_on in
-    record {
-      first_fits = trail.first_fits;
-      now_fits = fits;
-      done_fit = subst (All act_fits) (sym (back_more acts count d h)) (All-cons act_fits (get_or acts count d) (reverse (take count acts)) (head act_fits _ _ undone) trail.done_fit);
-      undone_fit = tail act_fits _ _ undone;
-      stands = fold_more step first now acts count d h trail.stands ∙ e;
-      goes_on = subst (λ state. GoesOn step state (drop (count + 1) acts)) (one_state step now (get_or acts count d) again.0 next again.1 e) again.2;
-    }
+  pub put_moves_to : (s : Taken S A) (act : A) (t next : Kept S A) → s.act ≡ act → put_on s t ≡ next → step t.now act ≡ Some s.after → Does step act t next
+  put_moves_to s act t next is e taken =
+      subst (λ a. Does step a t next) is (subst (λ k. Does step s.act t k) e (put_moves s t (ap (step t.now) is ∙ taken)))
 
-pub undo_keeps : {S A : Type 0} (step : S → A → Option S) (state_fits : S → Type 0) (act_fits : A → Type 0) (first now before : S) (acts : List A) (count : ℕ) (d : A) → count < length acts → IsTrail step state_fits act_fits (kept first now acts (count + 1)) → fold step first (reverse (take count acts)) ≡ Some before → state_fits before → IsTrail step state_fits act_fits (kept first before acts count)
-undo_keeps step state_fits act_fits first now before acts count d h trail e fits =
-    let done : All act_fits (get_or acts count d ∷ reverse (take count acts)) = subst (All act_fits) (back_more acts count d h) trail.done_fit in
-    let again : step before (get_or acts count d) ≡ Some now = sym (fold_more step first before acts count d h e) ∙ trail.stands in
-    record {
-      first_fits = trail.first_fits;
-      now_fits = fits;
-      done_fit = tail act_fits _ _ done;
-      undone_fit = subst (All act_fits) (sym (drop_more acts count d h)) (All-cons act_fits (get_or acts count d) (drop (count + 1) acts) (head act_fits _ _ done) trail.undone_fit);
-      stands = e;
-      goes_on = subst (GoesOn step before) (sym (drop_more acts count d h)) (now, again, trail.goes_on);
-    }
+  pub put_trail_to : (s : Taken S A) (act : A) (t next : Kept S A) → s.act ≡ act → put_on s t ≡ next → IsTrail step state_fits act_fits t → act_fits act → state_fits s.after → step t.now act ≡ Some s.after → IsTrail step state_fits act_fits next
+  put_trail_to s act t next is e trail fits state taken =
+      subst (λ k. IsTrail step state_fits act_fits k) e (put_trail s t trail (subst act_fits (sym is) fits) state (ap (step t.now) is ∙ taken))
 
--- the same of a trail that is seen as its two lists
-pub redo_trail : {S A : Type 0} (step : S → A → Option S) (state_fits : S → Type 0) (act_fits : A → Type 0) (t : Kept S A) (first now state next : S) (told : Option S) (acts : List A) (count : ℕ) (act : A) → kept first now acts count ≡ t → count < length acts → act ≡ get_or acts count act → IsTrail step state_fits act_fits t → state ≡ t.now → told ≡ step state act → told ≡ Some next → IfSome told state_fits → IsTrail step state_fits act_fits (kept first next acts (count + 1))
-redo_trail step state_fits act_fits t first now state next told acts count act seen h is trail present steps some fits =
-    redo_keeps step state_fits act_fits first now next acts count act h (subst (IsTrail step state_fits act_fits) (sym seen) trail)
-    (ap (step now) (sym is) ∙ ap (λ u. step u.now act) seen ∙ ap (λ u. step u act) (sym present) ∙ sym steps ∙ some)
-    (subst (λ o. IfSome o state_fits) some fits)
+  -- the first undone act leads to the first state ahead
+  leads : (act : A) (left right : Kept S A) → Shifts act left right → LeadsTo step left.now left.undone left.ahead → (step left.now act ≡ Some right.now) × LeadsTo step right.now right.undone right.ahead
+  leads act left right s h =
+      subst (λ ahead. LeadsTo step left.now (act ∷ right.undone) ahead) s.ahead (subst (λ undone. LeadsTo step left.now undone left.ahead) s.undone h)
 
-pub one_more : {S A : Type 0} (step : S → A → Option S) (state_fits : S → Type 0) (act_fits : A → Type 0) (t : Kept S A) (first now : S) (acts : List A) (count n : ℕ) → kept first now acts count ≡ t → count ≡ n + 1 → IsTrail step state_fits act_fits t → IsTrail step state_fits act_fits (kept first now acts (n + 1))
-one_more step state_fits act_fits t first now acts count n seen more trail =
-    subst (λ k. IsTrail step state_fits act_fits (kept first now acts k)) more (subst (IsTrail step state_fits act_fits) (sym seen) trail)
+  came : (act : A) (left right : Kept S A) → Shifts act left right → CameBy step right.first right.done right.past → (fold step left.first left.done ≡ Some left.now) × CameBy step left.first left.done left.past
+  came act left right s h =
+      subst (λ first. CameBy step first (act ∷ left.done) (left.now ∷ left.past)) s.first
+      (subst (λ past. CameBy step right.first (act ∷ left.done) past) s.past (subst (λ done. CameBy step right.first done right.past) s.done h))
 
-pub undo_fits : {S A : Type 0} (step : S → A → Option S) (state_fits : S → Type 0) (act_fits : A → Type 0) (first now : S) (acts : List A) (n : ℕ) → n < length acts → IsTrail step state_fits act_fits (kept first now acts (n + 1)) → All act_fits (take n acts)
-undo_fits step state_fits act_fits first now acts n h trail =
-    let d = one_of acts n h in
-    all_back act_fits acts n (omega arith) (tail act_fits _ _ (subst (All act_fits) (back_more acts n d h) trail.done_fit))
+  pub redo_moves : (act : A) (before after : Kept S A) → Shifts act before after → IsTrail step state_fits act_fits before → Redoes step act before after
+  redo_moves act before after s trail = record { first = s.first; undone = s.undone; done = s.done; now = (leads act before after s trail.leads_to).0 }
 
-pub undo_goes : {S A : Type 0} (step : S → A → Option S) (state_fits : S → Type 0) (act_fits : A → Type 0) (first now : S) (acts : List A) (n : ℕ) → n < length acts → IsTrail step state_fits act_fits (kept first now acts (n + 1)) → IsSome (fold step first (reverse (take n acts)))
-undo_goes step state_fits act_fits first now acts n h trail =
-    let d = one_of acts n h in
-    let last = before_last step (fold step first (reverse (take n acts))) (get_or acts n d) now (ap (fold step first) (sym (back_more acts n d h)) ∙ trail.stands) in
-    subst IsSome (sym last.1) refl
-
-pub undo_moves : {S A : Type 0} (step : S → A → Option S) (t : Kept S A) (first now before : S) (acts : List A) (count n : ℕ) → kept first now acts count ≡ t → count ≡ n + 1 → n < length acts → fold step first (reverse (take n acts)) ≡ Some before → (act : A) × Undoes step act t (kept first before acts n)
-undo_moves step t first now before acts count n seen more h e =
-    let d = one_of acts n h in (
-      get_or acts n d,
+  pub redo_trail : (act : A) (before after : Kept S A) → Shifts act before after → IsTrail step state_fits act_fits before → IsTrail step state_fits act_fits after
+  redo_trail act before after s trail =
+      let undone : All act_fits (act ∷ after.undone) = subst (All act_fits) s.undone trail.undone_fit in
+      let ahead : All state_fits (after.now ∷ after.ahead) = subst (All state_fits) s.ahead trail.ahead_fit in
+      let again : GoesOn step before.now (act ∷ after.undone) = subst (GoesOn step before.now) s.undone trail.goes_on in
+      let next = leads act before after s trail.leads_to in
+      let same : again.0 ≡ after.now = one_state before.now act again.0 after.now again.1 next.0 in
+      let stands : fold step before.first (act ∷ before.done) ≡ Some after.now = ap (λ o. option_and_then (λ state. step state act) o) trail.stands ∙ next.0 in
       record {
-        first = ap (λ u. u.first) seen;
-        done = sym (ap (λ u. u.done) seen) ∙ ap (λ k. reverse (take k acts)) more ∙ back_more acts n d h;
-        undone = drop_more acts n d h ∙ ap (λ undone. get_or acts n d ∷ undone) (ap (λ k. drop k acts) (sym more) ∙ ap (λ u. u.undone) seen);
-        now = e;
-      },
-    )
+        first_fits = subst state_fits (sym s.first) trail.first_fits;
+        now_fits = head state_fits _ _ ahead;
+        done_fit = subst (All act_fits) (sym s.done) (All-cons act_fits act before.done (head act_fits _ _ undone) trail.done_fit);
+        undone_fit = tail act_fits _ _ undone;
+        stands = ap (λ first. fold step first after.done) s.first ∙ ap (fold step before.first) s.done ∙ stands;
+        goes_on = subst (λ state. GoesOn step state after.undone) same again.2;
+        past_fit = subst (All state_fits) (sym s.past) (All-cons state_fits before.now before.past trail.now_fits trail.past_fit);
+        ahead_fit = tail state_fits _ _ ahead;
+        came_by =
+            subst (λ past. CameBy step after.first after.done past) (sym s.past)
+            (subst (λ done. CameBy step after.first done (before.now ∷ before.past)) (sym s.done)
+            (subst (λ first. CameBy step first (act ∷ before.done) (before.now ∷ before.past)) (sym s.first) (trail.stands, trail.came_by)));
+        leads_to = next.1;
+      }
+    where
+      one_state : (now : S) (act : A) (a b : S) → step now act ≡ Some a → step now act ≡ Some b → a ≡ b
+      one_state now act a b p q = cc
+
+  pub undo_moves : (act : A) (before after : Kept S A) → Shifts act after before → IsTrail step state_fits act_fits before → Undoes step act before after
+  undo_moves act before after s trail = record { first = sym s.first; done = s.done; undone = s.undone; now = (came act after before s trail.came_by).0 }
+
+  pub undo_trail : (act : A) (before after : Kept S A) → Shifts act after before → IsTrail step state_fits act_fits before → IsTrail step state_fits act_fits after
+  undo_trail act before after s trail =
+      let done : All act_fits (act ∷ after.done) = subst (All act_fits) s.done trail.done_fit in
+      let past : All state_fits (after.now ∷ after.past) = subst (All state_fits) s.past trail.past_fit in
+      let last = came act after before s trail.came_by in
+      let again : step after.now act ≡ Some before.now =
+      sym (ap (λ o. option_and_then (λ state. step state act) o) last.0)
+      ∙ ap (λ first. fold step first (act ∷ after.done)) (sym s.first)
+      ∙ ap (fold step before.first) (sym s.done) ∙ trail.stands in
+      record {
+        first_fits = subst state_fits s.first trail.first_fits;
+        now_fits = head state_fits _ _ past;
+        done_fit = tail act_fits _ _ done;
+        undone_fit = subst (All act_fits) (sym s.undone) (All-cons act_fits act before.undone (head act_fits _ _ done) trail.undone_fit);
+        stands = last.0;
+        goes_on = subst (GoesOn step after.now) (sym s.undone) (before.now, again, trail.goes_on);
+        past_fit = tail state_fits _ _ past;
+        ahead_fit = subst (All state_fits) (sym s.ahead) (All-cons state_fits before.now before.ahead trail.now_fits trail.ahead_fit);
+        came_by = last.1;
+        leads_to =
+            subst (λ ahead. LeadsTo step after.now after.undone ahead) (sym s.ahead)
+            (subst (λ undone. LeadsTo step after.now undone (before.now ∷ before.ahead)) (sym s.undone) (again, trail.leads_to));
+      }

@@ -4,3 +4,5 @@ pub mod Kept
 pub mod Moves
 pub mod Runs
 pub mod StruckList
+pub mod Taken
+pub mod Wound

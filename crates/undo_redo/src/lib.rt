@@ -1,11 +1,10 @@
-//! Undo and redo over any machine of steps: a trail keeps what was done and what was undone.
+//! Undo and redo over any machine of steps: a trail keeps what was done and what was undone, and each state between.
 #![tactic(auto)]
 
 mod machine;
-mod replay;
-#[cfg(test)]
-mod tests;
+mod steps;
 mod trail;
 
 pub use machine::Machine;
-pub use trail::{Trail, keeps_struck_list, new_is_a_trail};
+pub use steps::Step;
+pub use trail::{ROOM, Trail, keeps_struck_list, new_is_a_trail};

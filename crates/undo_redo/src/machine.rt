@@ -7,9 +7,9 @@ use std::alloc::Global;
 
 /// States and acts, and the step from a state by an act.
 pub trait Machine {
-    /// What a step goes from and to.
+    /// The type of the states.
     type State: Drop;
-    /// What a step is made by.
+    /// The type of the acts.
     type Act: Drop;
 
     /// The state after a state by an act; none where the machine refuses.
@@ -32,12 +32,4 @@ pub trait Machine {
         requires act { act_fits self.now act.now }
         ensures value { IfOk result (λ next. next ≡ stepped self.now state.now act.now) }
         ensures fits { IfOk result (λ next. IfSome next (state_fits self.now)) };
-
-    /// An equal state.
-    fn copy_state(&self, alloc: Global, state: &Self::State) -> Result<Self::State, NoMemory>
-        ensures { IfOk result (λ copied. copied ≡ state.now) };
-
-    /// An equal act.
-    fn copy_act(&self, alloc: Global, act: &Self::Act) -> Result<Self::Act, NoMemory>
-        ensures { IfOk result (λ copied. copied ≡ act.now) };
 }

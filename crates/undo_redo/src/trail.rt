@@ -1,41 +1,46 @@
-//! The trail: what was done and what was undone, and the state that it comes to.
+//! The trail: what was done and what was undone, and the states between.
 
-ghost use Rattle.std.specs.Prelude.{◌≡◌, IfOk, slice_get};
+ghost use Rattle.std.specs.Prelude.{◌≡◌, ◌<◌, IfOk, IsOk, Some, length, option_map, slice_get};
+ghost use Rattle.std.specs.Arc.{arc_value};
 ghost use Rattle.std.specs.Option.{option_copied};
 ghost use Rattle.undo_redo.specs.IsTrail.{IsTrail};
 ghost use Rattle.undo_redo.specs.Kept.{new_trail};
-ghost use Rattle.undo_redo.specs.Moves.{Advanced, Redone, Undone};
+ghost use Rattle.undo_redo.specs.Moves.{Advanced, Does, Redone, Undone};
 ghost use Rattle.undo_redo.specs.Runs.{KeepsStruckList};
 
 use crate::machine::Machine;
-use crate::replay::{copies, put, replay};
+use crate::steps::{Step, copies, put};
 use game_sheet::NoMemory;
 use std::alloc::Global;
 use std::marker::Model;
+use std::sync::Arc;
 
-/// Acts done and undone from a first state on. Contracts see its first state, the two lists and the present state.
+/// For how many steps a trail has room from its beginning.
+pub const ROOM: usize = 4096;
+
+/// Acts done and undone from a first state on, with each state that they led to, which copies share.
+///
+/// Contracts see its first state, the two lists, the present state and the states that are kept besides. An undo, a redo and a step
+/// that is put in while fewer than [`ROOM`] are done take no memory, and none of them runs a step of the machine.
 #[derive(Drop)]
 pub struct Trail<S, A> {
-    first: S,
-    later: Option<S>,
-    acts: Vec<A>,
+    first: Arc<S>,
+    steps: Vec<Step<S, A>>,
     count: usize,
 }
 
 impl<S, A> Model for Trail<S, A> {
-    ghost use Rattle.std.specs.Prelude.{◌≤◌, drop, length, reverse, take, unwrap_or};
+    ghost use Rattle.std.specs.Prelude.{◌≤◌, length};
+    ghost use Rattle.std.specs.Arc.{arc_value};
+    ghost use Rattle.std.specs.Vec.{vec_capacity};
     ghost use Rattle.undo_redo.specs.Kept.{Kept};
+    ghost use Rattle.undo_redo.specs.Wound.{wound};
 
     ghost Value = { Kept S A };
 
-    ghost view = { λ t. record {
-      first = t.first;
-      done = reverse (take t.count t.acts.items);
-      undone = drop t.count t.acts.items;
-      now = unwrap_or t.later t.first;
-    } };
+    ghost view = { λ t. wound (arc_value t.first) t.steps.items t.count };
 
-    ghost invariant = { λ t. t.count ≤ length t.acts.items };
+    ghost invariant = { λ t. (t.count ≤ length t.steps.items) × (4096 ≤ vec_capacity t.steps) };
 }
 
 impl<S, A> Trail<S, A> {
@@ -43,9 +48,10 @@ impl<S, A> Trail<S, A> {
     pub fn now(&self) -> &S
         ensures { result.now ≡ self.now.now }
     {
-        match &self.later {
-            Some(state) => state,
-            None => &self.first,
+        if self.count == 0 {
+            &self.first
+        } else {
+            self.steps[self.count - 1].after()
         }
     }
 
@@ -53,14 +59,46 @@ impl<S, A> Trail<S, A> {
     pub fn last_done(&self) -> Option<&A>
         ensures { option_copied result ≡ slice_get self.now.done 0 }
     {
-        self.acts[..self.count].last()
+        if self.count == 0 {
+            None
+        } else {
+            Some(self.steps[self.count - 1].act())
+        }
     }
 
     /// The act that is done again next, if any.
     pub fn first_undone(&self) -> Option<&A>
         ensures { option_copied result ≡ slice_get self.now.undone 0 }
     {
-        self.acts[self.count..].first()
+        if self.count < self.steps.len() {
+            Some(self.steps[self.count].act())
+        } else {
+            None
+        }
+    }
+
+    /// The state that an undo leads to, if any act is done.
+    pub fn before(&self) -> Option<&Arc<S>>
+        ensures { option_map (λ kept. arc_value kept) (option_copied result) ≡ slice_get self.now.past 0 }
+    {
+        if self.count == 0 {
+            None
+        } else if self.count == 1 {
+            Some(&self.first)
+        } else {
+            Some(self.steps[self.count - 2].kept())
+        }
+    }
+
+    /// The state that a redo leads to, if any act is undone.
+    pub fn ahead(&self) -> Option<&Arc<S>>
+        ensures { option_map (λ kept. arc_value kept) (option_copied result) ≡ slice_get self.now.ahead 0 }
+    {
+        if self.count < self.steps.len() {
+            Some(self.steps[self.count].kept())
+        } else {
+            None
+        }
     }
 }
 
@@ -69,10 +107,11 @@ impl<S: Drop, A: Drop> Trail<S, A> {
     pub fn new(alloc: Global, first: S) -> Result<Self, NoMemory>
         ensures { IfOk result (λ t. t ≡ new_trail first) }
     {
+        let steps = Vec::with_capacity(alloc, ROOM)?;
+        let first = Arc::new(alloc, first)?;
         Ok(Trail {
             first,
-            later: None,
-            acts: Vec::new(alloc),
+            steps,
             count: 0,
         })
     }
@@ -92,71 +131,67 @@ impl<S: Drop, A: Drop> Trail<S, A> {
         let Some(next) = machine.step(alloc, self.now(), &act)? else {
             return Ok(false);
         };
-        put(&mut self.acts, self.count, act)?;
+        let step = Step::new(alloc, act, next)?;
+        self.steps.reserve(1)?;
+        put(&mut self.steps, self.count, step);
         self.count += 1;
-        self.later = Some(next);
         Ok(true)
     }
 
-    /// Undoes the last act that was done. It is false exactly where none is done.
-    pub fn undo<M: Machine<State = S, Act = A>>(
-        &mut self,
-        alloc: Global,
-        machine: &M,
-    ) -> Result<bool, NoMemory>
+    /// Puts in the machine's step from the present state, which empties the undone acts. It takes no memory.
+    pub fn commit<M: Machine<State = S, Act = A>>(&mut self, machine: &M, step: Step<S, A>)
+        requires trail { IsTrail (M.stepped machine.now) (M.state_fits machine.now) (M.act_fits machine.now) self.old }
+        requires act { M.act_fits machine.now step.act }
+        requires state { M.state_fits machine.now step.after }
+        requires step { M.stepped machine.now self.old.now step.act ≡ Some step.after }
+        requires room { length self.old.done < 4096 }
+        ensures moves { Does (M.stepped machine.now) step.act self.old self.new }
+        ensures trail { IsTrail (M.stepped machine.now) (M.state_fits machine.now) (M.act_fits machine.now) self.new }
+    {
+        let _machine = machine;
+        put(&mut self.steps, self.count, step);
+        self.count += 1;
+    }
+
+    /// Undoes the last act that was done. It is false exactly where none is done. It takes no memory.
+    pub fn undo<M: Machine<State = S, Act = A>>(&mut self, machine: &M) -> Result<bool, NoMemory>
         requires { IsTrail (M.stepped machine.now) (M.state_fits machine.now) (M.act_fits machine.now) self.old }
         ensures moves { Undone (M.stepped machine.now) result self.old self.new }
         ensures trail { IsTrail (M.stepped machine.now) (M.state_fits machine.now) (M.act_fits machine.now) self.new }
+        ensures sure { IsOk result }
     {
+        let _machine = machine;
         if self.count == 0 {
             return Ok(false);
         }
-        let count = self.count - 1;
-        let state = replay(alloc, machine, &self.first, &self.acts[..count])?;
-        self.later = Some(state);
-        self.count = count;
+        self.count -= 1;
         Ok(true)
     }
 
-    /// Does the first undone act again. It is false exactly where none is undone.
-    pub fn redo<M: Machine<State = S, Act = A>>(
-        &mut self,
-        alloc: Global,
-        machine: &M,
-    ) -> Result<bool, NoMemory>
+    /// Does the first undone act again. It is false exactly where none is undone. It takes no memory.
+    pub fn redo<M: Machine<State = S, Act = A>>(&mut self, machine: &M) -> Result<bool, NoMemory>
         requires { IsTrail (M.stepped machine.now) (M.state_fits machine.now) (M.act_fits machine.now) self.old }
         ensures moves { Redone (M.stepped machine.now) result self.old self.new }
         ensures trail { IsTrail (M.stepped machine.now) (M.state_fits machine.now) (M.act_fits machine.now) self.new }
+        ensures sure { IsOk result }
     {
-        if self.count == self.acts.len() {
+        let _machine = machine;
+        if self.count == self.steps.len() {
             return Ok(false);
         }
-        let Some(next) = machine.step(alloc, self.now(), &self.acts[self.count])? else {
-            unreachable!()
-        };
-        self.later = Some(next);
         self.count += 1;
         Ok(true)
     }
 
-    /// An equal trail.
-    pub fn copy<M: Machine<State = S, Act = A>>(
-        &self,
-        alloc: Global,
-        machine: &M,
-    ) -> Result<Self, NoMemory>
+    /// An equal trail, which shares all states and acts.
+    pub fn copy(&self, alloc: Global) -> Result<Self, NoMemory>
         ensures { IfOk result (λ t. t ≡ self.now) }
     {
-        let first = machine.copy_state(alloc, &self.first)?;
-        let later = match &self.later {
-            Some(state) => Some(machine.copy_state(alloc, state)?),
-            None => None,
-        };
-        let acts = copies(alloc, machine, self.acts.as_slice())?;
+        let steps = copies(alloc, self.steps.as_slice(), ROOM)?;
+        let first = Arc::try_clone(&self.first)?;
         Ok(Trail {
             first,
-            later,
-            acts,
+            steps,
             count: self.count,
         })
     }

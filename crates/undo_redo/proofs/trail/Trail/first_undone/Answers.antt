@@ -1,0 +1,10 @@
+use Rattle.std.proofs.Common.{◌<◌, length, arith, rules}
+use Rattle.std.specs.Arc.{arc_value}
+use Rattle.undo_redo.proofs.Winds.{next_told}
+use Rattle.undo_redo.proofs.trail.Trail.first_undone.Goals as goal
+
+pub returns-then-self-len : goal.returns-then-self-len
+returns-then-self-len g c =
+    let inside : c.self.inside.count < length c.self.inside.steps.items = first_of (omega (arith, c.len.ensures), search rules) in
+    next_told c.args.self.now (arc_value c.self.inside.first) c.self.inside.steps.items c.self.inside.count c.index.result.now c.act.result.now
+    c.self.view_is inside c.index.ensures c.act.ensures
