@@ -13,6 +13,7 @@ pub mod Keeps
 pub mod News
 pub mod Others
 pub mod Outboxes
+pub mod Presence
 pub mod Replies
 pub mod Responses
 pub mod RuleLaws

@@ -11,6 +11,7 @@ pub mod News
 pub mod Others
 pub mod Outbox
 pub mod Piece
+pub mod Presence
 pub mod Removal
 pub mod Reply
 pub mod Room

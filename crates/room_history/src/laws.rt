@@ -1,6 +1,6 @@
 //! Laws of rooms, over every history. There is nothing to run.
 
-ghost use Rattle.std.specs.Prelude.{◌≡◌, ◌==◌, ◌∷◌, ℕ, Bool, true, false, List, None, Some};
+ghost use Rattle.std.specs.Prelude.{◌≡◌, ◌==◌, ◌∷◌, ℕ, Bool, true, false, if◌then◌else◌, List, None, Some};
 ghost use Rattle.room_object.specs.Entry.{Entry, entry};
 ghost use Rattle.wire_json.specs.declared.reason.Reason.{Reason};
 ghost use Rattle.wire_json.specs.declared.verdict.Verdict.TheVariants as verdict;
@@ -13,6 +13,7 @@ ghost use Rattle.room_history.specs.News.{TellsSight};
 ghost use Rattle.room_history.specs.Others.{KeepsAll, KeepsOthers, TellsRefusal};
 ghost use Rattle.room_history.specs.Outbox.{attachment_of};
 ghost use Rattle.room_history.specs.Piece.{state_of};
+ghost use Rattle.room_history.specs.Presence.{attached_after, is_attached};
 ghost use Rattle.room_history.specs.Removal.{IsOfSeat};
 ghost use Rattle.room_history.specs.Room.{latest_session, reply, room_of, serials, session, standing};
 ghost use Rattle.room_history.specs.Sent.{IsToldOf, SendsReply};
@@ -104,6 +105,15 @@ pub fn rooms_go_by_what_is_held<X: Game>(game: &X)
         ≡ attachment_after X.rules room (standing X.rules room h) (attachment_of ((room_of X.rules room h).sessions pass)) (pass == q) (attachment_of ((room_of X.rules room h).sessions q)) call }
     ensures replied { (room : ℕ) (h : List (Entry (Asks X))) (pass : ℕ) (call : Asks X) → reply X.rules room h (entry pass call false)
         ≡ reply_held X.rules room (serials X.rules room h) (standing X.rules room h) (attachment_of ((room_of X.rules room h).sessions pass)) call }
+{
+    let _game = game;
+}
+
+/// Whether a pass is attached follows from its own calls and their replies.
+pub fn attachments_follow_from_replies<X: Game>(game: &X)
+    ensures heard { (room : ℕ) (h : List (Entry (Asks X))) (pass q : ℕ) (call : Asks X) → is_attached X.rules room (entry pass call false ∷ h) q
+        ≡ (if pass == q then attached_after (is_attached X.rules room h q) call (reply X.rules room h (entry pass call false)) else is_attached X.rules room h q) }
+    ensures starved { (room : ℕ) (h : List (Entry (Asks X))) (pass q : ℕ) (call : Asks X) → is_attached X.rules room (entry pass call true ∷ h) q ≡ is_attached X.rules room h q }
 {
     let _game = game;
 }
