@@ -12,17 +12,9 @@ type Row = (u8, u8, u8, u8, Option<u8>);
 fn assert_rows(rt: &impl Abort, order: &Order, rows: [Row; 5]) {
     for (len, pos, start, later, after) in rows {
         assert!(rt; pos < len);
-        assert_eq!(rt;
-            first(order, true, pos, len),
-            start,
-            "start, {pos} of {len}"
-        );
-        assert_eq!(rt;
-            first(order, false, pos, len),
-            later,
-            "phase, {pos} of {len}"
-        );
-        assert_eq!(rt; next(order, pos, len), after, "next, {pos} of {len}");
+        let begins = first(order, true, pos, len) == start
+            && first(order, false, pos, len) == later;
+        assert!(rt; begins && next(order, pos, len) == after, "{pos} of {len}");
     }
 }
 
@@ -82,21 +74,31 @@ fn a_shorter_play_order_takes_the_old_place_round(rt: HostRuntime) {
     assert!(rt; shortened(Order::Reset) == 0);
 }
 
-/// The play order that a list gives in a match of three seats.
-fn in_three(alloc: Global, given: &[Seat]) -> Result<List<Seat>, NoMemory> {
-    list_from(alloc, List::from_slice(alloc, given)?, 3)
+/// Compares the play order that a list gives in a match of three seats.
+fn gives(rt: &impl Abort, alloc: Global, given: &[Seat], order: &[Seat]) -> Result<(), NoMemory> {
+    let listed = list_from(alloc, List::from_slice(alloc, given)?, 3)?;
+    assert!(rt; listed.as_slice() == order, "{given:?}");
+    drop(listed);
+    Ok(())
 }
+
+/// All seats of three.
+const ALL: &[Seat] = &[0, 1, 2];
 
 #[test]
 fn a_list_that_can_be_no_play_order_gives_way_to_all_seats(rt: HostRuntime) -> Result<(), Fail> {
     let alloc = rt.alloc();
-    let all: &[Seat] = &[0, 1, 2];
-    assert_eq!(rt; all_seats(alloc, 3)?.as_slice(), all);
-    assert_eq!(rt; in_three(alloc, &[])?.as_slice(), all);
-    assert_eq!(rt; in_three(alloc, &[0, 3])?.as_slice(), all);
-    assert_eq!(rt; in_three(alloc, &[0; 65])?.as_slice(), all);
-    assert_eq!(rt; in_three(alloc, &[0; 64])?.len(), 64);
-    let own: &[Seat] = &[2, 0, 2];
-    assert_eq!(rt; in_three(alloc, own)?.as_slice(), own);
+    gives(&rt, alloc, &[], ALL)?;
+    gives(&rt, alloc, &[0, 3], ALL)?;
+    gives(&rt, alloc, &[0; 65], ALL)?;
+    gives(&rt, alloc, &[0; 64], &[0; 64])?;
+    gives(&rt, alloc, &[2, 0, 2], &[2, 0, 2])?;
+    Ok(())
+}
+
+#[test]
+fn all_seats_stand_in_their_order(rt: HostRuntime) -> Result<(), Fail> {
+    let all = all_seats(rt.alloc(), 3)?;
+    assert!(rt; all.as_slice() == ALL);
     Ok(())
 }

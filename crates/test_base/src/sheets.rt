@@ -256,6 +256,13 @@ fn spoiled_rows(alloc: Global, nr: u8) -> Result<Sheet, NoMemory> {
         2 => with_phases(alloc, phases(alloc, &["draw", "play"], true)?),
         3 => with_stages(alloc, stages(alloc, &["bid", "wait"], Some(2))?),
         4 => with_turn(alloc, turn(Order::Default, 0, Some(0), None)),
+        _ => spoiled_turns(alloc, nr),
+    }
+}
+
+/// The last of them, of turns, orders and specs.
+fn spoiled_turns(alloc: Global, nr: u8) -> Result<Sheet, NoMemory> {
+    match nr {
         5 => with_phases(
             alloc,
             phase_of(alloc, turn(Order::Default, 3, Some(2), None))?,
