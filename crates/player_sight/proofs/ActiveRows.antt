@@ -9,7 +9,8 @@ use Rattle.serde_json.specs.View.{members_view}
 use Rattle.serde_json.specs.declared.value.Value.{Value}
 use Rattle.serde_json.proofs.Views.{members_len-members_view}
 use Rattle.game_sheet.specs.declared.sheet.Sheet.{Sheet}
-use Rattle.player_sight.specs.Reading.{id_or_null, stage_of}
+use Rattle.game_sheet.specs.SheetNames.{stage_of}
+use Rattle.player_sight.specs.Reading.{id_or_null}
 use Rattle.player_sight.specs.CtxReading.{Rows, with_seat, rows_from}
 
 pub members_counted : (entries : List (String Global × Value)) → members_len (members_view entries) ≡ length entries

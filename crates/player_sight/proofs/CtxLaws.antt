@@ -16,7 +16,8 @@ use Rattle.game_sheet.specs.declared.ctx.Ctx.{Ctx}
 use Rattle.game_sheet.specs.declared.sheet.Sheet.{Sheet}
 use Rattle.player_sight.specs.CtxData.{active_data, outcome_data, over_data, ctx_data}
 use Rattle.player_sight.specs.CtxReading.{active_from, active_in, over_from, over_in, is_true, is_flag, outcome_by, outcome_in, winner_in, order_in, phase_in, counts_in, ctx_names, ctx_from, ctx_in}
-use Rattle.player_sight.specs.Parts.{natural, naturals, phase_or_null}
+use Rattle.sheet_json.specs.Seats.{natural}
+use Rattle.player_sight.specs.Parts.{naturals, phase_or_null}
 use Rattle.player_sight.specs.Plain.{OverFits, IsPlainCtx}
 use Rattle.player_sight.specs.Reading.{naturals_from}
 use Rattle.player_sight.specs.declared.ctx_read.Counts.{Counts}

@@ -1,5 +1,5 @@
 -- How deep the values that a player is sent of a context, an entry and a log nest.
-use Rattle.std.proofs.Common.{◌≡◌, ℕ, ◌≤◌, ◌+◌, max, suc, ℤ, List, [], ◌∷◌, map, fold, Bool, true, false, Option, Some, None, option_map, Ordering, Less, Equal, Greater, sym, subst, arith}
+use Rattle.std.proofs.Common.{◌≡◌, ℕ, ◌≤◌, ◌+◌, max, suc, List, [], ◌∷◌, map, fold, Bool, true, false, Option, Some, None, option_map, Ordering, Less, Equal, Greater, sym, subst, arith}
 use Rattle.std.proofs.Math.Nat.{max-le}
 use Rattle.std.specs.Prelude.{slice_get, decimal}
 use Rattle.std.specs.Ordering.{nat_cmp, match_ordering}
@@ -15,7 +15,11 @@ use Rattle.game_sheet.specs.declared.act.Outcome.TheVariants.{Winner, Draw, Ende
 use Rattle.game_sheet.specs.declared.ctx.Ctx.{Ctx}
 use Rattle.game_sheet.specs.declared.sheet.Sheet.{Sheet}
 use Rattle.move_log.specs.declared.entry.Entry.{Entry}
-use Rattle.player_sight.specs.Parts.{integer, natural, text_or_null, natural_or_null, move_name, phase_or_null, stage_or_null}
+use Rattle.game_sheet.specs.declared.args.Arg.{Arg}
+use Rattle.sheet_json.specs.Arguments.{arguments}
+use Rattle.sheet_json.specs.Seats.{natural, natural_or_null}
+use Rattle.sheet_json.proofs.ArgumentLaws.{flat}
+use Rattle.player_sight.specs.Parts.{text_or_null, move_name, phase_or_null, stage_or_null}
 use Rattle.player_sight.specs.EntryData.{event_data, act_data, entry_data, log_data}
 use Rattle.player_sight.specs.CtxData.{with_row, active_data, over_data, ctx_data}
 use Rattle.player_sight.specs.SnapshotData.{snapshot_object}
@@ -52,9 +56,8 @@ of_naturals : (ns : List ℕ) → items_depth (items_of (map natural ns)) ≤ 0
 of_naturals [] = above_zero 0
 of_naturals (n ∷ ns) = max-le (above_zero 0) (of_naturals ns)
 
-of_integers : (zs : List ℤ) → items_depth (items_of (map integer zs)) ≤ 0
-of_integers [] = above_zero 0
-of_integers (z ∷ zs) = max-le (above_zero 0) (of_integers zs)
+of_arguments : (args : List Arg) → items_depth (arguments args) ≤ 0
+of_arguments args = subst (λ n. n ≤ 0) (sym (flat args)) (above_zero 0)
 
 of_event : (sheet : Sheet) (e : event.Event) → depth (event_data sheet e) ≤ 1
 of_event sheet (EndTurn to) = one_more _ _ (max-le (above_zero 0) (max-le (above_zero 0) (max-le (of_natural to 0) (above_zero 0))))
@@ -71,7 +74,7 @@ of_move sheet id m = of_text (option_map (λ row. row.name) (slice_get sheet.mov
 of_act : (sheet : Sheet) (hidden : Bool) (act : Act) → depth (act_data sheet hidden act) ≤ 2
 of_act sheet true (Move id args) = one_more _ _ (max-le (above_zero 1) (max-le (above_zero 1) (max-le (of_move sheet id 1) (above_zero 1))))
 of_act sheet false (Move id args) =
-    one_more _ _ (max-le (one_more _ _ (of_integers args)) (max-le (above_zero 1) (max-le (of_move sheet id 1) (above_zero 1))))
+    one_more _ _ (max-le (one_more _ _ (of_arguments args)) (max-le (above_zero 1) (max-le (of_move sheet id 1) (above_zero 1))))
 of_act sheet hidden (Event e) = let h = of_event sheet e in omega arith
 of_act sheet hidden Undo = one_more _ _ (max-le (above_zero 1) (above_zero 1))
 of_act sheet hidden Redo = one_more _ _ (max-le (above_zero 1) (above_zero 1))

@@ -24,33 +24,30 @@ use Rattle.game_sheet.specs.declared.sheet.StageRow.{StageRow}
 use Rattle.move_log.specs.declared.entry.Entry.{Entry}
 use Rattle.player_sight.specs.CtxReading.{phase_in}
 use Rattle.player_sight.specs.EntryData.{event_data, act_data, entry_data}
-use Rattle.player_sight.specs.EntryReading.{args_from, move_with, shown, move_in, is_null_in, seat_or_null, aimless, alone_in, event_by, event_in, deed_by, deed_in, entry_names, entry_from, entry_in}
-use Rattle.player_sight.specs.Parts.{natural, integer, integers, natural_or_null, move_name, phase_name, stage_name, phase_or_null}
-use Rattle.player_sight.specs.Plain.{IsWithin, IsIn, EventFits, ArgsFit, ActFits, IsPlainEntry}
-use Rattle.player_sight.specs.Reading.{natural_at, text_at, is_argument, argument_from, argument_in, arguments_from, arguments_of, id_or_null, move_of, phase_of, stage_of}
+use Rattle.game_sheet.specs.EventNames.{event_text, kind_from}
+use Rattle.game_sheet.specs.SheetNames.{move_of, phase_of, stage_of}
+use Rattle.game_sheet.specs.declared.act.EventKind.{EventKind}
+use Rattle.game_sheet.specs.declared.act.EventKind.TheVariants as asks
+use Rattle.game_sheet.specs.declared.args.Arg.{Arg}
+use Rattle.json_tree.specs.Fields.{natural_in}
+use Rattle.sheet_json.specs.Arguments.{arguments, AreArguments, arguments_in}
+use Rattle.sheet_json.specs.Seats.{natural, natural_or_null, IsWithin, is_null_in, or_null}
+use Rattle.sheet_json.proofs.ArgumentLaws.{arguments_are, arguments_again}
+use Rattle.sheet_json.proofs.EventLaws.{kind_is}
+use Rattle.sheet_json.proofs.SeatLaws as seats
+use Rattle.sheet_json.proofs.SeatLaws.{null_is, Holds, or_null_is}
+use Rattle.player_sight.specs.EntryReading.{args_from, move_with, shown, move_in, seat_or_null, aimless, alone_in, event_of, event_by, event_in, deed_by, deed_in, entry_names, entry_from, entry_in}
+use Rattle.player_sight.specs.Parts.{move_name, phase_name, stage_name, phase_or_null}
+use Rattle.player_sight.specs.Plain.{IsIn, EventFits, ActFits, IsPlainEntry}
+use Rattle.player_sight.specs.Reading.{text_at, id_or_null}
 use Rattle.player_sight.specs.declared.entry_read.Deed.{Deed}
-use Rattle.player_sight.proofs.NumberLaws.{natural_is, natural_again}
+use Rattle.player_sight.proofs.NumberLaws.{good, natural_is, natural_again}
 use Rattle.player_sight.proofs.PartLaws.{name_or_null, step, chained, mapped, past, tested, text_is, id_is, id_again, name_is, name_again}
 
 -- ---- arguments
 
-argument_again : (z : ℤ) → is_argument z ≡ true → argument_in (integer z) ≡ Some z
-argument_again (pos n) h =
-    let both = and_parts (int_le (negsuc 2147483647) (pos n)) (int_le (pos n) (pos 2147483647)) h in
-    let most : n ≤ 2147483647 = leb-true n 2147483647 both.1 in
-    rw (lt-ltb n (2 ^ 63) (omega arith), h) refl
-argument_again (negsuc n) h = rw (h) refl
-
-arguments_again : (zs : List ℤ) → AllByRecursion (λ z. is_argument z ≡ true) zs → arguments_from (items_of (map integer zs)) ≡ Some zs
-arguments_again [] h = refl
-arguments_again (z ∷ zs) h = rw (argument_again z h.0, arguments_again zs h.1) refl
-
-length_of : (zs : List ℤ) → items_len (items_of (map integer zs)) ≡ length zs
-length_of [] = refl
-length_of (z ∷ zs) = ap suc (length_of zs)
-
-args_again : (zs : List ℤ) → ArgsFit zs → args_from (integers zs) ≡ Some (Some zs)
-args_again zs h = rw (length_of zs, le-leb (length zs) 8 h.0, arguments_again zs h.1) refl
+args_again : (args : List Arg) → AreArguments args → args_from (array (arguments args)) ≡ Some (Some args)
+args_again args h = ap (option_map (λ x. Some x)) (arguments_again args h)
 
 -- ---- from an entry to its value and back
 
@@ -66,7 +63,7 @@ phase_named sheet id fit h = name_again (λ (row : PhaseRow). row.name) sheet.ph
 event_again : (sheet : Sheet) (e : event.Event) → SheetFits sheet → EventFits sheet e → event_in sheet (event_data sheet e) ≡ Some e
 unfolding event_in
 event_again sheet (EndTurn None) fit h = refl
-event_again sheet (EndTurn (Some seat)) fit h = rw (natural_again 255 seat h) refl
+event_again sheet (EndTurn (Some seat)) fit h = rw (seats.natural_again 255 seat h) refl
 event_again sheet EndPhase fit h = refl
 event_again sheet (SetPhase to) fit h = ap (option_map SetPhase) (phase_named sheet to fit h)
 event_again sheet EndStage fit h = refl
@@ -109,60 +106,32 @@ entry_again sheet e fit h =
 
 -- ---- from a value to its entry
 
-kept : (b : Bool) (n : ℕ) (z : ℤ) → argument_from (cond b (Some (pos n)) None) ≡ Some z → (pos n ≡ z) × (is_argument z ≡ true)
-kept true n z e = let is = tested (is_argument (pos n)) (pos n) z e in (is.1, subst (λ x. is_argument x ≡ true) is.1 is.0)
-kept false n z e = absurd (cc)
-
-argument_is : (d : Data) (z : ℤ) → argument_in d ≡ Some z → IsCanonical d → (d ≡ integer z) × (is_argument z ≡ true)
-argument_is null z e c = absurd (cc)
-argument_is (boolean b) z e c = absurd (cc)
-argument_is (number (unsigned n)) z e c = let is = kept (nat_lt n (2 ^ 63)) n z e in (ap integer is.0, is.1)
-argument_is (number (negative (pos n))) z e c = absurd c
-argument_is (number (negative (negsuc n))) z e c = let is = tested (is_argument (negsuc n)) (negsuc n) z e in (ap integer is.1, subst (λ x. is_argument x ≡ true) is.1 is.0)
-argument_is (number (float x)) z e c = absurd (cc)
-argument_is (string s) z e c = absurd (cc)
-argument_is (array ds) z e c = absurd (cc)
-argument_is (object ms) z e c = absurd (cc)
-
-abbrev AreArguments : Items → List ℤ → Type 0
-AreArguments ds zs = (ds ≡ items_of (map integer zs)) × AllByRecursion (λ z. is_argument z ≡ true) zs × (items_len ds ≡ length zs)
-
-arguments_are : (ds : Items) (zs : List ℤ) → arguments_from ds ≡ Some zs → ItemsAreCanonical ds → AreArguments ds zs
-arguments_are no_items zs e c = let is : [] ≡ zs = cc in subst (AreArguments no_items) is (refl, tt, refl)
-arguments_are (item d ds) zs e c =
-    let z = chained (λ x. option_map (λ ys. x ∷ ys) (arguments_from ds)) (argument_in d) zs e in
-    let rest = mapped (λ ys. z.0 ∷ ys) (arguments_from ds) zs z.2 in
-    let first = argument_is d z.0 z.1 c.0 in
-    let others = arguments_are ds rest.0 rest.1 c.1 in
-    subst (AreArguments (item d ds)) rest.2 (ap (λ x. item x ds) first.0 ∙ ap (item (integer z.0)) others.0, (first.1, others.1), ap suc others.2)
-
 onlyif : {A : Type 0} (b : Bool) (rest : Option A) (y : A) → cond b rest None ≡ Some y → (b ≡ true) × (rest ≡ Some y)
 onlyif true rest y e = (refl, e)
 onlyif false rest y e = absurd (cc)
 
 -- the value of arguments, or of hidden ones
-abbrev shown_args : Option (List ℤ) → Data
+abbrev shown_args : Option (List Arg) → Data
 shown_args None = null
-shown_args (Some zs) = integers zs
+shown_args (Some args) = array (arguments args)
 
-abbrev MaybeFit : Option (List ℤ) → Type 0
+abbrev MaybeFit : Option (List Arg) → Type 0
 MaybeFit None = Unit {0}
-MaybeFit (Some zs) = ArgsFit zs
+MaybeFit (Some args) = AreArguments args
 
-abbrev ArgsAre : Data → Option (List ℤ) → Type 0
+abbrev ArgsAre : Data → Option (List Arg) → Type 0
 ArgsAre d a = (d ≡ shown_args a) × MaybeFit a
 
-args_are : (d : Data) (a : Option (List ℤ)) → IsCanonical d → args_from d ≡ Some a → ArgsAre d a
+args_are : (d : Data) (a : Option (List Arg)) → IsCanonical d → args_from d ≡ Some a → ArgsAre d a
 args_are null None c e = (refl, tt)
 args_are null (Some zs) c e = absurd (cc)
 args_are (boolean b) a c e = absurd (cc)
 args_are (number n) a c e = absurd (cc)
 args_are (string s) a c e = absurd (cc)
 args_are (array ds) a c e =
-    let zs = mapped (λ x. Some x) (arguments_of ds) a e in
-    let few = onlyif (nat_le (items_len ds) 8) (arguments_from ds) zs.0 zs.1 in
-    let are = arguments_are ds zs.0 few.1 c in
-    subst (ArgsAre (array ds)) zs.2 (ap array are.0, (subst (λ n. n ≤ 8) are.2 (leb-true (items_len ds) 8 few.0), are.1))
+    let args = mapped (λ x. Some x) (arguments_in ds) a e in
+    let are = arguments_are ds args.0 args.1 c in
+    subst (ArgsAre (array ds)) args.2 (ap array are.0, are.1)
 args_are (object ms) a c e = absurd (cc)
 
 -- what is read as an action is the value of it, as it is shown
@@ -173,7 +142,7 @@ record IsDeed (sheet : Sheet) (ms : Members) (x : Deed) : Type 0 where
 move_row : Data → Data → Members
 move_row name args = member (codes "args") args (member (codes "kind") (string (codes "move")) (member (codes "move") name no_members))
 
-moved : (sheet : Sheet) (ms : Members) (id : ℕ) (a : Option (List ℤ)) → id < length sheet.moves → MaybeFit a → ms ≡ move_row (move_name sheet id) (shown_args a) → IsDeed sheet ms (move_with id a)
+moved : (sheet : Sheet) (ms : Members) (id : ℕ) (a : Option (List Arg)) → id < length sheet.moves → MaybeFit a → ms ≡ move_row (move_name sheet id) (shown_args a) → IsDeed sheet ms (move_with id a)
 unfolding move_row
 moved sheet ms id None inside fits is = record { value = ap object is; fits = (inside, refl) }
 moved sheet ms id (Some zs) inside fits is = record { value = ap object is; fits = (inside, fits) }
@@ -197,13 +166,13 @@ move_is sheet ms x c kind e =
 
 -- the name of an event, and what it is aimed at
 event_word : event.Event → List ℕ
-event_word (EndTurn to) = codes "endTurn"
-event_word EndPhase = codes "endPhase"
-event_word (SetPhase to) = codes "setPhase"
-event_word EndStage = codes "endStage"
-event_word (SetStage to) = codes "setStage"
+event_word (EndTurn to) = event_text asks.EndTurn
+event_word EndPhase = event_text asks.EndPhase
+event_word (SetPhase to) = event_text asks.SetPhase
+event_word EndStage = event_text asks.EndStage
+event_word (SetStage to) = event_text asks.SetStage
 event_word (SetActive spec) = codes "setActive"
-event_word (EndGame outcome) = codes "endGame"
+event_word (EndGame outcome) = event_text asks.EndGame
 
 event_aim : Sheet → event.Event → Data
 event_aim sheet (EndTurn to) = natural_or_null to
@@ -219,22 +188,9 @@ record IsEvent (sheet : Sheet) (name : List ℕ) (o : Option Data) (e : event.Ev
   aim : o ≡ Some (event_aim sheet e)
   fits : EventFits sheet e
 
-null_is : (o : Option Data) → is_null_in o ≡ true → o ≡ Some null
-null_is None e = absurd (cc)
-null_is (Some null) e = refl
-null_is (Some (boolean b)) e = absurd (cc)
-null_is (Some (number n)) e = absurd (cc)
-null_is (Some (string s)) e = absurd (cc)
-null_is (Some (array ds)) e = absurd (cc)
-null_is (Some (object ms)) e = absurd (cc)
-
-seat_is : (b : Bool) (o : Option Data) (to : Option ℕ) → is_null_in o ≡ b → cond b (Some None) (option_map (λ n. Some n) (natural_at 255 o)) ≡ Some to → (o ≡ Some (natural_or_null to)) × IsWithin 255 to
-seat_is true o None is e = (null_is o is, tt)
-seat_is true o (Some seat) is e = absurd (cc (e))
-seat_is false o to is e =
-    let n = mapped (λ x. Some x) (natural_at 255 o) to e in
-    let at = natural_is 255 o n.0 n.1 in
-    subst (λ x. (o ≡ Some (natural_or_null x)) × IsWithin 255 x) n.2 at
+seat_is : (o : Option Data) (to : Option ℕ) → Holds (natural_in 255) o to → (o ≡ Some (natural_or_null to)) × IsWithin 255 to
+seat_is o None h = (h, tt)
+seat_is o (Some seat) h = seats.natural_is 255 o seat h
 
 either : {A : Type 0} (b : Bool) (x rest : Option A) (y : A) → cond b x rest ≡ Some y → ((b ≡ true) × (x ≡ Some y)) ⊎ (rest ≡ Some y)
 either true x rest y e = inl (refl, e)
@@ -248,45 +204,40 @@ unaimed sheet name o x e word aim fits is =
     let null_there = tested (is_null_in o) x e is in
     subst (IsEvent sheet name o) null_there.1 (record { word = word; aim = null_is o null_there.0 ∙ ap (λ d. Some d) (sym aim); fits = fits })
 
-turned : (sheet : Sheet) (name : List ℕ) (o : Option Data) (e : event.Event) → name ≡ codes "endTurn" → option_map EndTurn (seat_or_null o) ≡ Some e → IsEvent sheet name o e
+turned : (sheet : Sheet) (name : List ℕ) (o : Option Data) (e : event.Event) → name ≡ event_text asks.EndTurn → option_map EndTurn (seat_or_null o) ≡ Some e → IsEvent sheet name o e
 unfolding event_word event_aim
 turned sheet name o e word is =
     let to = mapped EndTurn (seat_or_null o) e is in
-    let at = seat_is (is_null_in o) o to.0 refl to.1 in
+    let at = seat_is o to.0 (or_null_is (natural_in 255) o to.0 (good (or_null (natural_in 255) o) to.0 to.1)) in
     subst (IsEvent sheet name o) to.2 (record { word = word; aim = at.0; fits = at.1 })
 
-phased : (sheet : Sheet) (name : List ℕ) (o : Option Data) (e : event.Event) → name ≡ codes "setPhase" → option_map SetPhase (option_and_then (phase_of sheet) (text_at o)) ≡ Some e → IsEvent sheet name o e
+phased : (sheet : Sheet) (name : List ℕ) (o : Option Data) (e : event.Event) → name ≡ event_text asks.SetPhase → option_map SetPhase (option_and_then (phase_of sheet) (text_at o)) ≡ Some e → IsEvent sheet name o e
 unfolding event_word event_aim
 phased sheet name o e word is =
     let to = mapped SetPhase (option_and_then (phase_of sheet) (text_at o)) e is in
     let at = name_is (λ (row : PhaseRow). row.name) sheet.phases o to.0 to.1 in
     subst (IsEvent sheet name o) to.2 (record { word = word; aim = at.0; fits = at.1 })
 
-staged : (sheet : Sheet) (name : List ℕ) (o : Option Data) (e : event.Event) → name ≡ codes "setStage" → option_map SetStage (option_and_then (stage_of sheet) (text_at o)) ≡ Some e → IsEvent sheet name o e
+staged : (sheet : Sheet) (name : List ℕ) (o : Option Data) (e : event.Event) → name ≡ event_text asks.SetStage → option_map SetStage (option_and_then (stage_of sheet) (text_at o)) ≡ Some e → IsEvent sheet name o e
 unfolding event_word event_aim
 staged sheet name o e word is =
     let to = mapped SetStage (option_and_then (stage_of sheet) (text_at o)) e is in
     let at = name_is (λ (row : StageRow). row.name) sheet.stages o to.0 to.1 in
     subst (IsEvent sheet name o) to.2 (record { word = word; aim = at.0; fits = at.1 })
 
-event_by_is : (sheet : Sheet) (name : List ℕ) (o : Option Data) (e : event.Event) → event_by sheet name o ≡ Some e → IsEvent sheet name o e
+event_of_is : (sheet : Sheet) (name : List ℕ) (k : EventKind) (o : Option Data) (e : event.Event) → name ≡ event_text k → event_of sheet k o ≡ Some e → IsEvent sheet name o e
 unfolding event_word event_aim
-event_by_is sheet name o e is = elim (either (bytes_eq name (codes "endTurn")) _ _ e is) [
-  | inl p ↦ turned sheet name o e (same_text name _ p.0) p.1
-  | inr r1 ↦ elim (either (bytes_eq name (codes "endPhase")) _ _ e r1) [
-    | inl p ↦ unaimed sheet name o EndPhase e (same_text name _ p.0) refl tt p.1
-    | inr r2 ↦ elim (either (bytes_eq name (codes "setPhase")) _ _ e r2) [
-      | inl p ↦ phased sheet name o e (same_text name _ p.0) p.1
-      | inr r3 ↦ elim (either (bytes_eq name (codes "endStage")) _ _ e r3) [
-        | inl p ↦ unaimed sheet name o EndStage e (same_text name _ p.0) refl tt p.1
-        | inr r4 ↦ elim (either (bytes_eq name (codes "setStage")) _ _ e r4) [
-          | inl p ↦ staged sheet name o e (same_text name _ p.0) p.1
-          | inr r5 ↦ let last = onlyif (bytes_eq name (codes "endGame")) _ e r5 in unaimed sheet name o (EndGame Ended) e (same_text name _ last.0) refl refl last.1
-        ]
-      ]
-    ]
-  ]
-]
+event_of_is sheet name asks.EndTurn o e word is = turned sheet name o e word is
+event_of_is sheet name asks.EndPhase o e word is = unaimed sheet name o EndPhase e word refl tt is
+event_of_is sheet name asks.SetPhase o e word is = phased sheet name o e word is
+event_of_is sheet name asks.EndStage o e word is = unaimed sheet name o EndStage e word refl tt is
+event_of_is sheet name asks.SetStage o e word is = staged sheet name o e word is
+event_of_is sheet name asks.EndGame o e word is = unaimed sheet name o (EndGame Ended) e word refl refl is
+
+event_by_is : (sheet : Sheet) (name : List ℕ) (o : Option Data) (e : event.Event) → event_by sheet name o ≡ Some e → IsEvent sheet name o e
+event_by_is sheet name o e is =
+    let k = chained (λ x. event_of sheet x o) (kind_from name) e is in
+    event_of_is sheet name k.0 o e (kind_is name k.0 k.1) k.2
 
 event_row : List ℕ → Data → Members
 event_row word to = member (codes "event") (string word) (member (codes "kind") (string (codes "event")) (member (codes "to") to no_members))

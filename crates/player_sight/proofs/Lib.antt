@@ -1,7 +1,6 @@
 pub mod NoFloat
 pub mod Depths
 pub mod ActiveRows
-pub mod Counting
 pub mod PartLaws
 pub mod RowsAre
 pub mod EntryLaws
@@ -10,3 +9,4 @@ pub mod RowLaws
 pub mod NumberLaws
 pub mod Readers
 pub mod SnapshotLaws
+pub mod CtxPut

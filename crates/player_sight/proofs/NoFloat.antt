@@ -1,5 +1,5 @@
 -- No value that a player is sent of a context, an entry or a log has a float.
-use Rattle.std.proofs.Common.{◌≡◌, ℕ, ℤ, pos, negsuc, List, [], ◌∷◌, map, fold, Bool, true, false, ◌||◌, Option, Some, None, option_map, Ordering, Less, Equal, Greater, refl, ap, ◌∙◌}
+use Rattle.std.proofs.Common.{◌≡◌, ℕ, List, [], ◌∷◌, map, fold, Bool, true, false, ◌||◌, Option, Some, None, option_map, Ordering, Less, Equal, Greater, refl, ap, ◌∙◌}
 use Rattle.std.specs.Prelude.{slice_get, decimal}
 use Rattle.std.specs.Ordering.{nat_cmp, match_ordering}
 use Rattle.std.specs.Cmp.Lexicographic.{slice_cmp}
@@ -15,7 +15,9 @@ use Rattle.game_sheet.specs.declared.act.Outcome.TheVariants.{Winner, Draw, Ende
 use Rattle.game_sheet.specs.declared.ctx.Ctx.{Ctx}
 use Rattle.game_sheet.specs.declared.sheet.Sheet.{Sheet}
 use Rattle.move_log.specs.declared.entry.Entry.{Entry}
-use Rattle.player_sight.specs.Parts.{integer, natural, text_or_null, natural_or_null, phase_or_null, stage_or_null}
+use Rattle.sheet_json.specs.Seats.{natural, natural_or_null}
+use Rattle.sheet_json.proofs.ArgumentLaws.{no_float_in}
+use Rattle.player_sight.specs.Parts.{text_or_null, phase_or_null, stage_or_null}
 use Rattle.player_sight.specs.EntryData.{event_data, act_data, entry_data, log_data}
 use Rattle.player_sight.specs.SnapshotData.{snapshot_object}
 use Rattle.player_sight.specs.CtxData.{with_row, active_data, over_data, ctx_data}
@@ -40,14 +42,6 @@ of_naturals : (ns : List ℕ) → items_have_float (items_of (map natural ns)) �
 of_naturals [] = refl
 of_naturals (n ∷ ns) = of_naturals ns
 
-of_integer : (z : ℤ) → has_float (integer z) ≡ false
-of_integer (pos n) = refl
-of_integer (negsuc n) = refl
-
-of_integers : (zs : List ℤ) → items_have_float (items_of (map integer zs)) ≡ false
-of_integers [] = refl
-of_integers (z ∷ zs) = rw of_integer (of_integers zs)
-
 of_event : (sheet : Sheet) (e : event.Event) → has_float (event_data sheet e) ≡ false
 of_event sheet (EndTurn to) = rw of_natural refl
 of_event sheet EndPhase = refl
@@ -60,7 +54,7 @@ of_event sheet (EndGame outcome) = refl
 of_act : (sheet : Sheet) (hidden : Bool) (act : Act) → has_float (act_data sheet hidden act) ≡ false
 of_act sheet true (Move id args) = rw (of_text (option_map (λ row. row.name) (slice_get sheet.moves id))) refl
 of_act sheet false (Move id args) =
-    rw (of_integers args, of_text (option_map (λ row. row.name) (slice_get sheet.moves id))) refl
+    rw (no_float_in args, of_text (option_map (λ row. row.name) (slice_get sheet.moves id))) refl
 of_act sheet hidden (Event e) = of_event sheet e
 of_act sheet hidden Undo = refl
 of_act sheet hidden Redo = refl

@@ -11,10 +11,12 @@ use Rattle.serde_json.specs.Data.{Data, null, boolean, number, string, array, ob
 use Rattle.serde_json.specs.View.{items_of}
 use Rattle.game_sheet.specs.SheetFits.{NamesFit}
 use Rattle.json_tree.specs.Fields.{text_in}
-use Rattle.player_sight.specs.Parts.{natural, text_or_null}
+use Rattle.game_sheet.specs.SheetNames.{place_of}
+use Rattle.sheet_json.specs.Seats.{natural}
+use Rattle.player_sight.specs.Parts.{text_or_null}
 use Rattle.player_sight.specs.Plain.{IsIn}
 use Rattle.player_sight.proofs.NumberLaws.{good, natural_is, natural_again}
-use Rattle.player_sight.specs.Reading.{◌>>=◌, natural_at, text_at, naturals_from, place_of, id_or_null}
+use Rattle.player_sight.specs.Reading.{◌>>=◌, natural_at, text_at, naturals_from, id_or_null}
 
 -- ---- steps
 

@@ -18,7 +18,8 @@ use Rattle.player_sight.specs.CtxData.{with_row, rows_members, active_data}
 use Rattle.player_sight.specs.CtxReading.{Rows, with_seat, rows_from, active_from}
 use Rattle.player_sight.specs.Parts.{stage_or_null}
 use Rattle.player_sight.specs.Plain.{IsIn, RowsFit, ActiveFits}
-use Rattle.player_sight.specs.Reading.{id_or_null, stage_of}
+use Rattle.game_sheet.specs.SheetNames.{stage_of}
+use Rattle.player_sight.specs.Reading.{id_or_null}
 use Rattle.player_sight.proofs.PartLaws.{id_again}
 
 -- the stage of a seat, where it has a row

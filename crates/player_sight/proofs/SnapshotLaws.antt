@@ -1,5 +1,5 @@
 -- A snapshot of plain parts is plain, and a plain snapshot reads back from its value, which nothing else in canonical form does.
-use Rattle.std.proofs.Common.{◌≡◌, ℕ, ◌≤◌, ℤ, List, [], ◌∷◌, map, Bool, true, false, not, cond, ◌&&◌, ◌||◌, Option, Some, None, option_map, codes, IsTrue, refl, sym, ap, ◌∙◌, subst}
+use Rattle.std.proofs.Common.{◌≡◌, ℕ, ◌≤◌, List, [], ◌∷◌, map, Bool, true, false, not, cond, ◌&&◌, ◌||◌, Option, Some, None, option_map, codes, IsTrue, refl, sym, ap, ◌∙◌, subst}
 use Rattle.std.specs.List.{AllByRecursion}
 use Rattle.std.specs.Prelude.{IfSome, option_and_then}
 use Rattle.std.specs.Result.{result_ok}
@@ -10,6 +10,7 @@ use Rattle.game_sheet.specs.SheetFits.{SheetFits}
 use Rattle.game_sheet.specs.declared.act.Act.{Act}
 use Rattle.game_sheet.specs.declared.act.Act.TheVariants.{Move, Event, Undo, Redo}
 use Rattle.game_sheet.specs.declared.ctx.Ctx.{Ctx}
+use Rattle.game_sheet.specs.declared.args.Arg.{Arg}
 use Rattle.game_sheet.specs.declared.sheet.Sheet.{Sheet}
 use Rattle.game_trait.specs.Lawful.{Lawful}
 use Rattle.game_trait.specs.Rules.{Rules}
@@ -23,7 +24,7 @@ use Rattle.player_sight.specs.CtxData.{ctx_data}
 use Rattle.player_sight.specs.CtxReading.{ctx_in}
 use Rattle.player_sight.specs.EntryData.{entry_data, log_data}
 use Rattle.player_sight.specs.EntryReading.{entry_in}
-use Rattle.player_sight.specs.Parts.{natural}
+use Rattle.sheet_json.specs.Seats.{natural}
 use Rattle.player_sight.specs.Plain.{ActFits, IsPlainCtx, IsPlainEntry}
 use Rattle.player_sight.specs.PlainSnapshot.{IsPlain, MayBeShown}
 use Rattle.player_sight.specs.Seen.{snap_of}
@@ -37,7 +38,7 @@ use Rattle.player_sight.proofs.PartLaws.{step, chained, mapped, past}
 
 -- ---- what is shown is plain
 
-redacted_move : (sheet : Sheet) (hidden shut : Bool) (id : ℕ) (args : List ℤ) → ActFits sheet hidden (Move id args) → ActFits sheet (hidden || shut) (cond shut (Move id []) (Move id args))
+redacted_move : (sheet : Sheet) (hidden shut : Bool) (id : ℕ) (args : List Arg) → ActFits sheet hidden (Move id args) → ActFits sheet (hidden || shut) (cond shut (Move id []) (Move id args))
 redacted_move sheet true true id args h = (h.0, refl)
 redacted_move sheet true false id args h = h
 redacted_move sheet false true id args h = (h.0, refl)

@@ -6,7 +6,8 @@ use Rattle.game_sheet.specs.declared.act.Outcome.{Outcome}
 use Rattle.game_sheet.specs.declared.act.Outcome.TheVariants.{Winner, Draw, Ended}
 use Rattle.game_sheet.specs.declared.ctx.Ctx.{Ctx}
 use Rattle.game_sheet.specs.declared.sheet.Sheet.{Sheet}
-use Rattle.player_sight.specs.Parts.{natural, naturals, phase_or_null, stage_or_null}
+use Rattle.sheet_json.specs.Seats.{natural}
+use Rattle.player_sight.specs.Parts.{naturals, phase_or_null, stage_or_null}
 
 abbrev pub with_row : Sheet → Members → ℕ × Option ℕ → Members
 with_row sheet ms row = put (decimal row.0) (stage_or_null sheet row.1) ms

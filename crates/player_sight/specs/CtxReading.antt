@@ -10,7 +10,8 @@ use Rattle.game_sheet.specs.declared.act.Outcome.{Outcome}
 use Rattle.game_sheet.specs.declared.act.Outcome.TheVariants.{Winner, Draw, Ended}
 use Rattle.game_sheet.specs.declared.ctx.Ctx.{Ctx}
 use Rattle.game_sheet.specs.declared.sheet.Sheet.{Sheet}
-use Rattle.player_sight.specs.Reading.{◌>>=◌, natural_at, naturals_from, id_or_null, phase_of, stage_of}
+use Rattle.game_sheet.specs.SheetNames.{phase_of, stage_of}
+use Rattle.player_sight.specs.Reading.{◌>>=◌, natural_at, naturals_from, id_or_null}
 use Rattle.player_sight.specs.declared.ctx_read.Counts.{Counts}
 
 abbrev pub Rows : Type 0

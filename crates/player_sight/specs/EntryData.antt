@@ -9,7 +9,11 @@ use Rattle.game_sheet.specs.declared.act.Event as event
 use Rattle.game_sheet.specs.declared.act.Event.TheVariants.{EndTurn, EndPhase, SetPhase, EndStage, SetStage, SetActive, EndGame}
 use Rattle.game_sheet.specs.declared.sheet.Sheet.{Sheet}
 use Rattle.move_log.specs.declared.entry.Entry.{Entry}
-use Rattle.player_sight.specs.Parts.{natural, integers, natural_or_null, move_name, phase_name, stage_name, phase_or_null}
+use Rattle.game_sheet.specs.EventNames.{event_text}
+use Rattle.game_sheet.specs.declared.act.EventKind.TheVariants as asks
+use Rattle.sheet_json.specs.Arguments.{arguments}
+use Rattle.sheet_json.specs.Seats.{natural, natural_or_null}
+use Rattle.player_sight.specs.Parts.{move_name, phase_name, stage_name, phase_or_null}
 
 -- an event by its name, with what it goes to
 abbrev pub event_to : List ℕ → Data → Data
@@ -17,20 +21,20 @@ event_to name to =
     object (member (codes "event") (string name) (member (codes "kind") (string (codes "event")) (member (codes "to") to no_members)))
 
 abbrev pub event_data : Sheet → event.Event → Data
-event_data sheet (EndTurn to) = event_to (codes "endTurn") (natural_or_null to)
-event_data sheet EndPhase = event_to (codes "endPhase") null
-event_data sheet (SetPhase to) = event_to (codes "setPhase") (phase_name sheet to)
-event_data sheet EndStage = event_to (codes "endStage") null
-event_data sheet (SetStage to) = event_to (codes "setStage") (stage_name sheet to)
+event_data sheet (EndTurn to) = event_to (event_text asks.EndTurn) (natural_or_null to)
+event_data sheet EndPhase = event_to (event_text asks.EndPhase) null
+event_data sheet (SetPhase to) = event_to (event_text asks.SetPhase) (phase_name sheet to)
+event_data sheet EndStage = event_to (event_text asks.EndStage) null
+event_data sheet (SetStage to) = event_to (event_text asks.SetStage) (stage_name sheet to)
 event_data sheet (SetActive spec) = event_to (codes "setActive") null
-event_data sheet (EndGame outcome) = event_to (codes "endGame") null
+event_data sheet (EndGame outcome) = event_to (event_text asks.EndGame) null
 
 abbrev pub move_data : Data → Data → Data
 move_data name args =
     object (member (codes "args") args (member (codes "kind") (string (codes "move")) (member (codes "move") name no_members)))
 
 abbrev pub act_data : Sheet → Bool → Act → Data
-act_data sheet hidden (Move id args) = move_data (move_name sheet id) (if hidden then null else integers args)
+act_data sheet hidden (Move id args) = move_data (move_name sheet id) (if hidden then null else array (arguments args))
 act_data sheet hidden (Event e) = event_data sheet e
 act_data sheet hidden Undo = object (member (codes "kind") (string (codes "undo")) no_members)
 act_data sheet hidden Redo = object (member (codes "kind") (string (codes "redo")) no_members)

@@ -1,5 +1,6 @@
 -- How the value of an entry is read back: each member in its form and no other, its names on the sheet.
-use Rattle.std.specs.Prelude.{ℕ, ℤ, List, [], ◌∷◌, Bool, true, false, codes, if◌then◌else◌, Option, Some, None, option_map, option_and_then, is_some}
+use Rattle.std.specs.Prelude.{ℕ, List, [], ◌∷◌, Bool, true, false, codes, if◌then◌else◌, Option, Some, None, option_map, option_and_then, is_some}
+use Rattle.std.specs.Result.{result_ok}
 use Rattle.std.specs.Str.{bytes_eq}
 use Rattle.serde_json.specs.Data.{Data}
 use Rattle.serde_json.specs.Find.{get, as_null, as_array}
@@ -11,18 +12,26 @@ use Rattle.game_sheet.specs.declared.act.Event.TheVariants.{EndTurn, EndPhase, S
 use Rattle.game_sheet.specs.declared.act.Outcome.TheVariants.{Ended}
 use Rattle.game_sheet.specs.declared.sheet.Sheet.{Sheet}
 use Rattle.move_log.specs.declared.entry.Entry.{Entry}
-use Rattle.player_sight.specs.Reading.{◌>>=◌, natural_at, text_at, arguments_of, move_of, phase_of, stage_of}
+use Rattle.game_sheet.specs.EventNames.{kind_from}
+use Rattle.game_sheet.specs.SheetNames.{move_of, phase_of, stage_of}
+use Rattle.game_sheet.specs.declared.act.EventKind.{EventKind}
+use Rattle.game_sheet.specs.declared.act.EventKind.TheVariants as asks
+use Rattle.game_sheet.specs.declared.args.Arg.{Arg}
+use Rattle.json_tree.specs.Fields.{natural_in}
+use Rattle.sheet_json.specs.Arguments.{arguments_in}
+use Rattle.sheet_json.specs.Seats.{is_null_in, or_null}
+use Rattle.player_sight.specs.Reading.{◌>>=◌, natural_at, text_at}
 use Rattle.player_sight.specs.CtxReading.{phase_in}
 use Rattle.player_sight.specs.declared.entry_read.Deed.{Deed}
 
 -- the arguments, or none where they are hidden
-abbrev pub args_from : Data → Option (Option (List ℤ))
-args_from d = if is_some (as_null d) then Some None else option_map Some (option_and_then arguments_of (as_array d))
+abbrev pub args_from : Data → Option (Option (List Arg))
+args_from d = if is_some (as_null d) then Some None else option_map Some (option_and_then arguments_in (as_array d))
 
-abbrev pub args_in : Option Data → Option (Option (List ℤ))
+abbrev pub args_in : Option Data → Option (Option (List Arg))
 args_in found = option_and_then args_from found
 
-abbrev pub move_with : ℕ → Option (List ℤ) → Deed
+abbrev pub move_with : ℕ → Option (List Arg) → Deed
 move_with id None = record { act = Move id []; hidden = true }
 move_with id (Some args) = record { act = Move id args; hidden = false }
 
@@ -37,26 +46,24 @@ move_in sheet d =
     option_and_then (move_of sheet) (text_at (get (codes "move") d)) >>= λ id.
     Some (move_with id args))
 
-abbrev pub is_null_in : Option Data → Bool
-is_null_in None = false
-is_null_in (Some d) = is_some (as_null d)
-
 abbrev pub seat_or_null : Option Data → Option (Option ℕ)
-seat_or_null found = if is_null_in found then Some None else option_map Some (natural_at 255 found)
+seat_or_null found = result_ok (or_null (natural_in 255) found)
 
 -- an event that is aimed at nothing
 abbrev pub aimless : event.Event → Option Data → Option event.Event
 aimless e found = if is_null_in found then Some e else None
 
+-- an event of a kind, with what it is aimed at
+abbrev pub event_of : Sheet → EventKind → Option Data → Option event.Event
+event_of sheet asks.EndTurn found = option_map EndTurn (seat_or_null found)
+event_of sheet asks.EndPhase found = aimless EndPhase found
+event_of sheet asks.SetPhase found = option_map SetPhase (option_and_then (phase_of sheet) (text_at found))
+event_of sheet asks.EndStage found = aimless EndStage found
+event_of sheet asks.SetStage found = option_map SetStage (option_and_then (stage_of sheet) (text_at found))
+event_of sheet asks.EndGame found = aimless (EndGame Ended) found
+
 abbrev pub event_by : Sheet → List ℕ → Option Data → Option event.Event
-event_by sheet name found =
-    if bytes_eq name (codes "endTurn") then option_map EndTurn (seat_or_null found)
-    else if bytes_eq name (codes "endPhase") then aimless EndPhase found
-    else if bytes_eq name (codes "setPhase") then option_map SetPhase (option_and_then (phase_of sheet) (text_at found))
-    else if bytes_eq name (codes "endStage") then aimless EndStage found
-    else if bytes_eq name (codes "setStage") then option_map SetStage (option_and_then (stage_of sheet) (text_at found))
-    else if bytes_eq name (codes "endGame") then aimless (EndGame Ended) found
-    else None
+event_by sheet name found = option_and_then (λ k. event_of sheet k found) (kind_from name)
 
 unfoldable pub event_in : Sheet → Data → Option event.Event
 event_in sheet d =

@@ -1,29 +1,16 @@
 -- The small parts of the JSON values that a player is sent. A name that isn't on the sheet shows as null.
-use Rattle.std.specs.Prelude.{ℕ, ℤ, List, map, Option, Some, None, option_map, slice_get}
-use Rattle.serde_json.specs.Data.{Data, null, number, string, array, unsigned}
-use Rattle.serde_json.specs.Find.{of_integer}
+use Rattle.std.specs.Prelude.{ℕ, List, map, Option, Some, None, option_map, slice_get}
+use Rattle.serde_json.specs.Data.{Data, null, string, array}
 use Rattle.serde_json.specs.View.{items_of}
 use Rattle.game_sheet.specs.declared.sheet.Sheet.{Sheet}
-
-abbrev pub natural : ℕ → Data
-natural n = number (unsigned n)
-
-abbrev pub integer : ℤ → Data
-integer z = number (of_integer z)
+use Rattle.sheet_json.specs.Seats.{natural}
 
 abbrev pub naturals : List ℕ → Data
 naturals ns = array (items_of (map natural ns))
 
-abbrev pub integers : List ℤ → Data
-integers zs = array (items_of (map integer zs))
-
 abbrev pub text_or_null : Option (List ℕ) → Data
 text_or_null None = null
 text_or_null (Some text) = string text
-
-abbrev pub natural_or_null : Option ℕ → Data
-natural_or_null None = null
-natural_or_null (Some n) = natural n
 
 abbrev pub move_name : Sheet → ℕ → Data
 move_name sheet id = text_or_null (option_map (λ row. row.name) (slice_get sheet.moves id))

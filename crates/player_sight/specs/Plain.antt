@@ -1,6 +1,6 @@
 -- What may stand in a plain snapshot: a context and entries whose ids are on the sheet, whose numbers are of their types, whose
 -- rows of active players rise by seat, and whose actions are shown as they are or hidden whole.
-use Rattle.std.specs.Prelude.{◌≡◌, ◌<◌, ◌≤◌, ◌+◌, ℕ, ℤ, List, [], ◌∷◌, length, Bool, true, false, Option, Some, None}
+use Rattle.std.specs.Prelude.{◌≡◌, ◌<◌, ◌≤◌, ◌+◌, ℕ, List, [], ◌∷◌, length, Bool, true, false, Option, Some, None}
 use Rattle.std.specs.List.{AllByRecursion}
 use Rattle.game_sheet.specs.declared.act.Act.{Act}
 use Rattle.game_sheet.specs.declared.act.Act.TheVariants.{Move, Event, Undo, Redo}
@@ -11,12 +11,8 @@ use Rattle.game_sheet.specs.declared.act.Outcome.TheVariants.{Winner, Draw, Ende
 use Rattle.game_sheet.specs.declared.ctx.Ctx.{Ctx}
 use Rattle.game_sheet.specs.declared.sheet.Sheet.{Sheet}
 use Rattle.move_log.specs.declared.entry.Entry.{Entry}
-use Rattle.player_sight.specs.Reading.{is_argument}
-
--- the number, where there is one, is at most this
-abbrev pub IsWithin : ℕ → Option ℕ → Type 0
-IsWithin most None = Unit {0}
-IsWithin most (Some n) = n ≤ most
+use Rattle.sheet_json.specs.Arguments.{AreArguments}
+use Rattle.sheet_json.specs.Seats.{IsWithin}
 
 -- the id, where there is one, is a place of its table
 abbrev pub IsIn : ℕ → Option ℕ → Type 0
@@ -59,13 +55,10 @@ EventFits sheet (SetStage to) = to < length sheet.stages
 EventFits sheet (SetActive spec) = ⊥
 EventFits sheet (EndGame outcome) = outcome ≡ Ended
 
-abbrev pub ArgsFit : List ℤ → Type 0
-ArgsFit args = (length args ≤ 8) × AllByRecursion (λ z. is_argument z ≡ true) args
-
 -- only a move is hidden, and then it has no arguments
 abbrev pub ActFits : Sheet → Bool → Act → Type 0
 ActFits sheet true (Move id args) = (id < length sheet.moves) × (args ≡ [])
-ActFits sheet false (Move id args) = (id < length sheet.moves) × ArgsFit args
+ActFits sheet false (Move id args) = (id < length sheet.moves) × AreArguments args
 ActFits sheet true (Event e) = ⊥
 ActFits sheet false (Event e) = EventFits sheet e
 ActFits sheet true Undo = ⊥

@@ -5,7 +5,7 @@ use Rattle.serde_json.specs.Data.{Data, object, member, no_members}
 use Rattle.game_sheet.specs.declared.ctx.Ctx.{Ctx}
 use Rattle.game_sheet.specs.declared.sheet.Sheet.{Sheet}
 use Rattle.move_log.specs.declared.entry.Entry.{Entry}
-use Rattle.player_sight.specs.Parts.{natural}
+use Rattle.sheet_json.specs.Seats.{natural}
 use Rattle.player_sight.specs.EntryData.{log_data}
 use Rattle.player_sight.specs.CtxData.{ctx_data}
 

@@ -1,15 +1,17 @@
 //! The value of a match's context.
 
-ghost use Rattle.std.specs.Prelude.{◌≡◌, ◌≤◌, IfOk, OnOk, false};
-ghost use Rattle.serde_json.specs.Data.{object, depth};
+ghost use Rattle.std.specs.Prelude.{◌≡◌, ◌≤◌, IfOk, OnOk, false, codes};
+ghost use Rattle.serde_json.specs.Data.{object, no_members, put, depth};
 ghost use Rattle.serde_json.specs.View.{view, members_view};
 ghost use Rattle.serde_json.specs.Written.{has_float};
-ghost use Rattle.player_sight.specs.CtxData.{with_row, rows_members, active_data, over_data, ctx_object, ctx_data};
+ghost use Rattle.sheet_json.specs.Seats.{natural};
+ghost use Rattle.player_sight.specs.Parts.{naturals, phase_or_null};
+ghost use Rattle.player_sight.specs.CtxData.{with_row, rows_members, active_data, over_data, ctx_data};
 
 use crate::parts::{phase_value, seats_value, stage_value};
 use game_sheet::{Ctx, List, NoMemory, Outcome, Seat, Sheet, StageId};
 use serde_json::{Map, Value, json};
-use std::alloc::{AllocError, Global};
+use std::alloc::Global;
 
 /// The value of a context.
 ///
@@ -19,36 +21,101 @@ pub fn ctx_value(alloc: Global, sheet: &Sheet, ctx: &Ctx) -> Result<Value, NoMem
     ensures no_float { IfOk result (λ v. has_float (view v) ≡ false) }
     ensures shallow { IfOk result (λ v. depth (view v) ≤ 2) }
 {
-    let active = active_value(alloc, sheet, &ctx.active)?;
-    let over = over_value(alloc, ctx.over)?;
-    let phase = phase_value(alloc, sheet, ctx.phase)?;
-    let order = seats_value(alloc, ctx.order.as_slice())?;
-    let value = ctx_object(alloc, ctx, active, over, phase, order)?;
+    let value = ctx_object(alloc, sheet, ctx)?;
     Ok(value)
 }
 
-fn ctx_object(
-    alloc: Global,
-    ctx: &Ctx,
-    active: Value,
-    over: Value,
-    phase: Value,
-    order: Value,
-) -> Result<Value, AllocError>
-    ensures { IfOk result
-        (λ v. view v ≡ ctx_object (view active) (view over) (view phase) (view order) ctx.now) }
+fn ctx_object(alloc: Global, sheet: &Sheet, ctx: &Ctx) -> Result<Value, NoMemory>
+    ensures { IfOk result (λ v. view v ≡ ctx_data sheet.now ctx.now) }
 {
-    json!(in alloc; {
-        "activePlayers": active,
-        "currentPlayer": ctx.current,
-        "gameover": over,
-        "numMoves": ctx.moves,
-        "numPlayers": ctx.seats,
-        "phase": phase,
-        "playOrder": order,
-        "playOrderPos": ctx.pos,
-        "turn": ctx.turn
-    })
+    let mut map = Map::new(alloc);
+    match put_ctx(alloc, sheet, ctx, &mut map) {
+        Ok(()) => Ok(Value::Object(map)),
+        Err(no) => {
+            drop(map);
+            Err(no)
+        }
+    }
+}
+
+// Puts the members of a context into an empty map.
+#[tactic(auto, using(crate::proofs::CtxPut::all_put))]
+fn put_ctx(
+    alloc: Global,
+    sheet: &Sheet,
+    ctx: &Ctx,
+    map: &mut Map<String, Value>,
+) -> Result<(), NoMemory>
+    requires { members_view map.old.entries ≡ no_members }
+    ensures { OnOk result (object (members_view map.new.entries) ≡ ctx_data sheet.now ctx.now) }
+{
+    put_active(alloc, sheet, map, ctx)?;
+    put_number(alloc, map, "currentPlayer", ctx.current as u32)?;
+    put_over(alloc, map, ctx)?;
+    put_number(alloc, map, "numMoves", ctx.moves)?;
+    put_number(alloc, map, "numPlayers", ctx.seats as u32)?;
+    put_phase(alloc, sheet, map, ctx)?;
+    put_order(alloc, map, ctx)?;
+    put_number(alloc, map, "playOrderPos", ctx.pos as u32)?;
+    put_number(alloc, map, "turn", ctx.turn)
+}
+
+fn put_number(
+    alloc: Global,
+    map: &mut Map<String, Value>,
+    name: &str,
+    number: u32,
+) -> Result<(), NoMemory>
+    ensures { OnOk result (members_view map.new.entries ≡ put name.now (natural number) (members_view map.old.entries)) }
+{
+    serde_json::put(map, alloc, name, Value::from(number))?;
+    Ok(())
+}
+
+fn put_active(
+    alloc: Global,
+    sheet: &Sheet,
+    map: &mut Map<String, Value>,
+    ctx: &Ctx,
+) -> Result<(), NoMemory>
+    ensures { OnOk result (members_view map.new.entries
+        ≡ put (codes "activePlayers") (active_data sheet.now ctx.now.active) (members_view map.old.entries)) }
+{
+    let active = active_value(alloc, sheet, &ctx.active)?;
+    serde_json::put(map, alloc, "activePlayers", active)?;
+    Ok(())
+}
+
+fn put_over(alloc: Global, map: &mut Map<String, Value>, ctx: &Ctx) -> Result<(), NoMemory>
+    ensures { OnOk result (members_view map.new.entries
+        ≡ put (codes "gameover") (over_data ctx.now.over) (members_view map.old.entries)) }
+{
+    let over = over_value(alloc, ctx.over)?;
+    serde_json::put(map, alloc, "gameover", over)?;
+    Ok(())
+}
+
+fn put_phase(
+    alloc: Global,
+    sheet: &Sheet,
+    map: &mut Map<String, Value>,
+    ctx: &Ctx,
+) -> Result<(), NoMemory>
+    ensures { OnOk result (members_view map.new.entries
+        ≡ put (codes "phase") (phase_or_null sheet.now ctx.now.phase) (members_view map.old.entries)) }
+{
+    let phase = phase_value(alloc, sheet, ctx.phase)?;
+    serde_json::put(map, alloc, "phase", phase)?;
+    Ok(())
+}
+
+fn put_order(alloc: Global, map: &mut Map<String, Value>, ctx: &Ctx) -> Result<(), NoMemory>
+    ensures { OnOk result (members_view map.new.entries
+        ≡ put (codes "playOrder") (naturals ctx.now.order) (members_view map.old.entries)) }
+{
+    let order = seats_value(alloc, ctx.order.as_slice())?;
+    serde_json::put(map, alloc, "playOrder", order)?;
+    Ok(())
 }
 
 fn active_value(

@@ -1,16 +1,18 @@
 //! The values of actions, of entries of the log, and of the log.
 
 ghost use Rattle.std.specs.Prelude.{◌≡◌, ◌≤◌, IfOk, false, if◌then◌else◌};
-ghost use Rattle.serde_json.specs.Data.{null, depth};
-ghost use Rattle.player_sight.specs.Parts.{integers, move_name};
+ghost use Rattle.serde_json.specs.Data.{null, array, depth};
+ghost use Rattle.sheet_json.specs.Arguments.{arguments};
+ghost use Rattle.player_sight.specs.Parts.{move_name};
 ghost use Rattle.serde_json.specs.View.{view};
 ghost use Rattle.serde_json.specs.Written.{has_float};
 ghost use Rattle.player_sight.specs.EntryData.{event_to, event_data, move_data, act_data, entry_object, entry_data, log_data};
 
-use crate::parts::{args_value, move_value, phase_value, seat_value, stage_value};
-use game_sheet::{Act, Args, Event, MoveId, NoMemory, Sheet};
+use crate::parts::{move_value, phase_value, stage_value};
+use game_sheet::{Act, Args, Event, EventKind, MoveId, NoMemory, Sheet};
 use move_log::Entry;
 use serde_json::{Value, json};
+use sheet_json::{args_value, seat_value};
 use std::alloc::{AllocError, Global};
 
 /// The value of an entry of the log; hidden arguments are null.
@@ -77,13 +79,13 @@ fn move_act(
     args: &Args,
     hidden: bool,
 ) -> Result<Value, NoMemory>
-    ensures { IfOk result (λ v. view v ≡ move_data (move_name sheet.now id) (if hidden then null else integers args.now)) }
+    ensures { IfOk result (λ v. view v ≡ move_data (move_name sheet.now id) (if hidden then null else array (arguments args.now))) }
 {
     let name = move_value(alloc, sheet, id)?;
     let args = if hidden {
         Value::Null
     } else {
-        args_value(alloc, args.as_slice())?
+        args_value(alloc, args)?
     };
     Ok(json!(in alloc; {"args": args, "kind": "move", "move": name})?)
 }
@@ -92,19 +94,19 @@ fn event_value(alloc: Global, sheet: &Sheet, event: Event) -> Result<Value, NoMe
     ensures { IfOk result (λ v. view v ≡ event_data sheet.now event) }
 {
     match event {
-        Event::EndTurn { to } => named(alloc, "endTurn", seat_value(to)),
-        Event::EndPhase => named(alloc, "endPhase", Value::Null),
+        Event::EndTurn { to } => named(alloc, EventKind::EndTurn.name(), seat_value(to)),
+        Event::EndPhase => named(alloc, EventKind::EndPhase.name(), Value::Null),
         Event::SetPhase { to } => {
             let phase = phase_value(alloc, sheet, Some(to))?;
-            named(alloc, "setPhase", phase)
+            named(alloc, EventKind::SetPhase.name(), phase)
         }
-        Event::EndStage => named(alloc, "endStage", Value::Null),
+        Event::EndStage => named(alloc, EventKind::EndStage.name(), Value::Null),
         Event::SetStage { to } => {
             let stage = stage_value(alloc, sheet, Some(to))?;
-            named(alloc, "setStage", stage)
+            named(alloc, EventKind::SetStage.name(), stage)
         }
         Event::SetActive { .. } => named(alloc, "setActive", Value::Null),
-        Event::EndGame { .. } => named(alloc, "endGame", Value::Null),
+        Event::EndGame { .. } => named(alloc, EventKind::EndGame.name(), Value::Null),
     }
 }
 

@@ -8,16 +8,16 @@ ghost use Rattle.json_tree.specs.Canonical.{IsCanonical};
 ghost use Rattle.move_log.specs.declared.entry.Entry.{Entry as Shown};
 ghost use Rattle.player_sight.specs.EntryData.{entry_data};
 ghost use Rattle.player_sight.specs.Plain.{IsPlainEntry};
-ghost use Rattle.player_sight.specs.EntryReading.{args_in, move_in, is_null_in, seat_or_null, aimless as aimless_in, event_by, event_in, alone_in, deed_in, entry_in};
-ghost use Rattle.player_sight.specs.Reading.{text_at, move_of, phase_of, stage_of};
+ghost use Rattle.player_sight.specs.EntryReading.{args_in, move_in, aimless as aimless_in, event_by, event_of as event_of_kind, event_in, alone_in, deed_in, entry_in};
+ghost use Rattle.game_sheet.specs.SheetNames.{move_of, phase_of, stage_of};
+ghost use Rattle.player_sight.specs.Reading.{text_at};
 
-use crate::part_read::{
-    arguments_of, move_named, number_of, phase_member_of, phase_named, seat_of, stage_named,
-};
-use game_sheet::{Act, Args, Event, MoveId, NoMemory, Outcome, PhaseId, Seat, Sheet, StageId};
+use crate::part_read::{number_of, phase_member_of, seat_of};
+use game_sheet::{Act, Args, Event, EventKind, MoveId, NoMemory, Outcome, PhaseId, Sheet, StageId};
 use json_tree::{extra_field, text_of};
 use move_log::Entry;
 use serde_json::Value;
+use sheet_json::{args_of, is_null, seat_or_null_of};
 use std::alloc::Global;
 
 // An action as it is shown.
@@ -113,7 +113,7 @@ fn move_of_value(sheet: &Sheet, act: &Value) -> Option<Deed>
     if extra_field(act, &["args", "kind", "move"]) {
         return None;
     }
-    let args = args_of(act)?;
+    let args = shown_args_of(act)?;
     let id = move_id_of(sheet, act)?;
     match args {
         Some(args) => Some(Deed {
@@ -135,13 +135,13 @@ fn move_id_of(sheet: &Sheet, act: &Value) -> Option<MoveId>
     ensures { result ≡ option_and_then (move_of sheet.now) (text_at (get (codes "move") (view act.now))) }
 {
     match text_of(act, "move") {
-        Ok(name) => move_named(sheet, name),
+        Ok(name) => sheet.move_named(name),
         Err(_) => None,
     }
 }
 
 // The arguments, or none where they are null.
-fn args_of(act: &Value) -> Option<Option<Args>>
+fn shown_args_of(act: &Value) -> Option<Option<Args>>
     ensures { result ≡ args_in (get (codes "args") (view act.now)) }
 {
     let Some(args) = act.get("args") else {
@@ -153,7 +153,7 @@ fn args_of(act: &Value) -> Option<Option<Args>>
     let Some(items) = args.as_array() else {
         return None;
     };
-    match arguments_of(items.as_slice()) {
+    match args_of(items.as_slice()) {
         Some(args) => Some(Some(args)),
         None => None,
     }
@@ -177,55 +177,45 @@ fn event_named(sheet: &Sheet, name: &str, act: &Value) -> Option<Event>
     requires { SheetFits sheet.now }
     ensures { result ≡ event_by sheet.now name.now (get (codes "to") (view act.now)) }
 {
-    match name {
-        "endTurn" => match next_seat_of(act) {
-            Some(to) => Some(Event::EndTurn { to }),
-            None => None,
-        },
-        "endPhase" => aimless(Event::EndPhase, act),
-        "setPhase" => match phase_aim_of(sheet, act) {
-            Some(to) => Some(Event::SetPhase { to }),
-            None => None,
-        },
-        "endStage" => aimless(Event::EndStage, act),
-        "setStage" => match stage_aim_of(sheet, act) {
-            Some(to) => Some(Event::SetStage { to }),
-            None => None,
-        },
-        "endGame" => aimless(
-            Event::EndGame {
-                outcome: Outcome::Ended,
-            },
-            act,
-        ),
-        _ => None,
+    match EventKind::named(name) {
+        Some(kind) => event_of_kind(sheet, kind, act),
+        None => None,
     }
 }
 
-fn is_null(act: &Value) -> bool
-    ensures { result ≡ is_null_in (get (codes "to") (view act.now)) }
+fn event_of_kind(sheet: &Sheet, kind: EventKind, act: &Value) -> Option<Event>
+    requires { SheetFits sheet.now }
+    ensures { result ≡ event_of_kind sheet.now kind (get (codes "to") (view act.now)) }
 {
-    match act.get("to") {
-        Some(to) => to.is_null(),
-        None => false,
+    match kind {
+        EventKind::EndTurn => match seat_or_null_of(act, "to") {
+            Ok(to) => Some(Event::EndTurn { to }),
+            Err(_) => None,
+        },
+        EventKind::EndPhase => aimless(Event::EndPhase, act),
+        EventKind::SetPhase => match phase_aim_of(sheet, act) {
+            Some(to) => Some(Event::SetPhase { to }),
+            None => None,
+        },
+        EventKind::EndStage => aimless(Event::EndStage, act),
+        EventKind::SetStage => match stage_aim_of(sheet, act) {
+            Some(to) => Some(Event::SetStage { to }),
+            None => None,
+        },
+        EventKind::EndGame => {
+            let outcome = Outcome::Ended;
+            aimless(Event::EndGame { outcome }, act)
+        }
     }
 }
 
 fn aimless(event: Event, act: &Value) -> Option<Event>
     ensures { result ≡ aimless_in event (get (codes "to") (view act.now)) }
 {
-    if is_null(act) { Some(event) } else { None }
-}
-
-fn next_seat_of(act: &Value) -> Option<Option<Seat>>
-    ensures { result ≡ seat_or_null (get (codes "to") (view act.now)) }
-{
-    if is_null(act) {
-        return Some(None);
-    }
-    match seat_of(act, "to") {
-        Some(seat) => Some(Some(seat)),
-        None => None,
+    if is_null(act, "to") {
+        Some(event)
+    } else {
+        None
     }
 }
 
@@ -234,7 +224,7 @@ fn phase_aim_of(sheet: &Sheet, act: &Value) -> Option<PhaseId>
     ensures { result ≡ option_and_then (phase_of sheet.now) (text_at (get (codes "to") (view act.now))) }
 {
     match text_of(act, "to") {
-        Ok(name) => phase_named(sheet, name),
+        Ok(name) => sheet.phase_named(name),
         Err(_) => None,
     }
 }
@@ -244,7 +234,7 @@ fn stage_aim_of(sheet: &Sheet, act: &Value) -> Option<StageId>
     ensures { result ≡ option_and_then (stage_of sheet.now) (text_at (get (codes "to") (view act.now))) }
 {
     match text_of(act, "to") {
-        Ok(name) => stage_named(sheet, name),
+        Ok(name) => sheet.stage_named(name),
         Err(_) => None,
     }
 }

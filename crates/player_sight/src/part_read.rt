@@ -1,16 +1,14 @@
 //! Reads the small parts of the values back: names of the sheet, and lists of numbers.
 
-ghost use Rattle.std.specs.Prelude.{◌≡◌, ◌<◌, ◌≤◌, length, position, IfSome, IfOk, Some, codes};
-ghost use Rattle.std.specs.Str.{bytes_eq};
+ghost use Rattle.std.specs.Prelude.{◌≡◌, IfOk, Some, codes};
 ghost use Rattle.serde_json.specs.Find.{get};
 ghost use Rattle.serde_json.specs.View.{view, items_view};
 ghost use Rattle.game_sheet.specs.SheetFits.{SheetFits};
+ghost use Rattle.game_sheet.specs.SheetNames.{stage_of};
 ghost use Rattle.player_sight.specs.CtxReading.{order_in, phase_in};
-ghost use Rattle.player_sight.specs.Reading.{natural_at, naturals_from, argument_in, arguments_of as arguments_in, move_of, phase_of, stage_of, id_or_null};
+ghost use Rattle.player_sight.specs.Reading.{natural_at, naturals_from, id_or_null};
 
-use game_sheet::{
-    Args, List, MoveId, MoveRow, NoMemory, PhaseId, PhaseRow, Seat, Sheet, StageId, StageRow,
-};
+use game_sheet::{List, NoMemory, PhaseId, Seat, Sheet, StageId};
 use json_tree::{list_of, natural_of};
 use serde_json::Value;
 use std::alloc::Global;
@@ -67,65 +65,6 @@ fn seat_in(item: &Value) -> Option<Seat>
     }
 }
 
-/// The arguments of a move, in order.
-pub fn arguments_of(items: &[Value]) -> Option<Args>
-    ensures { result ≡ arguments_in (items_view items.now) }
-{
-    if items.len() > Args::MOST {
-        return None;
-    }
-    let mut args = Args::new();
-    for item in items {
-        let Some(argument) = argument_of(item) else {
-            return None;
-        };
-        args.push(argument);
-    }
-    Some(args)
-}
-
-fn argument_of(item: &Value) -> Option<i32>
-    ensures { result ≡ argument_in (view item.now) }
-{
-    match item.as_i64() {
-        Some(n) if -2147483648 <= n && n <= 2147483647 => Some(n as i32),
-        _ => None,
-    }
-}
-
-/// The first move with this name.
-pub fn move_named(sheet: &Sheet, name: &str) -> Option<MoveId>
-    requires { SheetFits sheet.now }
-    ensures { result ≡ move_of sheet.now name.now }
-{
-    match move_place(sheet.moves.as_slice(), name) {
-        Some(place) => Some(MoveId::at(place as u8)),
-        None => None,
-    }
-}
-
-/// The first phase with this name.
-pub fn phase_named(sheet: &Sheet, name: &str) -> Option<PhaseId>
-    requires { SheetFits sheet.now }
-    ensures { result ≡ phase_of sheet.now name.now }
-{
-    match phase_place(sheet.phases.as_slice(), name) {
-        Some(place) => Some(PhaseId::at(place as u8)),
-        None => None,
-    }
-}
-
-/// The first stage with this name.
-pub fn stage_named(sheet: &Sheet, name: &str) -> Option<StageId>
-    requires { SheetFits sheet.now }
-    ensures { result ≡ stage_of sheet.now name.now }
-{
-    match stage_place(sheet.stages.as_slice(), name) {
-        Some(place) => Some(StageId::at(place as u8)),
-        None => None,
-    }
-}
-
 /// The phase that the member names, or none where it is null.
 pub fn phase_member_of(sheet: &Sheet, value: &Value) -> Option<Option<PhaseId>>
     requires { SheetFits sheet.now }
@@ -140,7 +79,7 @@ pub fn phase_member_of(sheet: &Sheet, value: &Value) -> Option<Option<PhaseId>>
     let Some(name) = phase.as_str() else {
         return None;
     };
-    match phase_named(sheet, name) {
+    match sheet.phase_named(name) {
         Some(phase) => Some(Some(phase)),
         None => None,
     }
@@ -157,29 +96,8 @@ pub fn stage_or_null_of(sheet: &Sheet, stage: &Value) -> Option<Option<StageId>>
     let Some(name) = stage.as_str() else {
         return None;
     };
-    match stage_named(sheet, name) {
+    match sheet.stage_named(name) {
         Some(stage) => Some(Some(stage)),
         None => None,
     }
-}
-
-fn move_place(rows: &[MoveRow], name: &str) -> Option<usize>
-    ensures place { result ≡ position (λ row. bytes_eq row.name name.now) rows.now }
-    ensures within { IfSome result (λ place. place < length rows.now) }
-{
-    rows.iter().position(|row| row.name.is(name))
-}
-
-fn phase_place(rows: &[PhaseRow], name: &str) -> Option<usize>
-    ensures place { result ≡ position (λ row. bytes_eq row.name name.now) rows.now }
-    ensures within { IfSome result (λ place. place < length rows.now) }
-{
-    rows.iter().position(|row| row.name.is(name))
-}
-
-fn stage_place(rows: &[StageRow], name: &str) -> Option<usize>
-    ensures place { result ≡ position (λ row. bytes_eq row.name name.now) rows.now }
-    ensures within { IfSome result (λ place. place < length rows.now) }
-{
-    rows.iter().position(|row| row.name.is(name))
 }

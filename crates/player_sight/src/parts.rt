@@ -1,8 +1,8 @@
 //! The small parts of the values: names of the sheet, and lists of numbers.
 
-ghost use Rattle.std.specs.Prelude.{◌≡◌, IfOk, option_map};
+ghost use Rattle.std.specs.Prelude.{◌≡◌, IfOk};
 ghost use Rattle.serde_json.specs.View.{view};
-ghost use Rattle.player_sight.specs.Parts.{naturals, integers, text_or_null, natural_or_null, move_name, phase_or_null, stage_or_null};
+ghost use Rattle.player_sight.specs.Parts.{naturals, move_name, phase_or_null, stage_or_null};
 
 use game_sheet::{MoveId, NoMemory, PhaseId, Seat, Sheet, StageId};
 use serde_json::Value;
@@ -17,27 +17,6 @@ pub fn seats_value(alloc: Global, seats: &[Seat]) -> Result<Value, NoMemory>
         list.push(Value::from(*seat))?;
     }
     Ok(Value::Array(list))
-}
-
-/// The arguments of a move, in order.
-pub fn args_value(alloc: Global, args: &[i32]) -> Result<Value, NoMemory>
-    ensures { IfOk result (λ v. view v ≡ integers args.now) }
-{
-    let mut list = Vec::new(alloc);
-    for argument in args {
-        list.push(Value::from(*argument))?;
-    }
-    Ok(Value::Array(list))
-}
-
-/// A seat, or null.
-pub fn seat_value(seat: Option<Seat>) -> Value
-    ensures { view result ≡ natural_or_null seat }
-{
-    match seat {
-        Some(seat) => Value::from(seat),
-        None => Value::Null,
-    }
 }
 
 /// The name of a move, or null where the sheet has no such move.

@@ -55,7 +55,7 @@ fn redacted_log(
 {
     let mut shown = List::new(alloc);
     for entry in log {
-        shown.push(entry.redacted(alloc, sheet, viewer)?)?;
+        shown.push(entry.redacted(sheet, viewer))?;
     }
     Ok(shown)
 }

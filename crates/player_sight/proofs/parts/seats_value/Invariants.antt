@@ -1,6 +1,6 @@
 use Rattle.std.proofs.Common.{◌≡◌, map, take}
 use Rattle.serde_json.specs.View.{view}
-use Rattle.player_sight.specs.Parts.{natural}
+use Rattle.sheet_json.specs.Seats.{natural}
 use Rattle.player_sight.proofs.parts.seats_value.Given as goal
 
 abbrev pub invariant-loop-seat : goal.invariant-loop-seat
