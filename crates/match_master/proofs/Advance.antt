@@ -6,16 +6,18 @@ use Rattle.game_trait.specs.Rules.{Rules}
 use Rattle.wire_json.specs.declared.reason.Reason.{Reason}
 use Rattle.match_master.specs.declared.call.RoomCall.TheVariants.{Create, Join, Attach, Submit, Take, Detach}
 use Rattle.match_master.specs.declared.reply.RoomReply.{RoomReply}
-use Rattle.match_master.specs.declared.submission.Submission.{Submission}
+use Rattle.wire_json.specs.declared.submission.Submission.{Submission}
 use Rattle.match_master.specs.Attachment.{Attachment, begun_by}
-use Rattle.match_master.specs.Viewer.{Viewer, seat_of}
+use Rattle.game_sheet.specs.Viewer.{Viewer, seat_of}
 use Rattle.match_master.specs.Calls.{create, create_reply, created, serials_created, joined, join_reply, attach, attached_by, attach_reply, detach_reply, submit_reply, submitted, accepted_unless}
 use Rattle.match_master.specs.Does.{Does, Detaches, SubmitDoes, attached_in, viewer_in, after_create, after_join, after_attach, after_take, after_submission, taken_of}
-use Rattle.match_master.specs.Held.{Held, Holds, Advances, stored, is_starved, answer_to}
+use Rattle.match_master.specs.Held.{Held, stored, is_starved}
+use Rattle.match_master.proofs.Holding.{Holds, Advances, answer_to}
 use Rattle.match_master.specs.Lines.{ok_line, no_line}
 use Rattle.match_master.specs.Match.{Match, number_of}
 use Rattle.match_master.specs.Shown.{Shown, begun, gained, with_gained, tell_all, say, say_at}
-use Rattle.match_master.specs.Steps.{and_own, told, told_where, begun_where, marked, sync_of, update_of}
+use Rattle.match_master.specs.Does.{sync_of, update_of}
+use Rattle.match_master.proofs.Pieces.{and_own, told, told_where, begun_where, marked}
 use Rattle.match_master.specs.Stream.{Piece, Sync, Line, waiting, of_sync}
 use Rattle.match_master.specs.Verdict.{broken, accept}
 use Rattle.match_master.proofs.SessionLaws.{lookup-put, lookup-tell_all}
@@ -331,7 +333,7 @@ module _ {X G : Type 0} (rules : X → Rules G) where
 
   pub submit_advances : (old : Held X G) (serials : ℕ) (standing : Option (Match X G)) (attached : ℕ → Option Attachment) (pieces : ℕ → List Piece) → Holds rules old serials standing attached pieces
       → (pass : ℕ) (s : Submission) (reply : RoomReply) (new : Held X G) → SubmitDoes rules old pass s reply new (viewer_in old pass) standing
-      → Advances rules old.room new serials standing attached pieces pass (Submit s.name s.key s.number s.ticket s.asked) reply
+      → Advances rules old.room new serials standing attached pieces pass (Submit s) reply
   submit_advances old serials standing attached pieces h pass s reply new d =
       submit_by old serials standing attached pieces h pass s reply new (attached pass) refl
       (subst (λ v. SubmitDoes rules old pass s reply new v standing) (looks_at old serials standing attached pieces h pass) d)

@@ -1,5 +1,5 @@
 -- What the private steps of a Book come to, in the words of its history.
-use Rattle.std.proofs.Common.{◌≡◌, ℕ, ◌+◌, List, [], ◌∷◌, ◌++◌, map, ◌==◌, Bool, true, false, if◌then◌else◌, MatchBool, IfSome, IsSome, is_some, nat_eq, Option, Some, None, option_map, Result, Ok, Err, refl, sym, ap, ◌∙◌, subst, add-one, arith}
+use Rattle.std.proofs.Common.{◌≡◌, ℕ, ◌+◌, List, [], ◌∷◌, ◌++◌, length, map, ◌==◌, Bool, true, false, if◌then◌else◌, MatchBool, IfSome, IsSome, is_some, nat_eq, Option, Some, None, option_map, Result, Ok, Err, refl, sym, ap, ◌∙◌, subst, add-one, arith}
 use Rattle.game_trait.specs.Rules.{Rules}
 use Rattle.game_sheet.specs.declared.sheet.Sheet.{Sheet}
 use Rattle.move_log.specs.Redact.{redact}
@@ -8,27 +8,31 @@ use Rattle.player_sight.specs.CtxData.{ctx_data}
 use Rattle.player_sight.specs.EntryData.{entry_data}
 use Rattle.reducer.specs.Accepted.{Accepted}
 use Rattle.reducer.specs.Fold.{standing as standing_at}
+use Rattle.reducer.specs.Prepared.{Coming}
 use Rattle.reducer.specs.Standing.{Standing}
+use Rattle.reducer.specs.Steps.{state_after}
+use Rattle.phase_flow.specs.Reached.{Reached}
+use Rattle.serde_json.specs.Data.{Data}
 use Rattle.wire_json.specs.ServerText.{text}
 use Rattle.wire_json.specs.declared.server.ServerMsg.TheVariants as message
 use Rattle.wire_json.specs.declared.verdict.Verdict.TheVariants as verdict
 use Rattle.match_master.specs.declared.kept.Kept.{Kept}
 use Rattle.match_master.specs.declared.reply.RoomReply.{RoomReply}
 use Rattle.match_master.specs.declared.reply.RoomReply.TheVariants as answer
-use Rattle.match_master.specs.declared.submission.Submission.{Submission}
+use Rattle.wire_json.specs.declared.submission.Submission.{Submission}
 use Rattle.std.proofs.lemmas.Bool.Decides.{nat_tests}
 use Rattle.indexmap.specs.IndexMap.{insert_entry}
 use Rattle.seat_roster.specs.Player.{Seats}
 use Rattle.match_master.specs.Attachment.{Attachment, begun_by}
 use Rattle.match_master.specs.Calls.{verdict_reply, admit, attach, attach_at, attach_reply, serial_and_seats}
-use Rattle.match_master.specs.Does.{Does, SubmitDoes, update_text, with_accepted, after_submission, after_attach, sync_text}
+use Rattle.match_master.specs.Does.{Does, SubmitDoes, update_text, grown, with_accepted, after_submission, after_attach, sync_text}
 use Rattle.match_master.specs.Held.{Held, kept_of, is_starved}
 use Rattle.match_master.specs.Judged.{IsAccepted}
 use Rattle.match_master.specs.Lines.{newest, ok_line}
 use Rattle.match_master.specs.Match.{Match, number_of, table_of, entry_on, log_of}
 use Rattle.match_master.specs.Shown.{Shown, begun, tell_all}
-use Rattle.match_master.specs.Viewer.{Viewer, seat_of}
-use Rattle.match_master.specs.Steps.{sync_of, update_of}
+use Rattle.game_sheet.specs.Viewer.{Viewer, seat_of}
+use Rattle.match_master.specs.Does.{sync_of, update_of}
 use Rattle.match_master.specs.Verdict.{broken}
 use Rattle.match_master.proofs.SessionLaws.{tell_same}
 
@@ -48,61 +52,60 @@ map-last f [] x = refl
 map-last f (y ∷ xs) x = ap (λ l. f y ∷ l) (map-last f xs x)
 
 module _ {X G : Type 0} (rules : X → Rules G) where
-  -- the update on the state after an accepted action is that of the match that has grown by it
-  update_is : (room : ℕ) (m : Match X G) (a : Accepted) (seat : Option ℕ)
-      → update_text (rules m.game) (standing_at (rules m.game) m.first (a ∷ m.accepted)) (entry_on (table_of rules m) (number_of m) a) seat ≡ update_of rules room (record m { accepted = a ∷ m.accepted }) seat
-  update_is room m a seat =
-      let state : Standing G = standing_at (rules m.game) m.first (a ∷ m.accepted) in
-      let entry : Entry = entry_on (table_of rules m) (number_of m) a in
+  -- the update on what an accepted action leads to is that of the match that has grown by it
+  update_is : (room : ℕ) (m : Match X G) (viewer : Viewer) (s : Submission) (coming : Coming G) (entry : Entry) → IsAccepted rules room m viewer s coming entry → (seat : Option ℕ)
+      → update_text (rules m.game) coming entry seat ≡ update_of rules room (record m { accepted = coming.action ∷ m.accepted }) seat
+  update_is room m viewer s coming entry i seat =
+      let n : Match X G = record m { accepted = coming.action ∷ m.accepted } in
       let sheet : Sheet = (rules m.game).sheet in
-      let last : newest sheet (map (redact sheet seat) (log_of rules m ++ entry ∷ [])) ≡ entry_data sheet (redact sheet seat entry)
-      = ap (newest sheet) (map-last (redact sheet seat) (log_of rules m) entry) ∙ newest_last sheet (map (redact sheet seat) (log_of rules m)) (redact sheet seat entry) in
-      sym (ap (λ d. text (message.Update (ctx_data sheet state.table.ctx) d ((rules m.game).value ((rules m.game).view state.table.g state.table.ctx seat)) state.number)) last)
+      let told : Reached G → Data → ℕ → List ℕ = λ t d k. text (message.Update (ctx_data sheet t.ctx) d ((rules m.game).value ((rules m.game).view t.g t.ctx seat)) k) in
+      let added : Entry = entry_on (table_of rules m) (number_of m) coming.action in
+      let last : newest sheet (map (redact sheet seat) (log_of rules m ++ added ∷ [])) ≡ entry_data sheet (redact sheet seat added)
+      = ap (newest sheet) (map-last (redact sheet seat) (log_of rules m) added) ∙ newest_last sheet (map (redact sheet seat) (log_of rules m)) (redact sheet seat added) in
+      ap (λ e. told coming.table (entry_data sheet (redact sheet seat e)) coming.number) i.entry_is
+      ∙ ap (λ t. told t (entry_data sheet (redact sheet seat added)) coming.number) i.table_is
+      ∙ ap (λ k. told (table_of rules n) (entry_data sheet (redact sheet seat added)) k) (i.number_is ∙ add-one (number_of m))
+      ∙ sym (ap (λ d. told (table_of rules n) d (number_of n)) last)
 
-  -- the state, the log and the lines after an accepted action are those of the match that has grown by it
-  grown_is : (old : Held X G) (pass ticket : ℕ) (m : Match X G) (a : Accepted)
-      → with_accepted rules old (kept_of rules m) pass (standing_at (rules m.game) m.first (a ∷ m.accepted)) (entry_on (table_of rules m) (number_of m) a) ticket
-      ≡ record old {
-        kept = Some (kept_of rules (record m { accepted = a ∷ m.accepted }));
-        sessions = tell_all pass (ok_line (number_of m + 1) ticket) (update_of rules old.room (record m { accepted = a ∷ m.accepted })) old.sessions;
-      }
-  grown_is old pass ticket m a =
-      let grown : Match X G = record m { accepted = a ∷ m.accepted } in
-      let held : List (ℕ × Shown) → Held X G = λ sessions. record old { kept = Some (kept_of rules grown); sessions = sessions } in
-      let state : Standing G = standing_at (rules m.game) m.first (a ∷ m.accepted) in
-      let entry : Entry = entry_on (table_of rules m) (number_of m) a in
-      ap (λ n. held (tell_all pass (ok_line n ticket) (update_text (rules m.game) state entry) old.sessions)) (sym (add-one (number_of m)))
-      ∙ ap held (tell_same old.sessions pass (ok_line (number_of m + 1) ticket) (update_text (rules m.game) state entry) (update_of rules old.room grown) (update_is old.room m a))
+  -- the state after an accepted action is that of one action more
+  next_state : (r : Rules G) (first : Reached G) (accepted : List Accepted) (a : Accepted) → state_after r (standing_at r first accepted) a ≡ standing_at r first (a ∷ accepted)
+  next_state r first accepted a = ap (λ n. record (standing_at r first (a ∷ accepted)) { number = n }) (add-one (length accepted))
 
-  accepted_held : (old : Held X G) (pass : ℕ) (m : Match X G) (viewer : Viewer) (s : Submission) (state : Standing G) (entry : Entry) → IsAccepted rules old.room m viewer s state entry
-      → with_accepted rules old (kept_of rules m) pass state entry s.ticket ≡ after_submission rules old pass m viewer s None
-  accepted_held old pass m viewer s state entry i =
-      ap (λ st. with_accepted rules old (kept_of rules m) pass st entry s.ticket) i.state_is
-      ∙ ap (λ en. with_accepted rules old (kept_of rules m) pass (standing_at (rules m.game) m.first (i.deed ∷ m.accepted)) en s.ticket) i.entry_is
-      ∙ grown_is old pass s.ticket m i.deed
-      ∙ ap (λ (n : Match X G). let h : Held X G = record old {
-        kept = Some (kept_of rules n);
-        sessions = tell_all pass (ok_line (number_of m + 1) s.ticket) (update_of rules old.room n) old.sessions;
-      } in h) (sym i.match_is)
+  -- what is kept after an accepted action is what is kept of the match that has grown by it
+  grown_is : (room : ℕ) (m : Match X G) (viewer : Viewer) (s : Submission) (coming : Coming G) (entry : Entry) → IsAccepted rules room m viewer s coming entry
+      → grown rules (kept_of rules m) coming entry ≡ kept_of rules (record m { accepted = coming.action ∷ m.accepted })
+  grown_is room m viewer s coming entry i =
+      let n : Match X G = record m { accepted = coming.action ∷ m.accepted } in
+      ap (λ e. grown rules (kept_of rules m) coming e) i.entry_is
+      ∙ ap (λ (st : Standing G). let k : Kept X G = record (kept_of rules n) { state = st } in k) (next_state (rules m.game) m.first m.accepted coming.action)
 
-  accept_does : (old : Held X G) (pass : ℕ) (m : Match X G) (viewer : Viewer) (s : Submission) (state : Standing G) (entry : Entry) (reply : RoomReply) (new : Held X G) → IsAccepted rules old.room m viewer s state entry
-      → Does old reply new (answer.Verdict (verdict.Ok state.number)) (with_accepted rules old (kept_of rules m) pass state entry s.ticket)
+  accepted_held : (old : Held X G) (pass : ℕ) (m : Match X G) (viewer : Viewer) (s : Submission) (coming : Coming G) (entry : Entry) → IsAccepted rules old.room m viewer s coming entry
+      → with_accepted rules old (kept_of rules m) pass coming entry s.ticket ≡ after_submission rules old pass m viewer s None
+  accepted_held old pass m viewer s coming entry i =
+      let n : Match X G = record m { accepted = coming.action ∷ m.accepted } in
+      let holding : Kept X G → List (ℕ × Shown) → Held X G = λ k sessions. record old { kept = Some k; sessions = sessions } in
+      ap (λ k. holding k (tell_all pass (ok_line coming.number s.ticket) (update_text (rules m.game) coming entry) old.sessions)) (grown_is old.room m viewer s coming entry i)
+      ∙ ap (λ j. holding (kept_of rules n) (tell_all pass (ok_line j s.ticket) (update_text (rules m.game) coming entry) old.sessions)) i.number_is
+      ∙ ap (holding (kept_of rules n)) (tell_same old.sessions pass (ok_line (number_of m + 1) s.ticket) (update_text (rules m.game) coming entry) (update_of rules old.room n) (update_is old.room m viewer s coming entry i))
+      ∙ ap (λ (x : Match X G). holding (kept_of rules x) (tell_all pass (ok_line (number_of m + 1) s.ticket) (update_of rules old.room x) old.sessions)) (sym i.match_is)
+
+  accept_does : (old : Held X G) (pass : ℕ) (m : Match X G) (viewer : Viewer) (s : Submission) (coming : Coming G) (entry : Entry) (reply : RoomReply) (new : Held X G) → IsAccepted rules old.room m viewer s coming entry
+      → Does old reply new (answer.Verdict (verdict.Ok coming.number)) (with_accepted rules old (kept_of rules m) pass coming entry s.ticket)
       → Does old reply new (verdict_reply (number_of m) (broken rules old.room m viewer s)) (after_submission rules old pass m viewer s (broken rules old.room m viewer s))
-  accept_does old pass m viewer s state entry reply new i d =
-      let number : state.number ≡ number_of m + 1 = ap (λ (st : Standing G). st.number) i.state_is ∙ sym (add-one (number_of m)) in
+  accept_does old pass m viewer s coming entry reply new i d =
       subst (λ o. Does old reply new (verdict_reply (number_of m) o) (after_submission rules old pass m viewer s o)) (sym i.unbroken)
-      (subst (λ h. Does old reply new (answer.Verdict (verdict.Ok (number_of m + 1))) h) (accepted_held old pass m viewer s state entry i)
-      (subst (λ n. Does old reply new (answer.Verdict (verdict.Ok n)) (with_accepted rules old (kept_of rules m) pass state entry s.ticket)) number d))
+      (subst (λ h. Does old reply new (answer.Verdict (verdict.Ok (number_of m + 1))) h) (accepted_held old pass m viewer s coming entry i)
+      (subst (λ n. Does old reply new (answer.Verdict (verdict.Ok n)) (with_accepted rules old (kept_of rules m) pass coming entry s.ticket)) i.number_is d))
 
   -- an accepted submission, whatever match stands
-  pub submit_does : (old : Held X G) (pass : ℕ) (k : Kept X G) (viewer : Viewer) (s : Submission) (state : Standing G) (entry : Entry) (reply : RoomReply) (new : Held X G) (standing : Option (Match X G))
-      → old.kept ≡ Some k → old.kept ≡ option_map (kept_of rules) standing → ((m : Match X G) → k ≡ kept_of rules m → IsAccepted rules old.room m viewer s state entry)
-      → IfSome old.kept (λ held. Does old reply new (answer.Verdict (verdict.Ok state.number)) (with_accepted rules old held pass state entry s.ticket))
+  pub submit_does : (old : Held X G) (pass : ℕ) (k : Kept X G) (viewer : Viewer) (s : Submission) (coming : Coming G) (entry : Entry) (reply : RoomReply) (new : Held X G) (standing : Option (Match X G))
+      → old.kept ≡ Some k → old.kept ≡ option_map (kept_of rules) standing → ((m : Match X G) → k ≡ kept_of rules m → IsAccepted rules old.room m viewer s coming entry)
+      → IfSome old.kept (λ held. Does old reply new (answer.Verdict (verdict.Ok coming.number)) (with_accepted rules old held pass coming entry s.ticket))
       → SubmitDoes rules old pass s reply new (Some viewer) standing
-  submit_does old pass k viewer s state entry reply new None e h i d = absurd (none_kept k (sym e ∙ h))
-  submit_does old pass k viewer s state entry reply new (Some m) e h i d =
-      accept_does old pass m viewer s state entry reply new (i m (some_kept k (kept_of rules m) (sym e ∙ h)))
-      (subst (λ o. IfSome o (λ held. Does old reply new (answer.Verdict (verdict.Ok state.number)) (with_accepted rules old held pass state entry s.ticket))) h d)
+  submit_does old pass k viewer s coming entry reply new None e h i d = absurd (none_kept k (sym e ∙ h))
+  submit_does old pass k viewer s coming entry reply new (Some m) e h i d =
+      accept_does old pass m viewer s coming entry reply new (i m (some_kept k (kept_of rules m) (sym e ∙ h)))
+      (subst (λ o. IfSome o (λ held. Does old reply new (answer.Verdict (verdict.Ok coming.number)) (with_accepted rules old held pass coming entry s.ticket))) h d)
 
   abbrev place_in : Option (Kept X G) → Option (ℕ × Seats)
   place_in kept = option_map (λ (k : Kept X G). (k.serial, k.roster)) kept
@@ -155,7 +158,3 @@ module _ {X G : Type 0} (rules : X → Rules G) where
       → attach_at (place_in old.kept) at serial viewer ≡ Err why → Does old why old (attach_reply (attach st at serial viewer)) (after_attach rules old pass serial st (attach st at serial viewer))
   kept_out old pass serial viewer why at st h e =
       subst (λ r. Does old why old (attach_reply r) (after_attach rules old pass serial st r)) (sym e ∙ attach_as old at serial viewer st h) (unchanged old pass serial st why)
-
-pub is_some_attached : (o : Option Shown) → is_some (option_map (λ (s : Shown). s.attachment) o) ≡ is_some o
-is_some_attached None = refl
-is_some_attached (Some s) = refl

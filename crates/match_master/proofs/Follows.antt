@@ -6,12 +6,12 @@ use Rattle.player_sight.specs.SnapshotData.{Snap}
 use Rattle.reducer.specs.Accepted.{Accepted as Deed}
 use Rattle.match_master.specs.Match.{Match, number_of}
 use Rattle.match_master.specs.Lines.{snap, ok_line}
-use Rattle.match_master.specs.declared.submission.Submission.{Submission}
+use Rattle.wire_json.specs.declared.submission.Submission.{Submission}
 use Rattle.match_master.specs.Stream.{Accepted, Item, Submitted, Piece, Sync, Line, number_at, number_after, oldest, at_number, updates, later_updates, up_to_items, says, broken_on, reached, start_of, stream}
 use Rattle.match_master.specs.Reply.{name_of}
 use Rattle.match_master.specs.Sight.{shown_too}
-use Rattle.match_master.specs.Steps.{update_of, sync_of}
-use Rattle.match_master.specs.Viewer.{Viewer, seat_of}
+use Rattle.match_master.specs.Does.{update_of, sync_of}
+use Rattle.game_sheet.specs.Viewer.{Viewer, seat_of}
 use Rattle.match_master.proofs.UpdateLaws.{AllUpTo, AllBy, AreFalling, AreInOrder, below_next, up_to_more, by_more, later-none, later-newer, updates-all, updates-newer, updates-next, items-newer}
 
 module _ {X G : Type 0} (rules : X → Rules G) (room : ℕ) where

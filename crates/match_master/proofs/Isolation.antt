@@ -16,9 +16,9 @@ use Rattle.match_master.specs.Own.{own}
 use Rattle.match_master.specs.Reply.{name_of, waits, lines_waiting}
 use Rattle.match_master.specs.Sent.{lines, handed_out, sent, stream_at, stream_of}
 use Rattle.match_master.specs.Sight.{sight}
-use Rattle.match_master.specs.Steps.{pieces}
+use Rattle.match_master.proofs.Pieces.{pieces}
 use Rattle.match_master.specs.Stream.{Item, Submitted, Took, Piece, Sync, Line, Mark, number_after, oldest, updates, up_to_items, says, reached, start_of, stream, waiting}
-use Rattle.match_master.specs.Viewer.{Viewer}
+use Rattle.game_sheet.specs.Viewer.{Viewer}
 use Rattle.match_master.proofs.Follows.{Follows, reached_by, oldest_upto}
 use Rattle.match_master.proofs.Joins.{Joined, joins, found_present}
 use Rattle.match_master.proofs.UpdateLaws.{AllUpTo, AreFalling, AreInOrder, below_upto, updates-all, updates-newer, updates-none}

@@ -13,21 +13,23 @@ use Rattle.match_master.specs.declared.call.RoomCall.TheVariants.{Create, Join, 
 use Rattle.match_master.specs.declared.reply.RoomReply.{RoomReply}
 use Rattle.match_master.specs.Match.{Match, number_of, table_of}
 use Rattle.match_master.specs.Lines.{snap, no_line, ok_line}
-use Rattle.match_master.specs.declared.submission.Submission.{Submission}
+use Rattle.wire_json.specs.declared.submission.Submission.{Submission}
 use Rattle.match_master.specs.Verdict.{broken, public_broken, game_broken, or_else, accept, with_act, is_named}
 use Rattle.seat_roster.specs.Player.{Seats}
 use Rattle.seat_roster.specs.Roster.{join}
 use Rattle.seat_roster.specs.declared.refusal.RosterNo.{RosterNo}
 use Rattle.match_master.specs.declared.reply.RoomReply.TheVariants as reply
 use Rattle.match_master.specs.Attachment.{Attachment}
-use Rattle.match_master.specs.Viewer.{Viewer, seat_of, fits}
+use Rattle.game_sheet.specs.Viewer.{Viewer, seat_of}
+use Rattle.match_master.specs.Viewer.{fits}
 use Rattle.match_master.specs.Calls.{create, created, joined, with_roster, attach, attached_by, accepted_unless, submitted}
 use Rattle.match_master.specs.History.{standing, attached, serials, standing_after, attached_after}
 use Rattle.match_master.specs.Stream.{Unasked, Accepted, Refused, Item, Submitted, Took, Piece, Sync, Line, Mark, at_number, says_verdict, broken_on}
 use Rattle.match_master.specs.Reply.{name_of}
 use Rattle.match_master.specs.Sight.{sight, shown_to, shown_too}
 use Rattle.match_master.specs.Own.{own, did, did_where, answer_unless}
-use Rattle.match_master.specs.Steps.{told, told_where, begun, marked, pieces_after, pieces, update_of, sync_of}
+use Rattle.match_master.specs.Does.{update_of, sync_of}
+use Rattle.match_master.proofs.Pieces.{told, told_where, begun, marked, pieces_after, pieces}
 use Rattle.match_master.specs.Admitted.{IsAdmitted}
 use Rattle.match_master.proofs.RuleLaws.{public_admits, or_none}
 use Rattle.match_master.proofs.Follows.{Follows, grown, shown_once, shown_grown, follows_begun, follows_item, follows_grown, follows_own, at_present, at_previous}
@@ -140,8 +142,7 @@ module _ {X G : Type 0} (rules : X → Rules G) (room : ℕ) where
   starved_did m viewer (Create game seats seed) ps shown list f = f
   starved_did m viewer (Join serial seat name key) ps shown list f = f
   starved_did m viewer (Attach serial claim) ps shown list f = f
-  starved_did m viewer (Submit name key number ticket asked) ps shown list f =
-      follows_item rules room m viewer ps shown list f (Submitted (number_of m) (record { name = name; key = key; number = number; ticket = ticket; asked = asked }) true Unasked) [] refl refl refl
+  starved_did m viewer (Submit s) ps shown list f = follows_item rules room m viewer ps shown list f (Submitted (number_of m) s true Unasked) [] refl refl refl
   starved_did m viewer Take ps shown list f = f
   starved_did m viewer Detach ps shown list f = f
 
@@ -197,7 +198,7 @@ module _ {X G : Type 0} (rules : X → Rules G) (room : ℕ) where
 
   submit_step : (same : Bool) (st : Option (Match X G)) (caller at : Option Attachment) (ps : List Piece) (shown : List Snap) (did : List Item) (s : Submission) → Joined st at ps shown did → (same ≡ true → caller ≡ at)
       → Joined (submitted rules room st caller s) at (told_where rules room st caller s same at ps) (shown_to rules at (submitted rules room st caller s) shown)
-      (did_then false same st at (Submit s.name s.key s.number s.ticket s.asked) did)
+      (did_then false same st at (Submit s) did)
   submit_step false None caller None ps shown did s j k = (refl, j.1)
   submit_step true None caller None ps shown did s j k = (refl, j.1)
   submit_step same None caller (Some a) ps shown did s j k = absurd j
@@ -207,7 +208,7 @@ module _ {X G : Type 0} (rules : X → Rules G) (room : ℕ) where
   submit_step false (Some m) (Some c) (Some a) ps shown did s f k = other_step m a.viewer ps shown did f c.viewer s (broken rules room m c.viewer s) refl
   submit_step true (Some m) caller (Some a) ps shown did s f k =
       subst (λ c. Joined (submitted rules room (Some m) c s) (Some a) (told_where rules room (Some m) c s true (Some a) ps) (shown_to rules (Some a) (submitted rules room (Some m) c s) shown)
-      (did_then false true (Some m) (Some a) (Submit s.name s.key s.number s.ticket s.asked) did)) (sym (k refl))
+      (did_then false true (Some m) (Some a) (Submit s) did)) (sym (k refl))
       (own_step m a.viewer ps shown did f s (broken rules room m a.viewer s) refl)
 
   take_step : (same : Bool) (st : Option (Match X G)) (at : Option Attachment) (ps : List Piece) (shown : List Snap) (did : List Item) → Joined st at ps shown did
@@ -255,10 +256,9 @@ module _ {X G : Type 0} (rules : X → Rules G) (room : ℕ) where
   call_step true count st caller at ps shown did (Attach serial claim) j k =
       subst (λ d. Joined st (attached_by at serial (attach st at serial claim)) (begun rules room st (attach st at serial claim) ps) (shown_to rules (attached_by at serial (attach st at serial claim)) st shown) d)
       (sym (unfed_did true st at (Attach serial claim) did (λ m viewer. refl))) (attached_step st at ps shown did serial claim j)
-  call_step same count st caller at ps shown did (Submit name key number ticket asked) j k =
-      let s : Submission = record { name = name; key = key; number = number; ticket = ticket; asked = asked } in
-      subst (λ a. Joined (submitted rules room st caller s) a (told_where rules room st caller s same at ps) (shown_to rules a (submitted rules room st caller s) shown) (did_then false same st at (Submit name key number ticket asked) did))
-      (sym (own_attached same st at (Submit name key number ticket asked) refl)) (submit_step same st caller at ps shown did s j k)
+  call_step same count st caller at ps shown did (Submit s) j k =
+      subst (λ a. Joined (submitted rules room st caller s) a (told_where rules room st caller s same at ps) (shown_to rules a (submitted rules room st caller s) shown) (did_then false same st at (Submit s) did))
+      (sym (own_attached same st at (Submit s) refl)) (submit_step same st caller at ps shown did s j k)
   call_step same count st caller at ps shown did Take j k =
       subst (λ a. Joined st a (marked rules room same at ps) (shown_to rules a st shown) (did_then false same st at Take did))
       (sym (own_attached same st at Take refl)) (take_step same st at ps shown did j)

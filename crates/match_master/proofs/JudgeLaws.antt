@@ -1,10 +1,11 @@
 -- What the answer of a step says of a submission, and that a resolved act is in its sheet.
-use Rattle.std.proofs.Common.{◌≡◌, ◌<◌, ℕ, ℤ, nat_lt, List, ◌∷◌, length, position, Bool, true, false, if◌then◌else◌, Option, Some, None, option_map, refl, ap, ◌∙◌, subst, arith}
+use Rattle.std.proofs.Common.{◌≡◌, ◌<◌, ℕ, nat_lt, List, ◌∷◌, length, position, Bool, true, false, if◌then◌else◌, Option, Some, None, option_map, refl, sym, ap, ◌∙◌, subst, arith}
 use Rattle.std.specs.List.{position_or_len}
 use Rattle.std.proofs.lemmas.Bool.Decides.{nat_tests}
 use Rattle.std.specs.Str.{bytes_eq}
 use Rattle.game_sheet.specs.declared.act.Act.{Act}
 use Rattle.game_sheet.specs.declared.act.Act.TheVariants.{Move, Event}
+use Rattle.game_sheet.specs.declared.args.Arg.{Arg}
 use Rattle.game_sheet.specs.declared.act.Event.{Event as Happening}
 use Rattle.game_sheet.specs.declared.act.Event.TheVariants.{SetPhase, SetStage}
 use Rattle.game_sheet.specs.declared.act.EventKind.{EventKind}
@@ -14,23 +15,21 @@ use Rattle.game_sheet.specs.declared.sheet.Sheet.{Sheet}
 use Rattle.game_trait.specs.InSheet.{ActInSheet, EventInSheet}
 use Rattle.game_trait.specs.Rules.{Rules}
 use Rattle.move_log.specs.declared.entry.Entry.{Entry}
-use Rattle.phase_flow.specs.Reached.{Reached}
 use Rattle.reducer.specs.Accepted.{Accepted}
 use Rattle.reducer.specs.Answer.{answer_on}
-use Rattle.reducer.specs.Fold.{standing as standing_at}
-use Rattle.reducer.specs.Sound.{IsSound}
-use Rattle.reducer.specs.Standing.{Standing}
-use Rattle.wire_json.specs.Resolve.{act_of, event_of, move_of, phase_of, stage_of}
+use Rattle.reducer.specs.Prepared.{Coming, IsReady}
+use Rattle.game_sheet.specs.SheetNames.{move_of, phase_of, stage_of}
+use Rattle.wire_json.specs.Resolve.{act_of, event_of}
 use Rattle.wire_json.specs.declared.asked.Asked.{Asked}
 use Rattle.wire_json.specs.declared.asked.Asked.TheVariants as asked
 use Rattle.wire_json.specs.declared.asked.AskedTo.{AskedTo}
 use Rattle.wire_json.specs.declared.asked.AskedTo.TheVariants as to
-use Rattle.match_master.specs.declared.submission.Submission.{Submission}
+use Rattle.wire_json.specs.declared.submission.Submission.{Submission}
 use Rattle.match_master.specs.declared.kept.Kept.{Kept}
 use Rattle.match_master.specs.Held.{kept_of}
 use Rattle.match_master.specs.Judged.{IsAccepted}
 use Rattle.match_master.specs.Match.{Match, number_of, table_of, entry_on}
-use Rattle.match_master.specs.Viewer.{Viewer, seat_of}
+use Rattle.game_sheet.specs.Viewer.{Viewer, seat_of}
 use Rattle.match_master.specs.Verdict.{broken, public_broken, game_broken, with_act, answered, or_else, reason_of}
 
 chosen : (b : Bool) (n i : ℕ) → (if b then Some n else None) ≡ Some i → (b ≡ true) × (n ≡ i)
@@ -46,15 +45,12 @@ within p xs i h =
     subst (λ k. k < length xs) at.1 (below_is (position_or_len p xs) (length xs) at.0)
 
 move_within : (sheet : Sheet) (name : List ℕ) (i : ℕ) → move_of sheet name ≡ Some i → i < length sheet.moves
-unfolding move_of
 move_within sheet name i h = within (λ row. bytes_eq row.name name) sheet.moves i h
 
 phase_within : (sheet : Sheet) (name : List ℕ) (i : ℕ) → phase_of sheet name ≡ Some i → i < length sheet.phases
-unfolding phase_of
 phase_within sheet name i h = within (λ row. bytes_eq row.name name) sheet.phases i h
 
 stage_within : (sheet : Sheet) (name : List ℕ) (i : ℕ) → stage_of sheet name ≡ Some i → i < length sheet.stages
-unfolding stage_of
 stage_within sheet name i h = within (λ row. bytes_eq row.name name) sheet.stages i h
 
 abbrev SomeInSheet : Sheet → Option Act → Type 0
@@ -87,7 +83,7 @@ mapped_event : (sheet : Sheet) (o : Option Happening) → SomeEventInSheet sheet
 mapped_event sheet None h = tt
 mapped_event sheet (Some event) h = h
 
-mapped_move : (sheet : Sheet) (args : List ℤ) (o : Option ℕ) → ((i : ℕ) → o ≡ Some i → i < length sheet.moves) → SomeInSheet sheet (option_map (λ id. Move id args) o)
+mapped_move : (sheet : Sheet) (args : List Arg) (o : Option ℕ) → ((i : ℕ) → o ≡ Some i → i < length sheet.moves) → SomeInSheet sheet (option_map (λ id. Move id args) o)
 mapped_move sheet args None h = tt
 mapped_move sheet args (Some i) h = h i refl
 
@@ -113,29 +109,34 @@ module _ {X G : Type 0} (rules : X → Rules G) (room : ℕ) where
   game_is m viewer s seat act r p q h n =
       ap (λ b. or_else b (game_broken rules m viewer s)) n ∙ ap (option_map reason_of) (answered_is m (seat_of viewer) (act_of (rules m.game).sheet s.asked) seat act p q ∙ h)
 
-  pub accepted_is : (m : Match X G) (viewer : Viewer) (s : Submission) (seat : ℕ) (act : Act) (next : Standing G) (entry : Entry) → seat_of viewer ≡ Some seat → act_of (rules m.game).sheet s.asked ≡ Some act
-      → public_broken rules room m viewer s ≡ None → answer_on (rules m.game) (kept_of rules m).state seat act ≡ None
-      → next ≡ standing_at (rules m.game) m.first (record { seat = seat; act = act } ∷ m.accepted) → IsSound (rules m.game) next → entry ≡ entry_on (table_of rules m) (number_of m) (record { seat = seat; act = act })
-      → IsAccepted rules room m viewer s next entry
-  accepted_is m viewer s seat act next entry p q n o st sound e = record {
-    deed = record { seat = seat; act = act };
-    unbroken = game_is m viewer s seat act None p q o n;
-    match_is = with_deed m (seat_of viewer) (act_of (rules m.game).sheet s.asked) seat act p q;
-    state_is = st;
-    sound = sound;
-    entry_is = e;
-  }
+  pub accepted_is : (m : Match X G) (viewer : Viewer) (s : Submission) (seat : ℕ) (act : Act) (coming : Coming G) (entry : Entry) → seat_of viewer ≡ Some seat → act_of (rules m.game).sheet s.asked ≡ Some act
+      → coming.action ≡ record { seat = seat; act = act } → IsReady (rules m.game) (kept_of rules m).state coming → entry ≡ entry_on (table_of rules m) (number_of m) (record { seat = seat; act = act })
+      → public_broken rules room m viewer s ≡ None → IsAccepted rules room m viewer s coming entry
+  accepted_is m viewer s seat act coming entry p q a ready e n =
+      let deed : Accepted = record { seat = seat; act = act } in
+      let unrefused : answer_on (rules m.game) (kept_of rules m).state seat act ≡ None = subst (λ (d : Accepted). answer_on (rules m.game) (kept_of rules m).state d.seat d.act ≡ None) a ready.accepted in
+      record {
+        unbroken = game_is m viewer s seat act None p q unrefused n;
+        match_is = with_deed m (seat_of viewer) (act_of (rules m.game).sheet s.asked) seat act p q ∙ ap (λ (d : Accepted). let n : Match X G = record m { accepted = d ∷ m.accepted } in n) (sym a);
+        number_is = ready.number;
+        table_is = ready.table;
+        entry_is = e ∙ ap (entry_on (table_of rules m) (number_of m)) (sym a);
+      }
 
   -- the same, of what is kept of the match
-  pub accepted_at : (m : Match X G) (kept : Kept X G) → kept_of rules m ≡ kept → (viewer : Viewer) (s : Submission) (seat : ℕ) (act : Act) (next : Standing G) (entry : Entry) → seat_of viewer ≡ Some seat
-      → act_of (rules kept.game).sheet s.asked ≡ Some act → answer_on (rules kept.game) kept.state seat act ≡ None
-      → ((first : Reached G) (accepted : List Accepted) → kept.state ≡ standing_at (rules kept.game) first accepted → next ≡ standing_at (rules kept.game) first (record { seat = seat; act = act } ∷ accepted))
-      → IsSound (rules kept.game) next → entry ≡ entry_on kept.state.table kept.state.number (record { seat = seat; act = act }) → public_broken rules room m viewer s ≡ None
-      → IsAccepted rules room m viewer s next entry
+  pub accepted_at : (m : Match X G) (kept : Kept X G) → kept_of rules m ≡ kept → (viewer : Viewer) (s : Submission) (seat : ℕ) (act : Act) (coming : Coming G) (entry : Entry) → seat_of viewer ≡ Some seat
+      → act_of (rules kept.game).sheet s.asked ≡ Some act → coming.action ≡ record { seat = seat; act = act } → IsReady (rules kept.game) kept.state coming
+      → entry ≡ entry_on kept.state.table kept.state.number (record { seat = seat; act = act }) → public_broken rules room m viewer s ≡ None → IsAccepted rules room m viewer s coming entry
   accepted_at m kept e =
-      subst (λ (k : Kept X G). (viewer : Viewer) (s : Submission) (seat : ℕ) (act : Act) (next : Standing G) (entry : Entry) → seat_of viewer ≡ Some seat
-      → act_of (rules k.game).sheet s.asked ≡ Some act → answer_on (rules k.game) k.state seat act ≡ None
-      → ((first : Reached G) (accepted : List Accepted) → k.state ≡ standing_at (rules k.game) first accepted → next ≡ standing_at (rules k.game) first (record { seat = seat; act = act } ∷ accepted))
-      → IsSound (rules k.game) next → entry ≡ entry_on k.state.table k.state.number (record { seat = seat; act = act }) → public_broken rules room m viewer s ≡ None
-      → IsAccepted rules room m viewer s next entry) e
-      (λ viewer s seat act next entry p q o st sound en n. accepted_is m viewer s seat act next entry p q n o (st m.first m.accepted refl) sound en)
+      subst (λ (k : Kept X G). (viewer : Viewer) (s : Submission) (seat : ℕ) (act : Act) (coming : Coming G) (entry : Entry) → seat_of viewer ≡ Some seat
+      → act_of (rules k.game).sheet s.asked ≡ Some act → coming.action ≡ record { seat = seat; act = act } → IsReady (rules k.game) k.state coming
+      → entry ≡ entry_on k.state.table k.state.number (record { seat = seat; act = act }) → public_broken rules room m viewer s ≡ None → IsAccepted rules room m viewer s coming entry) e
+      (λ viewer s seat act coming entry. accepted_is m viewer s seat act coming entry)
+
+  -- the game's refusal, of what is kept of the match
+  pub refused_at : (m : Match X G) (kept : Kept X G) → kept_of rules m ≡ kept → (viewer : Viewer) (s : Submission) (seat : ℕ) (act : Act) (r : GameRule) → seat_of viewer ≡ Some seat
+      → act_of (rules kept.game).sheet s.asked ≡ Some act → answer_on (rules kept.game) kept.state seat act ≡ Some r → public_broken rules room m viewer s ≡ None → broken rules room m viewer s ≡ Some (reason_of r)
+  refused_at m kept e =
+      subst (λ (k : Kept X G). (viewer : Viewer) (s : Submission) (seat : ℕ) (act : Act) (r : GameRule) → seat_of viewer ≡ Some seat
+      → act_of (rules k.game).sheet s.asked ≡ Some act → answer_on (rules k.game) k.state seat act ≡ Some r → public_broken rules room m viewer s ≡ None → broken rules room m viewer s ≡ Some (reason_of r)) e
+      (λ viewer s seat act r p q h n. game_is m viewer s seat act (Some r) p q h n)

@@ -3,6 +3,8 @@ pub mod RuleLaws
 pub mod Follows
 pub mod Joins
 pub mod SessionLaws
+pub mod Pieces
+pub mod Holding
 pub mod JudgeLaws
 pub mod BookLaws
 pub mod Advance

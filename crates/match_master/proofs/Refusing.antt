@@ -11,17 +11,18 @@ use Rattle.match_master.specs.declared.call.RoomCall.{RoomCall}
 use Rattle.match_master.specs.declared.call.RoomCall.TheVariants.{Create, Join, Attach, Submit, Take, Detach}
 use Rattle.match_master.specs.declared.reply.RoomReply.{RoomReply}
 use Rattle.match_master.specs.declared.reply.RoomReply.TheVariants as answer
-use Rattle.match_master.specs.declared.submission.Submission.{Submission}
+use Rattle.wire_json.specs.declared.submission.Submission.{Submission}
 use Rattle.match_master.specs.Attachment.{Attachment}
-use Rattle.match_master.specs.Viewer.{seat_of}
+use Rattle.game_sheet.specs.Viewer.{seat_of}
 use Rattle.match_master.specs.Calls.{verdict_reply, submit_reply, submitted, accepted_unless}
-use Rattle.match_master.specs.Held.{is_starved, bytes_waiting}
+use Rattle.match_master.specs.Held.{is_starved}
+use Rattle.match_master.proofs.Holding.{bytes_waiting}
 use Rattle.match_master.specs.History.{standing, attached}
 use Rattle.match_master.specs.Lines.{no_line}
 use Rattle.match_master.specs.Match.{Match, number_of}
 use Rattle.match_master.specs.Refusal.{IsRefused, Refuses}
 use Rattle.match_master.specs.Reply.{reply, waits}
-use Rattle.match_master.specs.Steps.{told, told_where, pieces}
+use Rattle.match_master.proofs.Pieces.{told, told_where, pieces}
 use Rattle.match_master.specs.Stream.{Piece, Line, waiting}
 use Rattle.match_master.specs.Verdict.{broken}
 use Rattle.match_master.proofs.Waiting.{waits_is}
@@ -72,7 +73,7 @@ module _ {X G : Type 0} (rules : X → Rules G) (room : ℕ) where
 
   -- the entry of a submission that was not refused for want of memory
   abbrev entry_of : ℕ → Submission → Entry (RoomCall X)
-  entry_of pass s = record { pass = pass; call = Submit s.name s.key s.number s.ticket s.asked; starved = false }
+  entry_of pass s = record { pass = pass; call = Submit s; starved = false }
 
   module _ (h : List (Entry (RoomCall X))) (pass : ℕ) (s : Submission) (number : ℕ) (reason : Reason) (r : RefusedAt (standing rules room h) (attached rules room h pass) s number reason) where
     waits_as : (q : ℕ) (own : Bool) → (pass == q) ≡ own → waits rules room (entry_of pass s ∷ h) q
@@ -109,11 +110,10 @@ module _ {X G : Type 0} (rules : X → Rules G) (room : ℕ) where
   pub refuses : (h : List (Entry (RoomCall X))) (pass : ℕ) (call : RoomCall X) (result : RoomReply) → result ≡ reply rules room h (record { pass = pass; call = call; starved = is_starved result })
       → Refuses rules room h (record { pass = pass; call = call; starved = is_starved result }) call result
   unfolding reply
-  refuses h pass (Submit name key number ticket asked) (answer.Verdict (verdict.No n reason)) e =
-      let s : Submission = record { name = name; key = key; number = number; ticket = ticket; asked = asked } in
+  refuses h pass (Submit s) (answer.Verdict (verdict.No n reason)) e =
       is_refused h pass s n reason (refused_at (standing rules room h) (attached rules room h pass) s n reason e)
-  refuses h pass (Submit name key number ticket asked) (answer.Verdict (verdict.Ok n)) e = tt
-  refuses h pass (Submit name key number ticket asked) other e = tt
+  refuses h pass (Submit s) (answer.Verdict (verdict.Ok n)) e = tt
+  refuses h pass (Submit s) other e = tt
   refuses h pass (Create game seats seed) result e = tt
   refuses h pass (Join serial seat name key) result e = tt
   refuses h pass (Attach serial viewer) result e = tt

@@ -7,8 +7,8 @@ use Rattle.std.proofs.lemmas.Bool.Decides.{nat_tests}
 use Rattle.std.proofs.lemmas.Bool.{true≢false}
 use Rattle.match_master.specs.declared.session.Session.{Session}
 use Rattle.match_master.specs.Attachment.{Attachment}
-use Rattle.match_master.specs.Shown.{Shown, shown_of, shown_entry, all_shown, attachment_of, emptied, gained, with_gained, tell, tell_all, tell_at, tell_to, AreReadyTo, AreReadyFrom, Removes, TakesOut, say, say_at}
-use Rattle.match_master.specs.Viewer.{seat_of}
+use Rattle.match_master.specs.Shown.{Shown, shown_of, shown_entry, all_shown, attachment_of, emptied, gained, with_gained, tell, tell_all, tell_at, AreReadyTo, AreReadyFrom, Removes, TakesOut, say, say_at}
+use Rattle.game_sheet.specs.Viewer.{seat_of}
 
 -- a place holds an attachment, and this says whether it is the pass's own
 pub record IsAt (es : List (ℕ × Session)) (i : ℕ) (v : Session) (pass : ℕ) (own : Bool) : Type 0 where
@@ -25,6 +25,12 @@ pub shown_same : (es : List (ℕ × Session)) (i : ℕ) (v w : Session) → slic
 shown_same [] i v w h e = refl
 shown_same (x ∷ es) zero v w h e = ap (λ s. (x.0, s) ∷ all_shown es) (e ∙ sym (ap shown_of (some_is x.1 v h)))
 shown_same (x ∷ es) (suc i) v w h e = ap (λ l. shown_entry x ∷ l) (shown_same es i v w h e)
+
+-- the attachments before a place are told
+abbrev pub tell_to : ℕ → ℕ → List ℕ → (Option ℕ → List ℕ) → List (ℕ × Shown) → List (ℕ × Shown)
+tell_to zero pass said line entries = entries
+tell_to (suc place) pass said line [] = []
+tell_to (suc place) pass said line (e ∷ entries) = tell pass said line e ∷ tell_to place pass said line entries
 
 abbrev Lines : Type 0
 Lines = Option ℕ → List ℕ
@@ -84,11 +90,6 @@ tell_same (x ∷ es) pass said f g h =
 pub length-all_shown : (es : List (ℕ × Session)) → length (all_shown es) ≡ length es
 length-all_shown [] = refl
 length-all_shown (x ∷ es) = ap suc (length-all_shown es)
-
-pub length-tell_to : (es : List (ℕ × Shown)) (i pass : ℕ) (said : List ℕ) (lines : Lines) → length (tell_to i pass said lines es) ≡ length es
-length-tell_to es zero pass said lines = refl
-length-tell_to [] (suc i) pass said lines = refl
-length-tell_to (x ∷ es) (suc i) pass said lines = ap suc (length-tell_to es i pass said lines)
 
 -- where a map is written at a key, its attachments are shown so
 pub shown_put : (es : List (ℕ × Session)) (pass : ℕ) (w : Session) → all_shown (insert_entry nat_eq es pass w) ≡ insert_entry nat_eq (all_shown es) pass (shown_of w)

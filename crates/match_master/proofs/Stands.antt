@@ -8,16 +8,17 @@ use Rattle.match_master.specs.declared.call.RoomCall.{RoomCall}
 use Rattle.match_master.specs.declared.call.RoomCall.TheVariants.{Create, Join, Attach, Submit, Take, Detach}
 use Rattle.match_master.specs.declared.reply.RoomReply.{RoomReply}
 use Rattle.match_master.specs.declared.reply.RoomReply.TheVariants as answer
-use Rattle.match_master.specs.Held.{Held, Holds, Advances, StandsFor, stored, is_starved, answer_to, kept_of}
+use Rattle.match_master.specs.Held.{Held, StandsFor, stored, is_starved, kept_of}
+use Rattle.match_master.proofs.Holding.{Holds, Advances, answer_to}
 use Rattle.match_master.specs.History.{serials, standing, attached, serials_after, standing_after, attached_after}
 use Rattle.match_master.specs.Match.{Match}
 use Rattle.match_master.specs.Refusal.{Refuses}
 use Rattle.match_master.specs.Reply.{reply, reply_to, taken}
 use Rattle.match_master.specs.Sent.{stream_of}
-use Rattle.match_master.specs.Steps.{pieces, pieces_after}
-use Rattle.match_master.specs.declared.submission.Submission.{Submission}
+use Rattle.match_master.proofs.Pieces.{pieces, pieces_after}
+use Rattle.wire_json.specs.declared.submission.Submission.{Submission}
 use Rattle.match_master.specs.Attachment.{Attachment}
-use Rattle.match_master.specs.Viewer.{Viewer}
+use Rattle.game_sheet.specs.Viewer.{Viewer}
 use Rattle.match_master.specs.Calls.{create, create_reply, joined, join_reply, attach, attach_reply, detach_reply}
 use Rattle.match_master.specs.Does.{Does, Detaches, SubmitDoes, attached_in, viewer_in, after_create, after_join, after_attach, after_take, taken_of}
 use Rattle.match_master.proofs.Advance.{create_advances, join_advances, attach_advances, submit_advances, take_advances, detach_advances}
@@ -26,22 +27,7 @@ use Rattle.match_master.proofs.Waiting.{kept_is, waits_is}
 
 starved_is : (r : RoomReply) → is_starved r ≡ true → r ≡ answer.NoMemory
 starved_is answer.NoMemory h = refl
-starved_is (answer.Created serial) h = absurd (true≢false (sym h))
-starved_is answer.Joined h = absurd (true≢false (sym h))
-starved_is answer.Attached h = absurd (true≢false (sym h))
-starved_is (answer.Verdict verdict) h = absurd (true≢false (sym h))
-starved_is (answer.Taken bytes end) h = absurd (true≢false (sym h))
-starved_is answer.Detached h = absurd (true≢false (sym h))
-starved_is answer.Busy h = absurd (true≢false (sym h))
-starved_is answer.BadSeats h = absurd (true≢false (sym h))
-starved_is answer.NoStart h = absurd (true≢false (sym h))
-starved_is answer.NoMatch h = absurd (true≢false (sym h))
-starved_is answer.NoSeat h = absurd (true≢false (sym h))
-starved_is answer.SeatTaken h = absurd (true≢false (sym h))
-starved_is answer.BadName h = absurd (true≢false (sym h))
-starved_is answer.AlreadyAttached h = absurd (true≢false (sym h))
-starved_is answer.Unauthorized h = absurd (true≢false (sym h))
-starved_is answer.NotAttached h = absurd (true≢false (sym h))
+starved_is other h = absurd (true≢false (sym h))
 
 module _ {X G : Type 0} (rules : X → Rules G) (room : ℕ) where
   answer_is : (h : List (Entry (RoomCall X))) (pass : ℕ) (call : RoomCall X)
@@ -49,7 +35,7 @@ module _ {X G : Type 0} (rules : X → Rules G) (room : ℕ) where
   answer_is h pass (Create game seats seed) = refl
   answer_is h pass (Join serial seat name key) = refl
   answer_is h pass (Attach serial viewer) = refl
-  answer_is h pass (Submit name key number ticket asked) = refl
+  answer_is h pass (Submit s) = refl
   answer_is h pass Take = ap (taken (attached rules room h pass)) (sym (waits_is rules room h pass))
   answer_is h pass Detach = refl
 
@@ -117,11 +103,11 @@ module _ {X G : Type 0} (rules : X → Rules G) where
       done_as old new h pass call (Attach serial viewer) result e (finish old new h pass (Attach serial viewer) result r
       (attach_advances rules old (serials rules old.room h) (standing rules old.room h) (attached rules old.room h) (pieces rules old.room h) (holds_at old h s) pass serial viewer result new (d (standing rules old.room h) s.match_held)))
 
-  pub submit_done : (old new : Held X G) (h : List (Entry (RoomCall X))) → StandsFor rules old h → (pass : ℕ) (sub : Submission) (call : RoomCall X) (result : RoomReply) → call ≡ Submit sub.name sub.key sub.number sub.ticket sub.asked → new.room ≡ old.room
+  pub submit_done : (old new : Held X G) (h : List (Entry (RoomCall X))) → StandsFor rules old h → (pass : ℕ) (sub : Submission) (call : RoomCall X) (result : RoomReply) → call ≡ Submit sub → new.room ≡ old.room
       → ((st : Option (Match X G)) → old.kept ≡ option_map (kept_of rules) st → SubmitDoes rules old pass sub result new (viewer_in old pass) st)
       → IsDone old new h pass call result
   submit_done old new h s pass sub call result e r d =
-      done_as old new h pass call (Submit sub.name sub.key sub.number sub.ticket sub.asked) result e (finish old new h pass (Submit sub.name sub.key sub.number sub.ticket sub.asked) result r
+      done_as old new h pass call (Submit sub) result e (finish old new h pass (Submit sub) result r
       (submit_advances rules old (serials rules old.room h) (standing rules old.room h) (attached rules old.room h) (pieces rules old.room h) (holds_at old h s) pass sub result new (d (standing rules old.room h) s.match_held)))
 
   pub take_done : (old new : Held X G) (h : List (Entry (RoomCall X))) → StandsFor rules old h → (pass : ℕ) (call : RoomCall X) (result : RoomReply) → call ≡ Take → new.room ≡ old.room

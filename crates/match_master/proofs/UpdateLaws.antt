@@ -6,7 +6,7 @@ use Rattle.game_sheet.specs.declared.sheet.Sheet.{Sheet}
 use Rattle.player_sight.specs.SnapshotData.{Snap}
 use Rattle.match_master.specs.Lines.{update_line, ok_line}
 use Rattle.match_master.specs.Stream.{GameAnswer, Unasked, Accepted, Refused, Item, Submitted, Took, Piece, Line, number_at, number_after, number_when, oldest, at_number, updates, later_updates, up_to_items, says, says_verdict, says_game, broken_on, reached, start_of}
-use Rattle.match_master.specs.Viewer.{Viewer}
+use Rattle.game_sheet.specs.Viewer.{Viewer}
 use Rattle.wire_json.specs.declared.reason.Reason.{Reason}
 
 -- all snapshots have numbers up to n

@@ -4,7 +4,8 @@ use Rattle.game_trait.specs.Rules.{Rules}
 use Rattle.room_object.specs.Entry.{Entry}
 use Rattle.match_master.specs.declared.call.RoomCall.{RoomCall}
 use Rattle.match_master.specs.Attachment.{Attachment}
-use Rattle.match_master.specs.Held.{bytes_waiting, stored}
+use Rattle.match_master.specs.Held.{stored}
+use Rattle.match_master.proofs.Holding.{bytes_waiting}
 use Rattle.match_master.specs.History.{standing, attached}
 use Rattle.match_master.specs.Match.{Match}
 use Rattle.match_master.specs.Own.{own}
@@ -12,7 +13,7 @@ use Rattle.match_master.specs.Reply.{waits, lines_waiting}
 use Rattle.match_master.specs.Sent.{stream_at, stream_of}
 use Rattle.match_master.specs.Shown.{IsCount}
 use Rattle.match_master.specs.Sight.{sight}
-use Rattle.match_master.specs.Steps.{pieces}
+use Rattle.match_master.proofs.Pieces.{pieces}
 use Rattle.match_master.specs.Stream.{Piece, Sync, Line, Mark, waiting, counted, of_sync}
 use Rattle.match_master.proofs.Joins.{Joined, joins}
 

@@ -14,7 +14,7 @@ use Rattle.match_master.specs.Sent.{lines, sent, stream_of}
 use Rattle.match_master.specs.Sight.{sight}
 use Rattle.match_master.specs.Stream.{Item, Submitted, Took, at_number, broken_on}
 use Rattle.match_master.specs.Verdict.{public_broken}
-use Rattle.match_master.specs.declared.submission.Submission.{Submission}
+use Rattle.wire_json.specs.declared.submission.Submission.{Submission}
 
 abbrev pub without_takes : List Item → List Item
 without_takes [] = []

@@ -3,7 +3,7 @@ use Rattle.std.specs.Prelude.{ℕ, Option, None}
 use Rattle.game_sheet.specs.declared.act.Bye.{Bye}
 use Rattle.wire_json.specs.declared.protocol.Protocol.{Protocol}
 use Rattle.wire_json.specs.declared.protocol.Protocol.TheVariants.{One}
-use Rattle.match_master.specs.Viewer.{Viewer}
+use Rattle.game_sheet.specs.Viewer.{Viewer}
 
 pub record Attachment : Type 0 where
   pub viewer : Viewer

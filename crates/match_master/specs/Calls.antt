@@ -15,9 +15,9 @@ use Rattle.match_master.specs.declared.reply.RoomReply.{RoomReply}
 use Rattle.match_master.specs.declared.reply.RoomReply.TheVariants as reply
 use Rattle.match_master.specs.Attachment.{Attachment, begun_by}
 use Rattle.match_master.specs.Match.{Match, number_of}
-use Rattle.match_master.specs.declared.submission.Submission.{Submission}
+use Rattle.wire_json.specs.declared.submission.Submission.{Submission}
 use Rattle.match_master.specs.Verdict.{broken, accept}
-use Rattle.match_master.specs.Viewer.{Viewer}
+use Rattle.game_sheet.specs.Viewer.{Viewer}
 
 -- the greatest serial
 abbrev pub last_serial : ℕ

@@ -9,28 +9,39 @@ use Rattle.player_sight.specs.CtxData.{ctx_data}
 use Rattle.player_sight.specs.EntryData.{entry_data}
 use Rattle.player_sight.specs.Seen.{seen, snap_of}
 use Rattle.player_sight.specs.SnapshotData.{Snap}
+use Rattle.reducer.specs.Prepared.{Coming}
 use Rattle.reducer.specs.Standing.{Standing}
+use Rattle.reducer.specs.Steps.{state_after}
 use Rattle.wire_json.specs.ServerText.{text}
 use Rattle.wire_json.specs.declared.reason.Reason.{Reason}
 use Rattle.wire_json.specs.declared.server.ServerMsg.TheVariants as message
 use Rattle.match_master.specs.declared.kept.Kept.{Kept}
 use Rattle.match_master.specs.declared.reply.RoomReply.{RoomReply}
 use Rattle.match_master.specs.declared.reply.RoomReply.TheVariants as answer
-use Rattle.match_master.specs.declared.submission.Submission.{Submission}
+use Rattle.wire_json.specs.declared.submission.Submission.{Submission}
 use Rattle.match_master.specs.Attachment.{Attachment, begun_by}
 use Rattle.match_master.specs.Calls.{verdict_reply}
 use Rattle.match_master.specs.Held.{Held, kept_of, is_starved}
-use Rattle.match_master.specs.Lines.{sync_line, ok_line, no_line}
+use Rattle.match_master.specs.Lines.{snap, sync_line, update_line, ok_line, no_line}
 use Rattle.match_master.specs.Match.{Match, number_of}
+use Rattle.match_master.specs.Reply.{name_of}
 use Rattle.match_master.specs.Shown.{Shown, begun, emptied, tell_all, say, Removes}
-use Rattle.match_master.specs.Steps.{sync_of, update_of}
 use Rattle.match_master.specs.Verdict.{broken, accept}
-use Rattle.match_master.specs.Viewer.{Viewer, seat_of}
+use Rattle.game_sheet.specs.Viewer.{Viewer, seat_of}
 
--- the line that tells the player of a seat, or a spectator, of an action that led to a state
-abbrev pub update_text : {G : Type 0} → Rules G → Standing G → Entry → Option ℕ → List ℕ
-update_text rules state entry seat =
-    text (message.Update (ctx_data rules.sheet state.table.ctx) (entry_data rules.sheet (redact rules.sheet seat entry)) (rules.value (rules.view state.table.g state.table.ctx seat)) state.number)
+-- the line that tells the player of a seat, or a spectator, of an action and what it leads to
+abbrev pub update_text : {G : Type 0} → Rules G → Coming G → Entry → Option ℕ → List ℕ
+update_text rules coming entry seat =
+    text (message.Update (ctx_data rules.sheet coming.table.ctx) (entry_data rules.sheet (redact rules.sheet seat entry))
+    (rules.value (rules.view coming.table.g coming.table.ctx seat)) coming.number)
+
+module _ {X G : Type 0} (rules : X → Rules G) (room : ℕ) where
+  -- the line that tells the player of a seat, or a spectator, of the action that led to a match
+  abbrev pub update_of : Match X G → Option ℕ → List ℕ
+  update_of m seat = update_line (rules m.game).sheet (snap rules m seat)
+
+  abbrev pub sync_of : Match X G → Option ℕ → List ℕ
+  sync_of m seat = sync_line (rules m.game).sheet (name_of rules room m) seat (snap rules m seat)
 
 -- what the player of a seat, or a spectator, sees of a state with its log
 abbrev pub seen_at : {G : Type 0} → Rules G → Standing G → List Entry → Option ℕ → Snap
@@ -50,10 +61,14 @@ abbrev pub with_refused : {X G : Type 0} → Held X G → ℕ → ℕ → Reason
 with_refused held pass number reason ticket = record held { sessions = say pass (no_line number reason ticket) held.sessions }
 
 module _ {X G : Type 0} (rules : X → Rules G) where
-  abbrev pub with_accepted : Held X G → Kept X G → ℕ → Standing G → Entry → ℕ → Held X G
-  with_accepted held k pass state entry ticket = record held {
-    kept = Some (record k { state = state; log = k.log ++ entry ∷ [] });
-    sessions = tell_all pass (ok_line state.number ticket) (update_text (rules k.game) state entry) held.sessions;
+  -- an action is taken in, with its entry of the log
+  abbrev pub grown : Kept X G → Coming G → Entry → Kept X G
+  grown k coming entry = record k { state = state_after (rules k.game) k.state coming.action; log = k.log ++ entry ∷ [] }
+
+  abbrev pub with_accepted : Held X G → Kept X G → ℕ → Coming G → Entry → ℕ → Held X G
+  with_accepted held k pass coming entry ticket = record held {
+    kept = Some (grown k coming entry);
+    sessions = tell_all pass (ok_line coming.number ticket) (update_text (rules k.game) coming entry) held.sessions;
   }
 
   abbrev pub after_submission : Held X G → ℕ → Match X G → Viewer → Submission → Option Reason → Held X G

@@ -15,7 +15,7 @@ module _ {X G : Type 0} (rules : X → Rules G) (room : ℕ) where
   serials_after serials standing (Create game seats seed) = serials_created serials (create rules serials standing game seats seed)
   serials_after serials standing (Join serial seat name key) = serials
   serials_after serials standing (Attach serial viewer) = serials
-  serials_after serials standing (Submit name key number ticket asked) = serials
+  serials_after serials standing (Submit s) = serials
   serials_after serials standing Take = serials
   serials_after serials standing Detach = serials
 
@@ -23,8 +23,7 @@ module _ {X G : Type 0} (rules : X → Rules G) (room : ℕ) where
   standing_after serials standing attached (Create game seats seed) = created standing (create rules serials standing game seats seed)
   standing_after serials standing attached (Join serial seat name key) = created standing (joined standing serial seat name key)
   standing_after serials standing attached (Attach serial viewer) = standing
-  standing_after serials standing attached (Submit name key number ticket asked) =
-      submitted rules room standing attached (record { name = name; key = key; number = number; ticket = ticket; asked = asked })
+  standing_after serials standing attached (Submit s) = submitted rules room standing attached s
   standing_after serials standing attached Take = standing
   standing_after serials standing attached Detach = standing
 
@@ -33,7 +32,7 @@ abbrev pub attached_after : {X G : Type 0} → Option (Match X G) → Option Att
 attached_after standing before (Create game seats seed) = before
 attached_after standing before (Join serial seat name key) = before
 attached_after standing before (Attach serial viewer) = attached_by before serial (attach standing before serial viewer)
-attached_after standing before (Submit name key number ticket asked) = before
+attached_after standing before (Submit s) = before
 attached_after standing before Take = before
 attached_after standing before Detach = None
 

@@ -16,7 +16,6 @@ pub mod Rule
 pub mod Shown
 pub mod Sent
 pub mod Sight
-pub mod Steps
 pub mod Stream
 pub mod Verdict
 pub mod Viewer

@@ -8,9 +8,9 @@ use Rattle.match_master.specs.declared.call.RoomCall.{RoomCall}
 use Rattle.match_master.specs.declared.call.RoomCall.TheVariants.{Create, Join, Attach, Submit, Take, Detach}
 use Rattle.match_master.specs.Attachment.{Attachment}
 use Rattle.match_master.specs.Match.{Match, number_of}
-use Rattle.match_master.specs.declared.submission.Submission.{Submission}
+use Rattle.wire_json.specs.declared.submission.Submission.{Submission}
 use Rattle.match_master.specs.Verdict.{public_broken, game_broken}
-use Rattle.match_master.specs.Viewer.{Viewer}
+use Rattle.game_sheet.specs.Viewer.{Viewer}
 use Rattle.match_master.specs.Stream.{GameAnswer, Unasked, Accepted, Refused, Item, Submitted, Took}
 use Rattle.match_master.specs.History.{standing, attached}
 
@@ -31,9 +31,7 @@ module _ {X G : Type 0} (rules : X → Rules G) (room : ℕ) where
   did m viewer (Create game seats seed) starved own = own
   did m viewer (Join serial seat name key) starved own = own
   did m viewer (Attach serial claim) starved own = own
-  did m viewer (Submit name key number ticket asked) starved own =
-      let s : Submission = record { name = name; key = key; number = number; ticket = ticket; asked = asked } in
-      Submitted (number_of m) s starved (game_answer m viewer s starved) ∷ own
+  did m viewer (Submit s) starved own = Submitted (number_of m) s starved (game_answer m viewer s starved) ∷ own
   did m viewer Take starved own = if starved then own else Took (number_of m) ∷ own
   did m viewer Detach starved own = if starved then own else []
 

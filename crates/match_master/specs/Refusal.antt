@@ -36,6 +36,6 @@ module _ {X G : Type 0} (rules : X → Rules G) (room : ℕ) where
   Refuses h e (Create game seats seed) reply = Unit {0}
   Refuses h e (Join serial seat name key) reply = Unit {0}
   Refuses h e (Attach serial viewer) reply = Unit {0}
-  Refuses h e (Submit name key number ticket asked) reply = RefusedWhere h e ticket reply
+  Refuses h e (Submit s) reply = RefusedWhere h e s.ticket reply
   Refuses h e Take reply = Unit {0}
   Refuses h e Detach reply = Unit {0}

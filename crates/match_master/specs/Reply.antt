@@ -45,8 +45,7 @@ module _ {X G : Type 0} (rules : X → Rules G) (room : ℕ) where
   reply_to h pass (Create game seats seed) = create_reply (create rules (serials rules room h) (standing rules room h) game seats seed)
   reply_to h pass (Join serial seat name key) = join_reply (joined (standing rules room h) serial seat name key)
   reply_to h pass (Attach serial viewer) = attach_reply (attach (standing rules room h) (attached rules room h pass) serial viewer)
-  reply_to h pass (Submit name key number ticket asked) =
-      submit_reply rules room (standing rules room h) (attached rules room h pass) (record { name = name; key = key; number = number; ticket = ticket; asked = asked })
+  reply_to h pass (Submit s) = submit_reply rules room (standing rules room h) (attached rules room h pass) s
   reply_to h pass Take = taken (attached rules room h pass) (waits h pass)
   reply_to h pass Detach = detach_reply (attached rules room h pass)
 

@@ -7,6 +7,7 @@ use Rattle.game_sheet.specs.declared.act.Act.TheVariants.{Move, Event, Undo, Red
 use Rattle.game_sheet.specs.declared.act.EventKind.{EventKind}
 use Rattle.game_sheet.specs.declared.act.EventKind.TheVariants.{EndTurn, EndPhase, SetPhase, EndStage, SetStage, EndGame}
 use Rattle.game_sheet.specs.declared.ctx.Ctx.{Ctx}
+use Rattle.game_sheet.specs.declared.ids.TheConstants.{MOST_ACTIONS}
 use Rattle.game_sheet.specs.declared.sheet.Sheet.{Sheet}
 use Rattle.game_sheet.specs.declared.sheet.MoveRow.{MoveRow}
 use Rattle.wire_json.specs.declared.asked.Asked.{Asked}
@@ -15,10 +16,6 @@ use Rattle.wire_json.specs.declared.reason.Reason.{Reason}
 use Rattle.wire_json.specs.declared.reason.Reason.TheVariants.{NoMatch, Unauthorized, GameOver, MatchFull, CannotUndoNow, NotActive, UnknownMove, WrongNumber}
 use Rattle.wire_json.specs.Resolve.{act_of}
 use Rattle.stage_map.specs.Moves.{may, moves}
-
--- the greatest state number
-abbrev pub most_actions : ℕ
-most_actions = 4096
 
 -- the reason of the first rule that is broken
 abbrev pub first_broken : List (Bool × Reason) → Option Reason
@@ -84,7 +81,7 @@ ignores_number sheet (Some Redo) = false
 abbrev pub seat_rules : Sheet → Ctx → ℕ → ℕ → Asked → ℕ → List (Bool × Reason)
 seat_rules sheet ctx number seat a at =
     (is_some ctx.over, GameOver)
-    ∷ (number == most_actions, MatchFull)
+    ∷ (number == MOST_ACTIONS, MatchFull)
     ∷ (is_undo_or_redo a && not (is_alone ctx seat), CannotUndoNow)
     ∷ (not (may ctx seat), NotActive)
     ∷ (not (has_act sheet ctx seat a (act_of sheet a)), UnknownMove)

@@ -4,7 +4,7 @@ use Rattle.std.specs.Map.{lookup}
 use Rattle.indexmap.specs.IndexMap.{insert_entry}
 use Rattle.game_sheet.specs.declared.act.Bye.{Bye}
 use Rattle.match_master.specs.Attachment.{Attachment}
-use Rattle.match_master.specs.Viewer.{seat_of}
+use Rattle.game_sheet.specs.Viewer.{seat_of}
 use Rattle.match_master.specs.declared.session.Session.{Session}
 
 pub record Shown : Type 0 where
@@ -66,12 +66,6 @@ abbrev pub tell_at : ℕ → ℕ → List ℕ → (Option ℕ → List ℕ) → 
 tell_at place pass said line [] = []
 tell_at zero pass said line (e ∷ entries) = tell pass said line e ∷ entries
 tell_at (suc place) pass said line (e ∷ entries) = e ∷ tell_at place pass said line entries
-
--- the attachments before a place are told
-abbrev pub tell_to : ℕ → ℕ → List ℕ → (Option ℕ → List ℕ) → List (ℕ × Shown) → List (ℕ × Shown)
-tell_to zero pass said line entries = entries
-tell_to (suc place) pass said line [] = []
-tell_to (suc place) pass said line (e ∷ entries) = tell pass said line e ∷ tell_to place pass said line entries
 
 -- a pass's own attachment, where there is one, is told something alone
 abbrev pub say_at : ℕ → List ℕ → Option Shown → List (ℕ × Shown) → List (ℕ × Shown)

@@ -8,7 +8,7 @@ use Rattle.match_master.specs.Attachment.{Attachment}
 use Rattle.match_master.specs.Match.{Match, number_of}
 use Rattle.match_master.specs.Lines.{snap}
 use Rattle.match_master.specs.History.{standing, attached}
-use Rattle.match_master.specs.Viewer.{seat_of}
+use Rattle.game_sheet.specs.Viewer.{seat_of}
 
 module _ {X G : Type 0} (rules : X → Rules G) where
   -- the present snapshot joins what was shown, unless it is the one that was shown last

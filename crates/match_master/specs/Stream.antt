@@ -8,8 +8,9 @@ use Rattle.player_sight.specs.SnapshotData.{Snap}
 use Rattle.wire_json.specs.declared.reason.Reason.{Reason}
 use Rattle.match_master.specs.Lines.{sync_line, update_line, ok_line, no_line}
 use Rattle.match_master.specs.Rule.{public}
-use Rattle.match_master.specs.Viewer.{Viewer, seat_of, fits}
-use Rattle.match_master.specs.declared.submission.Submission.{Submission}
+use Rattle.game_sheet.specs.Viewer.{Viewer, seat_of}
+use Rattle.match_master.specs.Viewer.{fits}
+use Rattle.wire_json.specs.declared.submission.Submission.{Submission}
 
 -- what the game answered to a submission that broke no public rule
 pub data GameAnswer : Type 0 where

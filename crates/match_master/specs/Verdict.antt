@@ -9,10 +9,11 @@ use Rattle.reducer.specs.Fold.{answer}
 use Rattle.wire_json.specs.Resolve.{act_of}
 use Rattle.wire_json.specs.declared.reason.Reason.{Reason}
 use Rattle.wire_json.specs.declared.reason.Reason.TheVariants.{NothingToUndo, NothingToRedo, NotYours, NotUndoable, InvalidMove, TooEarly, TooManyWords, TooManyEvents}
-use Rattle.match_master.specs.declared.submission.Submission.{Submission}
+use Rattle.wire_json.specs.declared.submission.Submission.{Submission}
 use Rattle.match_master.specs.Match.{Match, table_of, number_of}
 use Rattle.match_master.specs.Rule.{public}
-use Rattle.match_master.specs.Viewer.{Viewer, seat_of, fits}
+use Rattle.game_sheet.specs.Viewer.{Viewer, seat_of}
+use Rattle.match_master.specs.Viewer.{fits}
 
 abbrev pub reason_of : GameRule → Reason
 reason_of rule.NothingToUndo = NothingToUndo

@@ -3,6 +3,7 @@
 ghost use Rattle.std.specs.Prelude.{◌≡◌, ◌≤◌, ◌<◌, ◌+◌, ◌∷◌, ℕ, List, [], Option, None, Some, IfOk, true, false, MatchBool, MatchOption, IsSome, IfSome, nat_lt, if◌then◌else◌, option_map, is_some, nat_eq};
 ghost use Rattle.std.specs.Map.{lookup};
 ghost use Rattle.indexmap.specs.IndexMap.{insert_entry};
+ghost use Rattle.reducer.specs.Prepared.{IsReady};
 ghost use Rattle.reducer.specs.Sound.{IsSound};
 ghost use Rattle.match_master.specs.declared.kept.Kept.{Kept as Keeps};
 ghost use Rattle.match_master.specs.declared.reply.RoomReply.TheVariants as answer;
@@ -19,7 +20,7 @@ ghost use Rattle.match_master.specs.Held.{Held, StandsFor, kept_of, is_starved, 
 ghost use Rattle.match_master.specs.Does.{Does, Detaches, SubmitDoes, attached_in, viewer_in, with_refused, with_accepted, after_create, after_join, after_attach, after_take, taken_of, sync_text};
 ghost use Rattle.match_master.specs.Sent.{count_of};
 ghost use Rattle.match_master.specs.Shown.{begun};
-ghost use Rattle.match_master.specs.Viewer.{seat_of};
+ghost use Rattle.game_sheet.specs.Viewer.{seat_of};
 ghost use Rattle.seat_roster.specs.Roster.{free_seats};
 
 use crate::call::RoomCall;
@@ -28,17 +29,16 @@ use crate::kept::Kept;
 use crate::line;
 use crate::reply::RoomReply;
 use crate::session::{self, Sessions};
-use crate::submission::Submission;
 use crate::telling::prepare_updates;
-use game_sheet::{Bytes, Key, List, MatchName, NoMemory, Number, Seat, Text};
+use game_sheet::{Bytes, Key, List, MatchName, NoMemory, Number, Seat, Text, Viewer, seat_of};
 use game_trait::Game;
 use indexmap::IndexMap;
 use move_log::Entry;
-use reducer::{StartNo, State, start};
+use reducer::{Prepared, StartNo, State, start};
 use seat_roster::{Roster, RosterNo};
 use std::alloc::Global;
 use std::marker::Model;
-use wire_json::{Reason, Verdict};
+use wire_json::{Reason, Submission, Verdict};
 
 /// The book of one room. It answers one call at a time.
 #[derive(Drop)]
@@ -99,22 +99,7 @@ impl<X: Game + Drop> Book<X> {
                 key,
             } => self.join(serial, seat, name, key),
             RoomCall::Attach { serial, viewer } => self.attach(pass, serial, viewer),
-            RoomCall::Submit {
-                name,
-                key,
-                number,
-                ticket,
-                asked,
-            } => self.submit(
-                pass,
-                Submission {
-                    name,
-                    key,
-                    number,
-                    ticket,
-                    asked,
-                },
-            ),
+            RoomCall::Submit(submission) => self.submit(pass, &submission),
             RoomCall::Take => self.take(pass),
             RoomCall::Detach => self.detach(pass),
         }
@@ -237,34 +222,42 @@ impl<X: Game + Drop> Book<X> {
     }
 
     /// Takes an accepted action in, and tells everybody.
-    fn accept(&mut self, pass: u32, state: State<X::G>, entry: Entry, ticket: u32) -> RoomReply
+    fn accept(
+        &mut self,
+        pass: u32,
+        prepared: Prepared<X::G>,
+        entry: Entry,
+        ticket: u32,
+    ) -> RoomReply
         requires kept { IsSome self.old.kept }
-        requires sound { IfSome self.old.kept (λ k. IsSound (X.rules k.game) state) }
+        requires ready { IfSome self.old.kept (λ k. IsReady (X.rules k.game) k.state prepared) }
         ensures room { self.new.room ≡ self.old.room }
-        ensures does { IfSome self.old.kept (λ k. Does self.old result self.new (answer.Verdict (verdict.Ok state.number)) (with_accepted X.rules self.old k pass state entry ticket)) }
+        ensures does { IfSome self.old.kept (λ k. Does self.old result self.new (answer.Verdict (verdict.Ok prepared.number)) (with_accepted X.rules self.old k pass prepared entry ticket)) }
     {
         let Some(kept) = &self.kept else {
             unreachable!();
         };
-        let number = state.number();
+        let number = prepared.number();
         let Ok(said) = line::ok(self.alloc, number, ticket) else {
+            drop(prepared);
             return RoomReply::NoMemory;
         };
         let Ok(()) = prepare_updates(
             self.alloc,
             &kept.game,
-            &state,
+            &prepared,
             &entry,
             &mut self.sessions,
             pass,
             said.as_slice(),
         ) else {
+            drop(prepared);
             return RoomReply::NoMemory;
         };
         let Some(kept) = &mut self.kept else {
             unreachable!();
         };
-        let Ok(()) = kept.advance(state, entry) else {
+        let Ok(()) = kept.advance(prepared, entry) else {
             return RoomReply::NoMemory;
         };
         session::send_all(&mut self.sessions, pass, said.as_slice());
@@ -272,10 +265,10 @@ impl<X: Game + Drop> Book<X> {
     }
 
     /// Judges an action, and tells what became of it.
-    fn submit(&mut self, pass: u32, submission: Submission) -> RoomReply
+    fn submit(&mut self, pass: u32, submission: &Submission) -> RoomReply
         ensures room { self.new.room ≡ self.old.room }
         ensures does { (standing : Option (Match X X.G)) → self.old.kept ≡ option_map (kept_of X.rules) standing
-            → SubmitDoes X.rules self.old pass submission result self.new (viewer_in self.old pass) standing }
+            → SubmitDoes X.rules self.old pass submission.now result self.new (viewer_in self.old pass) standing }
     {
         let Some(viewer) = session::viewer_of(&self.sessions, pass) else {
             return RoomReply::NotAttached;
@@ -284,12 +277,12 @@ impl<X: Game + Drop> Book<X> {
             return RoomReply::NotAttached;
         };
         let number = kept.state.number();
-        match judge(self.alloc, self.room, kept, viewer, &submission) {
+        match judge(self.alloc, self.room, kept, viewer, submission) {
             Err(_) => RoomReply::NoMemory,
             Ok(Judged::Refused(reason)) => self.refuse(pass, number, reason, submission.ticket),
-            Ok(Judged::Accepted { state, entry }) => self.accept(
+            Ok(Judged::Accepted { prepared, entry }) => self.accept(
                 pass,
-                state,
+                prepared,
                 entry,
                 submission.ticket,
             ),
@@ -297,7 +290,7 @@ impl<X: Game + Drop> Book<X> {
     }
 
     /// Attaches a pass to the match that stands.
-    fn attach(&mut self, pass: u32, serial: u64, viewer: Option<(Seat, Key)>) -> RoomReply
+    fn attach(&mut self, pass: u32, serial: u64, viewer: Viewer) -> RoomReply
         ensures room { self.new.room ≡ self.old.room }
         ensures does { (standing : Option (Match X X.G)) → self.old.kept ≡ option_map (kept_of X.rules) standing
             → Does self.old result self.new (attach_reply (attach standing (attached_in self.old pass) serial viewer)) (after_attach X.rules self.old pass serial standing (attach standing (attached_in self.old pass) serial viewer)) }
@@ -310,7 +303,7 @@ impl<X: Game + Drop> Book<X> {
     }
 
     /// Attaches a viewer to the match that stands.
-    fn begin(&mut self, pass: u32, viewer: Option<(Seat, Key)>) -> RoomReply
+    fn begin(&mut self, pass: u32, viewer: Viewer) -> RoomReply
         requires { IsSome self.old.kept }
         ensures room { self.new.room ≡ self.old.room }
         ensures does { IfSome self.old.kept (λ k. Does self.old result self.new answer.Attached
@@ -321,10 +314,7 @@ impl<X: Game + Drop> Book<X> {
         };
         let serial = kept.serial;
         let name = MatchName::new(self.room, serial);
-        let seat = match &viewer {
-            None => None,
-            Some((seat, _)) => Some(*seat),
-        };
+        let seat = seat_of(&viewer);
         let Ok(line) = line::sync(
             self.alloc,
             &kept.game,
@@ -359,7 +349,7 @@ fn barred<X, G>(
     kept: &Option<Kept<X, G>>,
     before: bool,
     serial: u64,
-    viewer: &Option<(Seat, Key)>,
+    viewer: &Viewer,
 ) -> Option<RoomReply>
     ensures { (attached : Option Attachment) → before ≡ is_some attached → attach_at (option_map (λ k. (k.serial, k.roster)) kept.now) attached serial viewer.now ≡ unless_barred viewer.now result }
 {

@@ -6,19 +6,20 @@ ghost use Rattle.match_master.specs.Match.{Match, entry_on};
 ghost use Rattle.match_master.specs.Admitted.{IsAdmitted};
 ghost use Rattle.match_master.specs.Held.{kept_of};
 ghost use Rattle.match_master.specs.Rule.{public};
-ghost use Rattle.match_master.specs.Judged.{IsJudged, JudgedInOrder};
+ghost use Rattle.match_master.specs.Judged.{IsJudged, JudgedReady};
 ghost use Rattle.match_master.specs.Verdict.{reason_of, is_named, public_broken};
-ghost use Rattle.match_master.specs.Viewer.{seat_of, fits};
+ghost use Rattle.match_master.specs.Viewer.{fits};
+ghost use Rattle.game_sheet.specs.Viewer.{seat_of};
+ghost use Rattle.wire_json.specs.Resolve.{act_of};
 
 use crate::kept::Kept;
-use crate::rule::public_rule;
-use crate::submission::Submission;
-use game_sheet::{Act, GameNo, GameRule, Key, MatchName, NoMemory, Seat};
+use crate::rule::{Request, rule_for};
+use game_sheet::{Act, GameNo, GameRule, Key, MatchName, NoMemory, Seat, Viewer, seat_of};
 use game_trait::Game;
 use move_log::Entry;
-use reducer::{State, step};
+use reducer::{Prepared, State, prepare};
 use std::alloc::Global;
-use wire_json::{Reason, resolve};
+use wire_json::{Reason, Submission, resolve};
 
 /// What a submission comes to.
 #[derive(Drop)]
@@ -27,8 +28,8 @@ pub enum Judged<G> {
     Refused(Reason),
     /// It breaks none.
     Accepted {
-        /// The state after it.
-        state: State<G>,
+        /// What it leads to.
+        prepared: Prepared<G>,
         /// Its entry of the log.
         entry: Entry,
     },
@@ -39,38 +40,45 @@ pub fn judge<X: Game>(
     alloc: Global,
     room: u8,
     kept: &Kept<X, X::G>,
-    viewer: &Option<(Seat, Key)>,
+    viewer: &Viewer,
     submission: &Submission,
 ) -> Result<Judged<X::G>, NoMemory>
     requires { IsSound (X.rules kept.now.game) kept.now.state }
-    ensures sound { IfOk result (JudgedInOrder (X.rules kept.now.game)) }
+    ensures ready { IfOk result (JudgedReady (X.rules kept.now.game) kept.now.state) }
     ensures judged { IfOk result (λ judged. (m : Match X X.G) → kept.now ≡ kept_of X.rules m → IsJudged X.rules room m viewer.now submission.now judged) }
 {
-    match check(room, kept, viewer, submission) {
+    let act = resolve(kept.game.sheet(), &submission.asked);
+    match check(room, kept, viewer, submission, &act) {
         Some(reason) => Ok(Judged::Refused(reason)),
-        None => play(alloc, room, kept, viewer, submission),
+        None => play(alloc, room, kept, viewer, submission, act),
     }
 }
 
-/// The public rule that a submission breaks, if it breaks one.
+/// The public rule that a submission breaks, if it breaks one, whose names stand for this action.
 fn check<X: Game>(
     room: u8,
     kept: &Kept<X, X::G>,
-    viewer: &Option<(Seat, Key)>,
+    viewer: &Viewer,
     submission: &Submission,
+    act: &Option<Act>,
 ) -> Option<Reason>
+    requires { act.now ≡ act_of (X.rules kept.now.game).sheet submission.now.asked }
     ensures { result ≡ public (X.rules kept.now.game).sheet kept.now.state.table.ctx kept.now.state.number (is_named room kept.now.serial submission.now.name) (seat_of viewer.now) (fits viewer.now submission.now.key) submission.now.asked submission.now.number }
 {
     let state = &kept.state;
-    public_rule(
+    let request = Request {
+        asked: &submission.asked,
+        act,
+        number: submission.number,
+    };
+    rule_for(
         kept.game.sheet(),
         state.ctx(),
         state.number(),
         names(room, kept.serial, &submission.name),
         seat_of(viewer),
         fits(viewer, &submission.key),
-        &submission.asked,
-        submission.number,
+        &request,
     )
 }
 
@@ -81,18 +89,8 @@ fn names(room: u8, serial: u64, name: &MatchName) -> bool
     name.room() == room && name.serial() == serial
 }
 
-/// The seat that looks; none for a spectator.
-fn seat_of(viewer: &Option<(Seat, Key)>) -> Option<Seat>
-    ensures { result ≡ seat_of viewer.now }
-{
-    match viewer {
-        None => None,
-        Some((seat, _)) => Some(*seat),
-    }
-}
-
 /// Whether a key is that of the viewer's seat; a spectator has none.
-fn fits(viewer: &Option<(Seat, Key)>, key: &Key) -> bool
+fn fits(viewer: &Viewer, key: &Key) -> bool
     ensures { result ≡ fits viewer.now key.now }
 {
     match viewer {
@@ -106,25 +104,27 @@ fn play<X: Game>(
     alloc: Global,
     room: u8,
     kept: &Kept<X, X::G>,
-    viewer: &Option<(Seat, Key)>,
+    viewer: &Viewer,
     submission: &Submission,
+    act: Option<Act>,
 ) -> Result<Judged<X::G>, NoMemory>
+    requires resolved { act ≡ act_of (X.rules kept.now.game).sheet submission.now.asked }
     requires sound { IsSound (X.rules kept.now.game) kept.now.state }
     requires admitted { IsAdmitted (X.rules kept.now.game).sheet kept.now.state.table.ctx kept.now.state.number (seat_of viewer.now) submission.now.asked }
-    ensures sound { IfOk result (JudgedInOrder (X.rules kept.now.game)) }
+    ensures ready { IfOk result (JudgedReady (X.rules kept.now.game) kept.now.state) }
     ensures judged { IfOk result (λ judged. (m : Match X X.G) → kept.now ≡ kept_of X.rules m → public_broken X.rules room m viewer.now submission.now ≡ None → IsJudged X.rules room m viewer.now submission.now judged) }
 {
     let _room = room;
     let Some(seat) = seat_of(viewer) else {
         unreachable!();
     };
-    let Some(act) = resolve(kept.game.sheet(), &submission.asked) else {
+    let Some(act) = act else {
         unreachable!();
     };
-    match step(alloc, &kept.game, &kept.state, seat, &act) {
-        Ok(state) => {
+    match prepare(alloc, &kept.game, &kept.state, seat, &act) {
+        Ok(prepared) => {
             let entry = entry_on(&kept.state, seat, act);
-            Ok(Judged::Accepted { state, entry })
+            Ok(Judged::Accepted { prepared, entry })
         }
         Err(GameNo::Broken(rule)) => Ok(Judged::Refused(reason_for(rule))),
         Err(GameNo::NoMemory) => Err(NoMemory),

@@ -12,7 +12,6 @@ mod outbox;
 mod reply;
 mod rule;
 mod session;
-mod submission;
 mod telling;
 
 pub use book::Book;
@@ -20,4 +19,3 @@ pub use call::RoomCall;
 pub use laws::{alike_sessions_are_told_the_same, sessions_are_told_by_what_they_see};
 pub use reply::RoomReply;
 pub use rule::public_rule;
-pub use submission::Submission;

@@ -9,7 +9,7 @@ use game_trait::Game;
 use json_tree::Tree;
 use move_log::Entry;
 use player_sight::{ctx_value, entry_value, snapshot, to_value};
-use reducer::State;
+use reducer::{Prepared, State};
 use std::alloc::Global;
 use wire_json::{Reason, ServerMsg, write_server};
 
@@ -42,27 +42,27 @@ pub fn sync<X: Game>(
     write_server(alloc, &message)
 }
 
-/// The line of an accepted action as a viewer sees it: its entry of the log, and the state after it.
+/// The line of an accepted action as a viewer sees it: its entry of the log, and what it leads to.
 pub fn update<X: Game>(
     alloc: Global,
     game: &X,
-    state: &State<X::G>,
+    prepared: &Prepared<X::G>,
     entry: &Entry,
     seat: Option<Seat>,
 ) -> Result<Vec<u8>, NoMemory>
-    ensures { IfOk result (λ line. line.items ≡ update_text (X.rules game.now) state.now entry.now seat) }
+    ensures { IfOk result (λ line. line.items ≡ update_text (X.rules game.now) prepared.now entry.now seat) }
 {
     let sheet = game.sheet();
-    let seen = game.view(alloc, state.g(), state.ctx(), seat)?;
+    let seen = game.view(alloc, prepared.g(), prepared.ctx(), seat)?;
     let g = game.to_value(alloc, &seen)?;
-    let ctx = ctx_value(alloc, sheet, state.ctx())?;
-    let entry = entry.redacted(alloc, sheet, seat)?;
-    let entry = entry_value(alloc, sheet, &entry)?;
+    let ctx = ctx_value(alloc, sheet, prepared.ctx())?;
+    let shown = entry.redacted(sheet, seat);
+    let entry = entry_value(alloc, sheet, &shown)?;
     let message = ServerMsg::Update {
         ctx: Tree::new(ctx),
         entry: Tree::new(entry),
         g: Tree::new(g),
-        number: state.number(),
+        number: prepared.number(),
     };
     write_server(alloc, &message)
 }

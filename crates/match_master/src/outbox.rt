@@ -8,9 +8,9 @@ use std::alloc::Global;
 use std::marker::Model;
 use std::mem;
 
-/// The lines that wait for a session, and behind them lines that stand ready: these wait once they are sent, and are forgotten
-/// when others are made ready. So a line that several sessions are told is made ready at each before the first has it. The sync line
-/// is the first that waits, and its bytes don't count as waiting.
+/// The pending output of a session with a staged tail: `prepare` replaces the tail, and `send` commits it. So a line that several sessions
+/// are told is staged at each before the first has it, and all or none are told when memory runs out. The sync line is the first that
+/// waits, and its bytes don't count as waiting.
 #[derive(Drop)]
 pub struct Outbox {
     bytes: Vec<u8>,

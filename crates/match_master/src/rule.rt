@@ -6,17 +6,26 @@ ghost use Rattle.game_sheet.specs.SheetFits.{SheetFits};
 ghost use Rattle.wire_json.specs.Resolve.{act_of};
 ghost use Rattle.match_master.specs.Rule.{public, first_broken, seat_rules, is_undo_or_redo, is_alone, is_kind, is_allowed, has_act, ignores_number};
 
-use game_sheet::{Act, Ctx, EventKind, MoveId, Number, Seat, Sheet};
-use reducer::MOST_ACTIONS;
+use game_sheet::{Act, Ctx, EventKind, MOST_ACTIONS, MoveId, Number, Seat, Sheet};
 use stage_map::{is_active, moves_of};
 use wire_json::{Asked, Reason, resolve};
+
+/// What a line asks for.
+#[derive(Clone, Copy)]
+pub(crate) struct Request<'a> {
+    /// The action, by its names.
+    pub(crate) asked: &'a Asked,
+    /// The action that the names stand for in the sheet; none where it has no such names.
+    pub(crate) act: &'a Option<Act>,
+    /// The line's state number.
+    pub(crate) number: Number,
+}
 
 /// The first public rule that an action breaks, if it breaks one. It takes no memory.
 ///
 /// The public rules rest on the sheet, the context, the state number, the seat and the line alone. `same_match` says
 /// whether the line names the match that stands, `key_fits` whether its key is the seat's; a session without a seat is
 /// unauthorized. The order of the rules is that of `Reason`.
-#[tactic(auto, unfolding(crate::specs::Rule::public))]
 pub fn public_rule(
     sheet: &Sheet,
     ctx: &Ctx,
@@ -30,6 +39,30 @@ pub fn public_rule(
     requires { SheetFits sheet.now }
     ensures { result ≡ public sheet.now ctx.now number same_match seat key_fits asked.now asked_number }
 {
+    let act = resolve(sheet, asked);
+    let request = Request {
+        asked,
+        act: &act,
+        number: asked_number,
+    };
+    rule_for(sheet, ctx, number, same_match, seat, key_fits, &request)
+}
+
+/// The first public rule that a request breaks, whose names were looked up.
+#[tactic(auto, unfolding(crate::specs::Rule::public))]
+pub(crate) fn rule_for(
+    sheet: &Sheet,
+    ctx: &Ctx,
+    number: Number,
+    same_match: bool,
+    seat: Option<Seat>,
+    key_fits: bool,
+    request: &Request<'_>,
+) -> Option<Reason>
+    requires fits { SheetFits sheet.now }
+    requires resolved { request.now.act.now ≡ act_of sheet.now request.now.asked.now }
+    ensures { result ≡ public sheet.now ctx.now number same_match seat key_fits request.now.asked.now request.now.number }
+{
     if !same_match {
         return Some(Reason::NoMatch);
     }
@@ -39,35 +72,34 @@ pub fn public_rule(
             if !key_fits {
                 return Some(Reason::Unauthorized);
             }
-            seat_rule(sheet, ctx, number, seat, asked, asked_number)
+            seat_rule(sheet, ctx, number, seat, request)
         }
     }
 }
 
-/// The first public rule that a seat's action breaks.
+/// The first public rule that a seat's request breaks.
 fn seat_rule(
     sheet: &Sheet,
     ctx: &Ctx,
     number: Number,
     seat: Seat,
-    asked: &Asked,
-    asked_number: Number,
+    request: &Request<'_>,
 ) -> Option<Reason>
-    requires { SheetFits sheet.now }
-    ensures { result ≡ first_broken (seat_rules sheet.now ctx.now number seat asked.now asked_number) }
+    requires fits { SheetFits sheet.now }
+    requires resolved { request.now.act.now ≡ act_of sheet.now request.now.asked.now }
+    ensures { result ≡ first_broken (seat_rules sheet.now ctx.now number seat request.now.asked.now request.now.number) }
 {
-    let act = resolve(sheet, asked);
     if ctx.over.is_some() {
         Some(Reason::GameOver)
     } else if number == MOST_ACTIONS {
         Some(Reason::MatchFull)
-    } else if moves_back(asked) && !acts_alone(ctx, seat) {
+    } else if moves_back(request.asked) && !acts_alone(ctx, seat) {
         Some(Reason::CannotUndoNow)
     } else if !is_active(ctx, seat) {
         Some(Reason::NotActive)
-    } else if !may_act(sheet, ctx, seat, asked, &act) {
+    } else if !may_act(sheet, ctx, seat, request.asked, request.act) {
         Some(Reason::UnknownMove)
-    } else if asked_number != number && !takes_any_number(sheet, &act) {
+    } else if request.number != number && !takes_any_number(sheet, request.act) {
         Some(Reason::WrongNumber)
     } else {
         None

@@ -7,11 +7,11 @@ ghost use Rattle.indexmap.specs.IndexMap.{insert_entry};
 ghost use Rattle.match_master.specs.Attachment.{begun_by};
 ghost use Rattle.match_master.specs.Shown.{Shown, IsCount, all_shown, begun, attachment_of, AreReadyTo, AreReadyFrom, Removes, TakesOut, gained, say, tell_all, tell_at};
 ghost use Rattle.match_master.specs.Outgoing.{begun_with};
-ghost use Rattle.match_master.specs.Viewer.{seat_of};
+ghost use Rattle.game_sheet.specs.Viewer.{seat_of};
 ghost use Rattle.match_master.specs.declared.session.Session.{Session as Attached};
 
 use crate::outbox::Outbox;
-use game_sheet::{Bye, Key, NoMemory, Seat};
+use game_sheet::{Bye, NoMemory, Seat, Viewer, seat_of};
 use indexmap::IndexMap;
 use std::alloc::Global;
 use wire_json::Protocol;
@@ -20,7 +20,7 @@ use wire_json::Protocol;
 #[derive(Drop)]
 pub struct Session {
     /// The seat that looks, with its key; none for a spectator.
-    pub viewer: Option<(Seat, Key)>,
+    pub viewer: Viewer,
     /// The serial of the match that it looks at.
     pub serial: u64,
     /// How it is told of accepted actions.
@@ -33,7 +33,7 @@ pub struct Session {
 
 impl Session {
     /// The attachment of a viewer to the match of a serial, for which a sync line waits.
-    fn begun(viewer: Option<(Seat, Key)>, serial: u64, sync: Vec<u8>) -> Self
+    fn begun(viewer: Viewer, serial: u64, sync: Vec<u8>) -> Self
         ensures attachment { attachment_of result ≡ begun_by viewer serial }
         ensures lines { result.lines ≡ begun_with sync.items }
     {
@@ -43,16 +43,6 @@ impl Session {
             protocol: Protocol::One,
             end: None,
             lines: Outbox::with(sync),
-        }
-    }
-
-    /// The seat that looks; none for a spectator.
-    fn seat(&self) -> Option<Seat>
-        ensures { result ≡ seat_of self.now.viewer }
-    {
-        match &self.viewer {
-            None => None,
-            Some((seat, _)) => Some(*seat),
         }
     }
 }
@@ -73,7 +63,7 @@ pub fn is_attached(sessions: &Sessions, pass: u32) -> bool
 
 /// Who looks by a pass, if it is attached.
 #[tactic(auto, using(crate::proofs::SessionLaws::lookup_shown))]
-pub fn viewer_of(sessions: &Sessions, pass: u32) -> Option<&Option<(Seat, Key)>>
+pub fn viewer_of(sessions: &Sessions, pass: u32) -> Option<&Viewer>
     ensures { option_copied result ≡ option_map (λ s. s.attachment.viewer) (lookup (nat_eq pass) (all_shown sessions.now.entries)) }
 {
     match sessions.get(&pass) {
@@ -97,7 +87,7 @@ pub fn count(sessions: &Sessions, pass: u32) -> Option<usize>
 pub fn attach(
     sessions: &mut Sessions,
     pass: u32,
-    viewer: Option<(Seat, Key)>,
+    viewer: Viewer,
     serial: u64,
     sync: Vec<u8>,
 ) -> Result<(), NoMemory>
@@ -157,7 +147,7 @@ pub fn seat_at(sessions: &Sessions, place: usize) -> Option<Seat>
     ensures { (e : ℕ × Attached) → slice_get sessions.now.entries place ≡ Some e → result ≡ seat_of (e.1).viewer }
 {
     match sessions.get_index(place) {
-        Some((_, session)) => session.seat(),
+        Some((_, session)) => seat_of(&session.viewer),
         None => unreachable!(),
     }
 }

@@ -1,6 +1,7 @@
 use Rattle.std.proofs.Common.{sym}
 use Rattle.match_master.specs.Verdict.{is_named}
-use Rattle.match_master.specs.Viewer.{seat_of, fits}
+use Rattle.game_sheet.specs.Viewer.{seat_of}
+use Rattle.match_master.specs.Viewer.{fits}
 use Rattle.match_master.proofs.RuleLaws.{public_admits}
 use Rattle.match_master.proofs.judge.judge.Goals as goal
 

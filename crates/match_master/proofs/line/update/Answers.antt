@@ -9,9 +9,9 @@ use Rattle.match_master.proofs.line.update.Goals as goal
 pub returns : goal.returns
 returns g c =
     let rules = g.X.Game.rules c.args.game.now in
-    let state = c.args.state.now in
+    let state = c.args.prepared.now in
     let ctx = rw (c.sheet-sheet.ensures.value, c.ctx-2.ensures) at c.in_ok-ctx.ensures.value in
-    let entry = rw (c.in_ok-entry.ensures, c.sheet-sheet.ensures.value) at c.in_ok-entry-2.ensures.value in
+    let entry = rw (c.redacted-shown.ensures, c.sheet-sheet.ensures.value) at c.in_ok-entry.ensures.value in
     let value = rw (c.in_ok-seen.ensures, c.g.ensures, c.ctx.ensures) at c.in_ok-g.ensures.value in
     subst (λ n. IfOk c.write_server.result (λ line. line.items ≡ text (Update (ctx_data rules.sheet state.table.ctx) (entry_data rules.sheet (redact rules.sheet c.args.seat c.args.entry.now)) (rules.value (rules.view state.table.g state.table.ctx c.args.seat)) n))) c.number.ensures
     (subst (λ d. IfOk c.write_server.result (λ line. line.items ≡ text (Update (ctx_data rules.sheet state.table.ctx) (entry_data rules.sheet (redact rules.sheet c.args.seat c.args.entry.now)) d c.number.result))) (c.new-3.ensures ∙ value)

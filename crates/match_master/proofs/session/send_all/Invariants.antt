@@ -1,5 +1,6 @@
 use Rattle.std.proofs.Common.{◌≡◌, length, List, Option, ℕ}
-use Rattle.match_master.specs.Shown.{all_shown, tell_to, AreReadyFrom}
+use Rattle.match_master.specs.Shown.{all_shown, AreReadyFrom}
+use Rattle.match_master.proofs.SessionLaws.{tell_to}
 use Rattle.match_master.proofs.session.send_all.Given as goal
 
 -- where all was ready, the attachments before the place are told, and what the others gain is ready

@@ -8,5 +8,5 @@ abbrev pub invariant-loop-place : goal.invariant-loop-place
 invariant-loop-place g l = record {
   many : length l.sessions.entries ≡ length l.initial.sessions.entries;
   same : all_shown l.sessions.entries ≡ all_shown l.initial.sessions.entries;
-  ready : AreReadyTo l.place l.pass l.said (update_text (g.X.Game.rules l.game) l.state l.entry) l.sessions.entries;
+  ready : AreReadyTo l.place l.pass l.said (update_text (g.X.Game.rules l.game) l.prepared l.entry) l.sessions.entries;
 }

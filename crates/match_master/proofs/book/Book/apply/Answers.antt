@@ -1,4 +1,3 @@
-use Rattle.match_master.specs.declared.submission.Submission.{Submission}
 use Rattle.match_master.proofs.Stands.{create_done, join_done, attach_done, submit_done, take_done, detach_done}
 use Rattle.match_master.proofs.book.Book.apply.Goals as goal
 
@@ -40,18 +39,15 @@ returns-in-Attach-clause-refused g c = λ h s.
 
 pub returns-in-Submit-clause-answered : goal.returns-in-Submit-clause-answered
 returns-in-Submit-clause-answered g c = λ h s.
-    let sub : Submission = record { name = c.in-Submit.name; key = c.in-Submit.key; number = c.in-Submit.number; ticket = c.in-Submit.ticket; asked = c.in-Submit.asked } in
-    (submit_done g.X.Game.rules c.args.self.now c.submit.new.self h s c.args.pass sub c.args.call c.submit.result c.in-Submit.is c.submit.ensures.room c.submit.ensures.does).0
+    (submit_done g.X.Game.rules c.args.self.now c.submit.new.self h s c.args.pass c.in-Submit.submission c.args.call c.submit.result c.in-Submit.is c.submit.ensures.room c.submit.ensures.does).0
 
 pub returns-in-Submit-clause-stands : goal.returns-in-Submit-clause-stands
 returns-in-Submit-clause-stands g c = λ h s.
-    let sub : Submission = record { name = c.in-Submit.name; key = c.in-Submit.key; number = c.in-Submit.number; ticket = c.in-Submit.ticket; asked = c.in-Submit.asked } in
-    (submit_done g.X.Game.rules c.args.self.now c.submit.new.self h s c.args.pass sub c.args.call c.submit.result c.in-Submit.is c.submit.ensures.room c.submit.ensures.does).1
+    (submit_done g.X.Game.rules c.args.self.now c.submit.new.self h s c.args.pass c.in-Submit.submission c.args.call c.submit.result c.in-Submit.is c.submit.ensures.room c.submit.ensures.does).1
 
 pub returns-in-Submit-clause-refused : goal.returns-in-Submit-clause-refused
 returns-in-Submit-clause-refused g c = λ h s.
-    let sub : Submission = record { name = c.in-Submit.name; key = c.in-Submit.key; number = c.in-Submit.number; ticket = c.in-Submit.ticket; asked = c.in-Submit.asked } in
-    (submit_done g.X.Game.rules c.args.self.now c.submit.new.self h s c.args.pass sub c.args.call c.submit.result c.in-Submit.is c.submit.ensures.room c.submit.ensures.does).2
+    (submit_done g.X.Game.rules c.args.self.now c.submit.new.self h s c.args.pass c.in-Submit.submission c.args.call c.submit.result c.in-Submit.is c.submit.ensures.room c.submit.ensures.does).2
 
 pub returns-in-Take-clause-answered : goal.returns-in-Take-clause-answered
 returns-in-Take-clause-answered g c = λ h s.

@@ -1,5 +1,5 @@
 -- The lines of an attachment as they come, entry by entry: what the room keeps, apart from how the stream is defined.
-use Rattle.std.specs.Prelude.{ℕ, ◌+◌, ◌==◌, List, [], ◌∷◌, Bool, true, false, if◌then◌else◌, Option, Some, None, Result, Ok, Err}
+use Rattle.std.proofs.Common.{ℕ, ◌+◌, ◌==◌, List, [], ◌∷◌, Bool, true, false, if◌then◌else◌, Option, Some, None, Result, Ok, Err}
 use Rattle.game_trait.specs.Rules.{Rules}
 use Rattle.room_object.specs.Entry.{Entry}
 use Rattle.wire_json.specs.declared.reason.Reason.{Reason}
@@ -8,14 +8,14 @@ use Rattle.match_master.specs.declared.call.RoomCall.TheVariants.{Create, Join, 
 use Rattle.match_master.specs.declared.reply.RoomReply.{RoomReply}
 use Rattle.match_master.specs.Attachment.{Attachment}
 use Rattle.match_master.specs.Match.{Match, number_of}
-use Rattle.match_master.specs.Viewer.{Viewer, seat_of}
-use Rattle.match_master.specs.declared.submission.Submission.{Submission}
+use Rattle.game_sheet.specs.Viewer.{Viewer, seat_of}
+use Rattle.wire_json.specs.declared.submission.Submission.{Submission}
 use Rattle.match_master.specs.Verdict.{broken, accept}
-use Rattle.match_master.specs.Lines.{snap, sync_line, update_line, ok_line, no_line}
+use Rattle.match_master.specs.Lines.{ok_line, no_line}
 use Rattle.match_master.specs.Stream.{Piece, Sync, Line, Mark}
 use Rattle.match_master.specs.Calls.{attach}
-use Rattle.match_master.specs.Reply.{name_of}
 use Rattle.match_master.specs.History.{standing, attached}
+use Rattle.match_master.specs.Does.{sync_of, update_of}
 
 -- pieces are added before those that came earlier
 abbrev pub and_own : Bool → List ℕ → List Piece → List Piece
@@ -23,23 +23,16 @@ and_own true line pieces = Line line ∷ pieces
 and_own false line pieces = pieces
 
 module _ {X G : Type 0} (rules : X → Rules G) (room : ℕ) where
-  -- the line that tells the player of a seat, or a spectator, of the action that led to a match
-  abbrev pub update_of : Match X G → Option ℕ → List ℕ
-  update_of m seat = update_line (rules m.game).sheet (snap rules m seat)
-
-  abbrev pub sync_of : Match X G → Option ℕ → List ℕ
-  sync_of m seat = sync_line (rules m.game).sheet (name_of rules room m) seat (snap rules m seat)
-
   abbrev pub begun : Option (Match X G) → Result Viewer RoomReply → List Piece → List Piece
   begun None viewer pieces = pieces
   begun (Some m) (Err why) pieces = pieces
-  begun (Some m) (Ok viewer) pieces = Sync (sync_of m (seat_of viewer)) ∷ []
+  begun (Some m) (Ok viewer) pieces = Sync (sync_of rules room m (seat_of viewer)) ∷ []
 
   -- what a verdict adds: the update for each viewer, and the verdict for the session's own
   abbrev pub told : Match X G → Viewer → Submission → Option Reason → Bool → Option ℕ → List Piece → List Piece
   told m caller s (Some reason) own seat pieces = and_own own (no_line (number_of m) reason s.ticket) pieces
   told m caller s None own seat pieces =
-      and_own own (ok_line (number_of m + 1) s.ticket) (Line (update_of (accept rules m caller s) seat) ∷ pieces)
+      and_own own (ok_line (number_of m + 1) s.ticket) (Line (update_of rules room (accept rules m caller s) seat) ∷ pieces)
 
   abbrev pub told_where : Option (Match X G) → Option Attachment → Submission → Bool → Option Attachment → List Piece → List Piece
   told_where None caller s own at pieces = pieces
@@ -61,8 +54,7 @@ module _ {X G : Type 0} (rules : X → Rules G) (room : ℕ) where
   pieces_after standing caller own at pieces (Create game seats seed) = pieces
   pieces_after standing caller own at pieces (Join serial seat name key) = pieces
   pieces_after standing caller own at pieces (Attach serial viewer) = begun_where own standing at serial viewer pieces
-  pieces_after standing caller own at pieces (Submit name key number ticket asked) =
-      told_where standing caller (record { name = name; key = key; number = number; ticket = ticket; asked = asked }) own at pieces
+  pieces_after standing caller own at pieces (Submit s) = told_where standing caller s own at pieces
   pieces_after standing caller own at pieces Take = marked own at pieces
   pieces_after standing caller own at pieces Detach = pieces
 
