@@ -40,12 +40,6 @@ line_is next.TooMany given h = absurd (some_exit TooMany h)
 line_is next.ReadFault given h = absurd (some_exit ReadFault h)
 line_is next.NoMemory given h = absurd (some_exit NoMemory h)
 
-pub done_is : (r : Ran) (line : ℕ) → end_at r line ≡ None → r ≡ ran.Done
-done_is ran.Done line h = refl
-done_is ran.BadLine line h = absurd (some_exit (BadLine line) h)
-done_is ran.WriteFault line h = absurd (some_exit WriteFault h)
-done_is ran.NoMemory line h = absurd (some_exit NoMemory h)
-
 risen_since : (first old new : ℕ) → first ≤ old → HasRisen old new → HasRisen first new
 risen_since first old new h r = omega arith
 

@@ -6,4 +6,5 @@ pub mod RunLaws
 pub mod EndLaws
 pub mod MatchSeedLaws
 pub mod FormLaws
+pub mod Prefixes
 pub mod AnswerTexts

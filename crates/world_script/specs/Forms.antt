@@ -19,8 +19,7 @@ use Rattle.world_script.specs.declared.stage.Step.TheVariants.{Nothing, Seeds, O
 abbrev pub step_of_message : ℕ → Result ClientMsg Refusal → Option Step
 step_of_message session (Err refusal) = None
 step_of_message session (Ok (message.Sync name viewer)) = Some (Syncs session name viewer)
-step_of_message session (Ok (message.Act act key name number ticket)) =
-    Some (Acts session (record { name = name; key = key; number = number; ticket = ticket; asked = act }))
+step_of_message session (Ok (message.Act s)) = Some (Acts session s)
 
 -- `was_read` says whether there was memory to read the line; where there was none, whatever it holds is in form
 abbrev pub step_of_line : Bool → ℕ → List ℕ → Option Step
@@ -54,25 +53,14 @@ step_of was_read stage line = step_of_command was_read stage (command line)
 
 -- what a step makes of what the lines have come to
 abbrev pub stage_after : Stage → Step → Stage
-stage_after stage Nothing = stage
 stage_after stage (Seeds seed) = record stage { seed = Some seed }
 stage_after stage (Opens game seats seed) = record stage { opened = true; seed = None }
-stage_after stage (Unread session) = stage
-stage_after stage (Syncs session name viewer) = stage
-stage_after stage (Acts session s) = stage
-stage_after stage (Takes session) = stage
-stage_after stage (Detaches session) = stage
+stage_after stage other = stage
 
 -- whether a step's line was read
 abbrev pub is_read : Step → Bool
-is_read Nothing = true
-is_read (Seeds seed) = true
-is_read (Opens game seats seed) = true
 is_read (Unread session) = false
-is_read (Syncs session name viewer) = true
-is_read (Acts session s) = true
-is_read (Takes session) = true
-is_read (Detaches session) = true
+is_read other = true
 
 abbrev pub may_be_read : Option Step → Bool
 may_be_read None = true

@@ -1,6 +1,8 @@
 -- The transcript of a script: what its lines print, one after another, by the history that they make of the room. The marks say, line by
 -- line, how the lines of sessions went: one for which there was no memory is answered so, and may be made again.
 use Rattle.std.specs.Prelude.{ℕ, zero, suc, ◌+◌, ◌==◌, Bool, true, false, is_some, replicate, decimal, drop, List, [], ◌∷◌, ◌++◌, codes, if◌then◌else◌, Option, Some, None, Result, Ok, Err}
+use Rattle.std.specs.List.{flat_map}
+use Rattle.game_sheet.specs.Lines.{lines}
 use Rattle.game_sheet.specs.MatchName.{Name}
 use Rattle.game_sheet.specs.declared.act.Bye.{Bye}
 use Rattle.any_game.specs.AnyRules.{any_rules}
@@ -11,10 +13,10 @@ use Rattle.match_master.specs.declared.call.RoomCall.{RoomCall}
 use Rattle.match_master.specs.declared.call.RoomCall.TheVariants as call
 use Rattle.match_master.specs.declared.reply.RoomReply.{RoomReply}
 use Rattle.match_master.specs.declared.reply.RoomReply.TheVariants as reply_of
-use Rattle.match_master.specs.declared.submission.Submission.{Submission}
+use Rattle.wire_json.specs.declared.submission.Submission.{Submission}
 use Rattle.match_master.specs.History.{attached}
 use Rattle.match_master.specs.Reply.{reply}
-use Rattle.match_master.specs.Viewer.{Viewer}
+use Rattle.game_sheet.specs.Viewer.{Viewer}
 use Rattle.world_script.specs.Answers.{answer_line, answer_of}
 use Rattle.world_script.specs.Forms.{step_of, stage_after}
 use Rattle.world_script.specs.ScriptLines.{Script}
@@ -33,15 +35,13 @@ no_lines_yet = record { opened = false; seed = None }
 abbrev pub History : Type 0
 History = List (Entry (RoomCall GameKind))
 
--- the bytes with this before each line: `begins` says that a line begins
-abbrev pub behind : List ℕ → Bool → List ℕ → List ℕ
-behind prefix begins [] = []
-behind prefix true (b ∷ bytes) = prefix ++ b ∷ behind prefix (b == 10) bytes
-behind prefix false (b ∷ bytes) = b ∷ behind prefix (b == 10) bytes
+-- the bytes with this before each of their lines
+abbrev pub behind : List ℕ → List ℕ → List ℕ
+behind prefix bytes = flat_map (λ line. prefix ++ line) (lines bytes)
 
 -- each line that a session takes stands behind its number
 abbrev pub to_session : ℕ → List ℕ → List ℕ
-to_session session bytes = behind (decimal session ++ 32 ∷ []) true bytes
+to_session session bytes = behind (decimal session ++ 32 ∷ []) bytes
 
 -- An open makes a match and seats a player at each of its seats, all by pass 32. The player of a seat has a name and a key by its
 -- number.
@@ -87,7 +87,7 @@ sync_call h session name viewer =
 -- an act goes to the room that its session is attached to, whatever match it names
 abbrev pub act_call : History → ℕ → Submission → Result (RoomCall GameKind) Answer
 act_call h session s =
-    if is_attached h session then Ok (call.Submit s.name s.key s.number s.ticket s.asked) else Err NotAttached
+    if is_attached h session then Ok (call.Submit s) else Err NotAttached
 
 abbrev pub told : ℕ → Option Answer → List ℕ
 told session None = []

@@ -14,9 +14,10 @@ use crate::mark::Mark;
 use crate::stage::Step;
 use any_game::AnyGame;
 use arrayvec::ArrayString;
-use game_sheet::{Bye, Bytes, Key, MatchName, NoMemory, Seat, Text};
-use match_master::{Book, RoomCall, RoomReply, Submission};
+use game_sheet::{Bye, Bytes, Key, MatchName, NoMemory, Seat, Text, Viewer};
+use match_master::{Book, RoomCall, RoomReply};
 use std::alloc::Global;
+use wire_json::Submission;
 
 /// The room of a script.
 #[derive(Drop)]
@@ -59,11 +60,14 @@ pub struct Outcome {
 }
 
 /// What a session takes, each line behind the session's number, and the end of its stream where that is handed out.
-fn taken(alloc: Global, session: u8, bytes: &[u8], end: Option<Bye>) -> Result<Vec<u8>, NoMemory>
+fn taken(alloc: Global, session: u8, bytes: &Bytes, end: Option<Bye>) -> Result<Vec<u8>, NoMemory>
     ensures { IfOk result (λ text. text.items ≡ to_session session bytes.now ++ end_text session end) }
 {
     let prefix = format!(in alloc; "{session} ")?;
-    let mut lines = prefixed(alloc, prefix.as_bytes(), bytes)?;
+    let mut lines = match bytes.whole() {
+        Some(whole) => prefixed(alloc, prefix.as_bytes(), whole)?,
+        None => prefixed_lines(alloc, prefix.as_bytes(), bytes)?,
+    };
     if let Some(why) = end {
         let line = answer_line(session, Answer::Ends { why });
         lines.extend_from_slice(line.as_str().as_bytes())?;
@@ -71,9 +75,23 @@ fn taken(alloc: Global, session: u8, bytes: &[u8], end: Option<Bye>) -> Result<V
     Ok(lines)
 }
 
-/// The bytes with a prefix before each line.
+/// Lines that are held one by one, each behind a prefix.
+#[tactic(auto, using(crate::proofs::Prefixes::line_more, crate::proofs::Prefixes::lines_done))]
+fn prefixed_lines(alloc: Global, prefix: &[u8], bytes: &Bytes) -> Result<Vec<u8>, NoMemory>
+    ensures { IfOk result (λ text. text.items ≡ behind prefix.now bytes.now) }
+{
+    let mut text = Vec::new(alloc);
+    for place in 0..bytes.count() {
+        text.extend_from_slice(prefix)?;
+        text.extend_from_slice(bytes.piece(place))?;
+    }
+    Ok(text)
+}
+
+/// The bytes with a prefix before each line, in one walk.
+#[tactic(auto, using(crate::proofs::Prefixes::by_byte_is))]
 fn prefixed(alloc: Global, prefix: &[u8], bytes: &[u8]) -> Result<Vec<u8>, NoMemory>
-    ensures { IfOk result (λ text. text.items ≡ behind prefix.now true bytes.now) }
+    ensures { IfOk result (λ text. text.items ≡ behind prefix.now bytes.now) }
 {
     let mut lines = Vec::new(alloc);
     let mut begins = true;
@@ -222,7 +240,7 @@ impl Room {
     }
 
     /// Attaches a session to a match of the room, unless it is attached already.
-    fn sync(&mut self, session: u8, name: MatchName, viewer: Option<(Seat, Key)>) -> Outcome
+    fn sync(&mut self, session: u8, name: MatchName, viewer: Viewer) -> Outcome
         ensures room { self.new.book.room ≡ self.old.book.room }
         ensures read { was_read result.mark ≡ true }
         ensures ran { (h : History) → StandsFor any_rules self.old.book h → self.old.book.room ≡ 0
@@ -248,21 +266,9 @@ impl Room {
         ensures ran { (h : History) → StandsFor any_rules self.old.book h → self.old.book.room ≡ 0
             → (bytes_of result.printing ≡ says result.mark (Acts session submission) h) × StandsFor any_rules self.new.book (history_after result.mark (Acts session submission) h) }
     {
-        let Submission {
-            name,
-            key,
-            number,
-            ticket,
-            asked,
-        } = submission;
+        let ticket = submission.ticket;
         let call = if self.book.is_attached(session as u32) {
-            Ok(RoomCall::Submit {
-                name,
-                key,
-                number,
-                ticket,
-                asked,
-            })
+            Ok(RoomCall::Submit(submission))
         } else {
             Err(Answer::NotAttached)
         };
@@ -346,7 +352,7 @@ fn handed(alloc: Global, session: u8, reply: &RoomReply) -> Result<Printing, NoM
     ensures { IfOk result (λ p. bytes_of p ≡ taken_text session reply.now) }
 {
     if let RoomReply::Taken { bytes, end } = reply {
-        let text = taken(alloc, session, whole(bytes), *end)?;
+        let text = taken(alloc, session, bytes, *end)?;
         Ok(Printing::Lines(text))
     } else {
         Ok(telling(session, Some(Answer::NotAttached)))
@@ -367,16 +373,5 @@ fn is_starved(answer: &RoomReply) -> bool
     match answer {
         RoomReply::NoMemory => true,
         _ => false,
-    }
-}
-
-/// All the bytes, which stand in one piece.
-fn whole(bytes: &Bytes) -> &[u8]
-    ensures { result.now ≡ bytes.now }
-{
-    if bytes.count() == 0 {
-        &[]
-    } else {
-        bytes.piece(0)
     }
 }

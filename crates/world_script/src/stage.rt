@@ -3,16 +3,16 @@
 ghost use Rattle.std.specs.Prelude.{◌≡◌, IfOk, true, Some, Ok, if◌then◌else◌, None, option_and_then};
 ghost use Rattle.wire_json.specs.ClientReading.{client_read};
 ghost use Rattle.world_script.specs.Commands.{Open};
+ghost use Rattle.world_script.specs.declared.stage.Step.TheVariants.{Takes, Detaches};
 ghost use Rattle.world_script.specs.Forms.{allows, may_be_read, opening_of, seed_for, step_of_message, step_of_line, step_of_command, step_of, stage_after};
 
 use crate::command::{Command, command_of};
 use crate::match_seed::match_seed;
 use any_game::{AnyGame, by_name};
-use game_sheet::{Key, MatchName, NoMemory, Seat};
+use game_sheet::{MatchName, NoMemory, Viewer};
 use game_trait::Game;
-use match_master::Submission;
 use std::alloc::Global;
-use wire_json::{ClientMsg, WireNo, read_client};
+use wire_json::{ClientMsg, Submission, WireNo, read_client};
 
 /// What the lines so far have come to.
 #[derive(Clone, Copy)]
@@ -54,7 +54,7 @@ pub enum Step {
         /// The match.
         name: MatchName,
         /// The seat that looks, with its key; none for a spectator.
-        viewer: Option<(Seat, Key)>,
+        viewer: Viewer,
     },
     /// An action of a session.
     Acts {
@@ -86,16 +86,31 @@ pub fn read_step(alloc: Global, stage: Stage, line: &[u8]) -> Result<Option<Step
         Some(Command::Seed(seed)) => Ok(Some(Step::Seeds { seed })),
         Some(Command::Open { game, seats }) => opens(alloc, stage, game, seats),
         Some(Command::Say { session, line }) => Ok(says(alloc, stage, session, line)),
-        Some(Command::Take { session }) => Ok(once_open(stage, Step::Takes { session })),
-        Some(Command::Detach { session }) => Ok(once_open(stage, Step::Detaches { session })),
+        Some(Command::Take { session }) => Ok(takes(stage, session)),
+        Some(Command::Detach { session }) => Ok(detaches(stage, session)),
     }
 }
 
-/// A step that is in form only once a match was opened.
-fn once_open(stage: Stage, step: Step) -> Option<Step>
-    ensures { result ≡ (if stage.opened then Some step else None) }
+/// What waits for a session, once a match was opened.
+fn takes(stage: Stage, session: u8) -> Option<Step>
+    ensures { result ≡ (if stage.opened then Some (Takes session) else None) }
 {
-    if stage.opened { Some(step) } else { None }
+    if stage.opened {
+        Some(Step::Takes { session })
+    } else {
+        None
+    }
+}
+
+/// The end of a session's attachment, once a match was opened.
+fn detaches(stage: Stage, session: u8) -> Option<Step>
+    ensures { result ≡ (if stage.opened then Some (Detaches session) else None) }
+{
+    if stage.opened {
+        Some(Step::Detaches { session })
+    } else {
+        None
+    }
 }
 
 fn opens(alloc: Global, stage: Stage, name: &str, seats: u8) -> Result<Option<Step>, NoMemory>
@@ -118,6 +133,7 @@ fn opening(game: Option<AnyGame>, seats: u8, seed: [u8; 32]) -> Option<Step>
     if allows(&game, seats) {
         Some(Step::Opens { game, seats, seed })
     } else {
+        drop(game);
         None
     }
 }
@@ -166,21 +182,9 @@ fn asks(session: u8, message: ClientMsg) -> Step
             name,
             viewer,
         },
-        ClientMsg::Act {
-            act,
-            key,
-            name,
-            number,
-            ticket,
-        } => Step::Acts {
+        ClientMsg::Act(submission) => Step::Acts {
             session,
-            submission: Submission {
-                name,
-                key,
-                number,
-                ticket,
-                asked: act,
-            },
+            submission,
         },
     }
 }
@@ -198,11 +202,6 @@ pub fn move_on(stage: Stage, step: &Step) -> Stage
             seed: Some(*seed),
             ..stage
         },
-        Step::Nothing => stage,
-        Step::Unread { .. } => stage,
-        Step::Syncs { .. } => stage,
-        Step::Acts { .. } => stage,
-        Step::Takes { .. } => stage,
-        Step::Detaches { .. } => stage,
+        _ => stage,
     }
 }
