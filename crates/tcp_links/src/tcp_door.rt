@@ -1,0 +1,129 @@
+//! A door over a TCP listener.
+
+ghost use Rattle.std.specs.Prelude.{◌≡◌, ◌≤◌, false, IfOk};
+
+use crate::tcp_link::TcpLink;
+use board_links::{Door, Link, SessionEnd, Visit};
+use mio::net::{TcpListener, TcpStream};
+use mio::{Events, Interest, Poll, Token};
+use std::alloc::Global;
+use std::io;
+use std::io::ErrorKind;
+use std::net::{Net, SocketAddr};
+use std::sync::Wait;
+use std::time::Duration;
+
+/// How many milliseconds a poll for a connection waits before the listener is asked again.
+const WAIT: u64 = 100;
+
+/// A door over a TCP listener. It is never shut, and doesn't tell how many links are left.
+#[derive(Drop)]
+pub struct TcpDoor<N> {
+    net: N,
+    alloc: Global,
+    listener: TcpListener,
+    poll: Poll,
+    events: Events,
+    limit: u32,
+    given: u64,
+    came_back: u64,
+    faults: u64,
+    ghost within: { came_back ≤ given },
+}
+
+impl<N: Net + Drop> TcpDoor<N> {
+    /// A door that listens at this address, or at any free port where its port is 0. Its links have lines of at most `limit` bytes. An
+    /// Err is the system's, as where the address is taken.
+    pub fn bind(net: N, alloc: Global, addr: SocketAddr, limit: u32) -> io::Result<TcpDoor<N>>
+        ensures given { IfOk result (λ d. ⟦<TcpDoor<N> as Door>⟧.given d ≡ 0) }
+        ensures out { IfOk result (λ d. ⟦<TcpDoor<N> as Door>⟧.out d ≡ 0) }
+        ensures shut { IfOk result (λ d. ⟦<TcpDoor<N> as Door>⟧.shut d ≡ false) }
+        ensures faults { IfOk result (λ d. ⟦<TcpDoor<N> as Door>⟧.faults d ≡ 0) }
+    {
+        let mut listener = TcpListener::bind(&net, addr)?;
+        let poll = Poll::new(&net)?;
+        let events = Events::with_capacity(alloc, 4)?;
+        poll.registry()
+            .register(&mut listener, Token(0), Interest::READABLE)?;
+        Ok(TcpDoor {
+            net,
+            alloc,
+            listener,
+            poll,
+            events,
+            limit,
+            given: 0,
+            came_back: 0,
+            faults: 0,
+        })
+    }
+
+    /// The address at which it listens, with the port that it got.
+    pub fn addr(&self) -> io::Result<SocketAddr> {
+        self.listener.local_addr()
+    }
+
+    /// The next connection. It may wait.
+    fn connection<R: Wait>(&mut self, rt: &R) -> io::Result<TcpStream>
+        ensures same { (self.new.given ≡ self.old.given) × (self.new.came_back ≡ self.old.came_back) × (self.new.faults ≡ self.old.faults) }
+    {
+        for _ in rt.forever() {
+            match self.listener.accept() {
+                Ok((stream, _)) => return Ok(stream),
+                Err(e) if e.kind() == ErrorKind::WouldBlock => {
+                    self.poll
+                        .poll(&mut self.events, Some(Duration::from_millis(WAIT)))?;
+                }
+                Err(e)
+                    if e.kind() == ErrorKind::Interrupted
+                        || e.kind() == ErrorKind::ConnectionAborted => {}
+                Err(e) => return Err(e),
+            }
+        }
+        unreachable!()
+    }
+
+    /// A link over the next connection. It may wait.
+    fn link<R: Wait>(&mut self, rt: &R) -> io::Result<TcpLink>
+        ensures same { (self.new.given ≡ self.old.given) × (self.new.came_back ≡ self.old.came_back) × (self.new.faults ≡ self.old.faults) }
+        ensures fresh { IfOk result (λ l. ⟦<TcpLink as Link>⟧.faults l ≡ 0) }
+    {
+        let stream = self.connection(rt)?;
+        TcpLink::over(&self.net, self.alloc, stream, self.limit)
+    }
+}
+
+impl<N: Net + Drop> Door for TcpDoor<N> {
+    ghost use Rattle.std.specs.Prelude.{None, false, ◌-◌};
+
+    type L = TcpLink;
+
+    ghost given = { λ d. d.given };
+
+    ghost out = { λ d. d.given - d.came_back };
+
+    ghost shut = { λ _. false };
+
+    ghost faults = { λ d. d.faults };
+
+    ghost left = { λ _. None };
+
+    fn accept<R: Wait>(&mut self, rt: &R) -> Visit<TcpLink> {
+        if self.given < u64::MAX {
+            match self.link(rt) {
+                Ok(link) => {
+                    self.given += 1;
+                    return Visit::Came(link);
+                }
+                Err(e) if e.kind() == ErrorKind::OutOfMemory => return Visit::NoMemory,
+                Err(_) => {}
+            }
+        }
+        self.faults = self.faults.saturating_add(1);
+        Visit::Failed
+    }
+
+    fn back<R: Wait>(&mut self, _rt: &R, _link: TcpLink, _end: SessionEnd) {
+        self.came_back += 1;
+    }
+}
