@@ -1,4 +1,4 @@
--- The games that a match may be of.
+-- The six games that a match may be of.
 use Rattle.std.specs.Prelude.{Option}
 use Rattle.card_games.specs.declared.dealt.Dealt.{Dealt}
 
@@ -9,3 +9,4 @@ pub data GameKind : Type 0 where
   -- of a deck in a fixed order, or of shuffled packs
   HighHand : Option Dealt → GameKind
   BlindBid : GameKind
+  Captions : GameKind

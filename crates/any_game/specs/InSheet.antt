@@ -1,5 +1,5 @@
 -- A lifted game keeps to its sheet where the game does: the proof of this law of games, which no other definition cites.
-use Rattle.std.specs.Prelude.{ℕ, ℤ, List, [], Option, Some, None}
+use Rattle.std.specs.Prelude.{[], Option, Some, None}
 use Rattle.any_game.specs.Lifted.{lifted, lifted_deed, on_own}
 use Rattle.any_game.specs.declared.any_g.AnyG.{AnyG}
 use Rattle.game_sheet.specs.declared.sheet.Sheet.{Sheet}

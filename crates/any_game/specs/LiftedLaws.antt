@@ -1,20 +1,23 @@
 -- A lifted game keeps the laws of games where the game does.
-use Rattle.std.specs.Prelude.{◌≡◌, ◌<◌, ℕ, ℤ, false, IsTrue, List, [], length, option_map, Option, Some, None, IfSome, IsSome, refl}
+use Rattle.std.specs.Prelude.{◌≡◌, ◌<◌, ℕ, false, IsTrue, List, [], length, option_map, Option, Some, None, IfSome, IsSome, refl}
 use Rattle.std.specs.List.{AllByRecursion}
 use Rattle.std.proofs.Common.{ap, subst, sym, ◌∙◌}
 use Rattle.std.proofs.lemmas.Bool.{false≢true}
 use Rattle.any_game.specs.Lifted.{lifted, lifted_deed, on_own}
 use Rattle.any_game.specs.Values.{any_value}
 use Rattle.any_game.specs.declared.any_g.AnyG.{AnyG}
+use Rattle.game_sheet.specs.declared.act.Outcome.{Outcome}
+use Rattle.game_sheet.specs.declared.args.Arg.{Arg}
 use Rattle.game_sheet.specs.declared.ctx.Ctx.{Ctx}
 use Rattle.game_trait.specs.Deed.{Deed, Done, GaveUp, Invalid, Lack}
+use Rattle.game_trait.specs.InSheet.{OutcomeFits}
 use Rattle.game_trait.specs.Lawful.{GivesOwn, Lawful}
 use Rattle.game_trait.specs.Offers.{may_be_offered}
 use Rattle.game_trait.specs.Rules.{Rules}
 use Rattle.json_tree.specs.Canonical.{IsCanonical}
+use Rattle.json_tree.specs.Writable.{IsWritable}
 use Rattle.serde_json.specs.Data.{Data}
 use Rattle.serde_json.specs.Find.{as_object}
-use Rattle.serde_json.specs.Written.{has_float}
 
 module _ {G : Type 0} (inject : G → AnyG) (project : AnyG → Option G) (finds : (own : G) → project (inject own) ≡ Some own) (tells : (g : AnyG) → IfSome (project g) (λ own. g ≡ inject own)) (rules : Rules G) (laws : Lawful rules) where
   abbrev IsOwn : Option G → Type 0
@@ -68,7 +71,7 @@ module _ {G : Type 0} (inject : G → AnyG) (project : AnyG → Option G) (finds
   read_from : (v : Data) (g : AnyG) → option_map inject (rules.read v) ≡ Some g → IsReadFrom v g
   read_from v g is = subst (λ o. IfSome o (IsReadFrom v)) is (injected_read v (rules.read v) refl)
 
-  known : (ctx : Ctx) (seat : ℕ) (own : Option G) → AllByRecursion (λ (offer : ℕ × List ℤ). offer.0 < length rules.sheet.moves) (on_own own [] (λ h. rules.options h ctx seat))
+  known : (ctx : Ctx) (seat : ℕ) (own : Option G) → AllByRecursion (λ (offer : ℕ × List Arg). offer.0 < length rules.sheet.moves) (on_own own [] (λ h. rules.options h ctx seat))
   known ctx seat None = tt
   known ctx seat (Some own) = laws.offers_known own ctx seat
 
@@ -76,8 +79,13 @@ module _ {G : Type 0} (inject : G → AnyG) (project : AnyG → Option G) (finds
   none_offered ctx seat None none = refl
   none_offered ctx seat (Some own) none = laws.offers_none own ctx seat none
 
+  ended : (ctx : Ctx) (outcome : Outcome) (own : Option G) → IsOwn own → on_own own None (λ h. rules.end_if h ctx) ≡ Some outcome → OutcomeFits outcome
+  ended ctx outcome None is ends = absurd (false≢true is)
+  ended ctx outcome (Some own) is ends = laws.ends own ctx outcome is ends
+
   pub lifted_lawful : Lawful (lifted inject project rules)
   lifted_lawful = record {
+    fits = laws.fits;
     setup = λ seats words least most. deed_own (rules.setup seats words) (laws.setup seats words least most);
     play = λ g ctx seat id args words is. own_deed (project g) (GaveUp Invalid) (λ own. rules.play own ctx seat id args words) is (λ own. laws.play own ctx seat id args words);
     on_move = λ g ctx seat words is. own_deed {E = Lack} (project g) (Done g words []) (λ own. rules.on_move own ctx seat words) is (λ own. laws.on_move own ctx seat words);
@@ -89,10 +97,11 @@ module _ {G : Type 0} (inject : G → AnyG) (project : AnyG → Option G) (finds
     view = λ g ctx viewer is. seen_own g ctx viewer (project g) is;
     view_again = λ g ctx viewer is. seen_again g ctx viewer (project g) is;
     written_object = λ g is. of_value g (λ v. IsSome (as_object v)) (project g) laws.written_object is;
-    written_float_free = λ g is. of_value g (λ v. has_float v ≡ false) (project g) laws.written_float_free is;
+    written = λ g is. of_value g IsWritable (project g) laws.written is;
     reads_back = λ g is. again g (project g) (tells g) is;
     read_own = λ v g is. (read_from v g is).0;
     read_only = λ v g canonical is. (read_from v g is).1 canonical;
+    ends = λ g ctx outcome is. ended ctx outcome (project g) is;
     offers_known = λ g ctx seat. known ctx seat (project g);
     offers_none = λ g ctx seat none. none_offered ctx seat (project g) none;
   }

@@ -1,22 +1,23 @@
 -- The states of all games: each is written down as its own game writes it.
 use Rattle.std.specs.Prelude.{◌≡◌, Option, Some, None, IfSome, refl}
 use Rattle.any_game.specs.declared.any_g.AnyG.{AnyG}
-use Rattle.any_game.specs.declared.any_g.AnyG.TheVariants.{TicTacToe, Countdown, Pig, HighHand, BlindBid}
+use Rattle.any_game.specs.declared.any_g.AnyG.TheVariants.{TicTacToe, Countdown, Pig, HighHand, BlindBid, Captions}
 use Rattle.card_games.specs.BlindBid.{Bids, bids_value}
+use Rattle.card_games.specs.Captions.{Texts, texts_value}
 use Rattle.card_games.specs.HighHand.{Cards, cards_value}
 use Rattle.serde_json.specs.Data.{Data}
-use Rattle.table_games.specs.Board.{board_value}
-use Rattle.table_games.specs.Countdown.{heap_value}
-use Rattle.table_games.specs.Pig.{Points, points_value}
-use Rattle.table_games.specs.declared.board.Board.{Board}
-use Rattle.table_games.specs.declared.heap.Heap.{Heap}
+use Rattle.table_states.specs.Points.{Points}
+use Rattle.table_states.specs.StateForms.{board_form, heap_form, points_form}
+use Rattle.table_states.specs.declared.board.Board.{Board}
+use Rattle.table_states.specs.declared.heap.Heap.{Heap}
 
 abbrev pub any_value : AnyG → Data
-any_value (TicTacToe board) = board_value board
-any_value (Countdown heap) = heap_value heap
-any_value (Pig points) = points_value points
+any_value (TicTacToe board) = board_form.value board
+any_value (Countdown heap) = heap_form.value heap
+any_value (Pig points) = points_form.value points
 any_value (HighHand cards) = cards_value cards
 any_value (BlindBid bids) = bids_value bids
+any_value (Captions texts) = texts_value texts
 
 -- a state as one of tic-tac-toe, if it is one
 abbrev pub as_board : AnyG → Option Board
@@ -43,6 +44,11 @@ abbrev pub as_bids : AnyG → Option Bids
 as_bids (BlindBid bids) = Some bids
 as_bids _ = None
 
+-- a state as one of Captions, if it is one
+abbrev pub as_texts : AnyG → Option Texts
+as_texts (Captions texts) = Some texts
+as_texts _ = None
+
 -- what is one of a game's states is that state and no other
 pub is_board : (g : AnyG) → IfSome (as_board g) (λ board. g ≡ TicTacToe board)
 is_board (TicTacToe board) = refl
@@ -50,6 +56,7 @@ is_board (Countdown heap) = tt
 is_board (Pig points) = tt
 is_board (HighHand cards) = tt
 is_board (BlindBid bids) = tt
+is_board (Captions texts) = tt
 
 pub is_heap : (g : AnyG) → IfSome (as_heap g) (λ heap. g ≡ Countdown heap)
 is_heap (TicTacToe board) = tt
@@ -57,6 +64,7 @@ is_heap (Countdown heap) = refl
 is_heap (Pig points) = tt
 is_heap (HighHand cards) = tt
 is_heap (BlindBid bids) = tt
+is_heap (Captions texts) = tt
 
 pub are_points : (g : AnyG) → IfSome (as_points g) (λ points. g ≡ Pig points)
 are_points (TicTacToe board) = tt
@@ -64,6 +72,7 @@ are_points (Countdown heap) = tt
 are_points (Pig points) = refl
 are_points (HighHand cards) = tt
 are_points (BlindBid bids) = tt
+are_points (Captions texts) = tt
 
 pub are_cards : (g : AnyG) → IfSome (as_cards g) (λ cards. g ≡ HighHand cards)
 are_cards (TicTacToe board) = tt
@@ -71,6 +80,7 @@ are_cards (Countdown heap) = tt
 are_cards (Pig points) = tt
 are_cards (HighHand cards) = refl
 are_cards (BlindBid bids) = tt
+are_cards (Captions texts) = tt
 
 pub are_bids : (g : AnyG) → IfSome (as_bids g) (λ bids. g ≡ BlindBid bids)
 are_bids (TicTacToe board) = tt
@@ -78,3 +88,12 @@ are_bids (Countdown heap) = tt
 are_bids (Pig points) = tt
 are_bids (HighHand cards) = tt
 are_bids (BlindBid bids) = refl
+are_bids (Captions texts) = tt
+
+pub are_texts : (g : AnyG) → IfSome (as_texts g) (λ texts. g ≡ Captions texts)
+are_texts (TicTacToe board) = tt
+are_texts (Countdown heap) = tt
+are_texts (Pig points) = tt
+are_texts (HighHand cards) = tt
+are_texts (BlindBid bids) = tt
+are_texts (Captions texts) = refl

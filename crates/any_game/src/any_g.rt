@@ -1,17 +1,18 @@
-//! The states of all games as one type.
+//! The states of the six games as one type.
 
 ghost use Rattle.std.specs.Prelude.{◌≡◌, ◌↔◌, false, IfOk, IfSome, IsTrue, Option, Some, option_copied, refl};
-ghost use Rattle.any_game.specs.Values.{any_value, are_bids, are_cards, are_points, as_bids, as_board, as_cards, as_heap, as_points, is_board, is_heap};
+ghost use Rattle.any_game.specs.Values.{any_value, are_bids, are_cards, are_points, as_bids, as_board, as_cards, as_heap, as_points, as_texts, are_texts, is_board, is_heap};
 ghost use Rattle.any_game.specs.declared.any_g.AnyG.{AnyG};
-ghost use Rattle.any_game.specs.declared.any_g.AnyG.TheVariants.{TicTacToe as OfTicTacToe, Countdown as OfCountdown, Pig as OfPig, HighHand as OfHighHand, BlindBid as OfBlindBid};
+ghost use Rattle.any_game.specs.declared.any_g.AnyG.TheVariants.{TicTacToe as OfTicTacToe, Countdown as OfCountdown, Pig as OfPig, HighHand as OfHighHand, BlindBid as OfBlindBid, Captions as OfCaptions};
 ghost use Rattle.serde_json.specs.View.{view};
 ghost use Rattle.serde_json.specs.Written.{has_float};
 
-use card_games::{Bids, Cards, Part, copied_split};
+use card_games::{Bids, Cards, Part, Texts, copied_split};
 use game_sheet::NoMemory;
+use open_game::State;
 use serde_json::Value;
 use std::alloc::Global;
-use table_games::{Board, Heap, Scores};
+use table_states::{Board, Heap, Scores};
 
 /// A state of one of the games.
 #[derive(Drop)]
@@ -26,6 +27,8 @@ pub enum AnyG {
     HighHand(Cards),
     /// Of Blind Bid.
     BlindBid(Bids),
+    /// Of Captions.
+    Captions(Texts),
 }
 
 impl AnyG {
@@ -34,11 +37,12 @@ impl AnyG {
         ensures { IfOk result (λ copied. copied ≡ self.now) }
     {
         match self {
-            AnyG::TicTacToe(board) => Ok(AnyG::TicTacToe(board.copy())),
-            AnyG::Countdown(heap) => Ok(AnyG::Countdown(heap.copy())),
+            AnyG::TicTacToe(board) => Ok(AnyG::TicTacToe(board.copy(alloc)?)),
+            AnyG::Countdown(heap) => Ok(AnyG::Countdown(heap.copy(alloc)?)),
             AnyG::Pig(scores) => Ok(AnyG::Pig(scores.copy(alloc)?)),
             AnyG::HighHand(cards) => Ok(AnyG::HighHand(copied_split(alloc, cards)?)),
             AnyG::BlindBid(bids) => Ok(AnyG::BlindBid(copied_split(alloc, bids)?)),
+            AnyG::Captions(texts) => Ok(AnyG::Captions(copied_split(alloc, texts)?)),
         }
     }
 
@@ -52,6 +56,7 @@ impl AnyG {
             (AnyG::Pig(scores), AnyG::Pig(other)) => scores.same(other),
             (AnyG::HighHand(cards), AnyG::HighHand(other)) => cards.same(other),
             (AnyG::BlindBid(bids), AnyG::BlindBid(other)) => bids.same(other),
+            (AnyG::Captions(texts), AnyG::Captions(other)) => texts.same(other),
             _ => false,
         }
     }
@@ -67,6 +72,7 @@ impl AnyG {
             AnyG::Pig(scores) => scores.to_value(alloc),
             AnyG::HighHand(cards) => Ok(cards.to_json(alloc)?),
             AnyG::BlindBid(bids) => Ok(bids.to_json(alloc)?),
+            AnyG::Captions(texts) => Ok(texts.to_json(alloc)?),
         }
     }
 }
@@ -192,6 +198,27 @@ impl OwnState for Bids {
     fn of_any(g: &AnyG) -> Option<&Self> {
         match g {
             AnyG::BlindBid(bids) => Some(bids),
+            _ => None,
+        }
+    }
+}
+
+impl OwnState for Texts {
+    ghost inject = { OfCaptions };
+
+    ghost project = { as_texts };
+
+    ghost finds = { λ own. refl };
+
+    ghost tells = { are_texts };
+
+    fn into_any(self) -> AnyG {
+        AnyG::Captions(self)
+    }
+
+    fn of_any(g: &AnyG) -> Option<&Self> {
+        match g {
+            AnyG::Captions(texts) => Some(texts),
             _ => None,
         }
     }

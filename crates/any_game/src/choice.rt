@@ -2,11 +2,11 @@
 
 ghost use Rattle.std.specs.Prelude.{◌≡◌, IfOk, None};
 ghost use Rattle.any_game.specs.AnyRules.{named};
-ghost use Rattle.any_game.specs.GameKind.{TicTacToe as IsTicTacToe, Countdown as IsCountdown, Pig as IsPig, HighHand as IsHighHand, BlindBid as IsBlindBid};
+ghost use Rattle.any_game.specs.GameKind.{TicTacToe as IsTicTacToe, Countdown as IsCountdown, Pig as IsPig, HighHand as IsHighHand, BlindBid as IsBlindBid, Captions as IsCaptions};
 
 use crate::any_g::AnyG;
 use crate::lifted::Lifted;
-use card_games::{BlindBid, HighHand};
+use card_games::{BlindBid, Captions, HighHand};
 use dice_words::Tape;
 use game_sheet::{Args, Ctx, EventQueue, List, MoveId, NoMemory, Outcome, PhaseId, Seat, Sheet};
 use game_trait::{Game, Halt, HookHalt};
@@ -15,7 +15,21 @@ use std::alloc::Global;
 use std::marker::Model;
 use table_games::{Countdown, Pig, TicTacToe};
 
-/// One of the games. Contracts see which one it is.
+/// A call of the game that was picked.
+macro_rules! picked {
+    ($any:expr, $call:ident($($argument:expr),*)) => {
+        match &$any.game {
+            Picked::TicTacToe(game) => game.$call($($argument),*),
+            Picked::Countdown(game) => game.$call($($argument),*),
+            Picked::Pig(game) => game.$call($($argument),*),
+            Picked::HighHand(game) => game.$call($($argument),*),
+            Picked::BlindBid(game) => game.$call($($argument),*),
+            Picked::Captions(game) => game.$call($($argument),*),
+        }
+    };
+}
+
+/// One of the six games. Contracts see which one it is.
 #[derive(Drop)]
 pub struct AnyGame {
     game: Picked,
@@ -28,6 +42,7 @@ enum Picked {
     Pig(Lifted<Pig>),
     HighHand(Lifted<HighHand>),
     BlindBid(Lifted<BlindBid>),
+    Captions(Lifted<Captions>),
 }
 
 impl Model for AnyGame {
@@ -90,6 +105,16 @@ impl AnyGame {
         })
     }
 
+    /// Captions.
+    pub fn captions(alloc: Global) -> Result<Self, NoMemory>
+        ensures { IfOk result (λ game. game ≡ IsCaptions) }
+    {
+        let game = Captions::new(alloc)?;
+        Ok(AnyGame {
+            game: Picked::Captions(Lifted { game }),
+        })
+    }
+
     /// The same game.
     pub fn copy_game(&self, alloc: Global) -> Result<Self, NoMemory>
         ensures { IfOk result (λ game. game ≡ self.now) }
@@ -104,6 +129,7 @@ impl AnyGame {
                 }),
             }),
             Picked::BlindBid(_) => AnyGame::blind_bid(alloc),
+            Picked::Captions(_) => AnyGame::captions(alloc),
         }
     }
 }
@@ -122,6 +148,8 @@ pub fn by_name(alloc: Global, name: &str) -> Result<Option<AnyGame>, NoMemory>
         Ok(Some(AnyGame::high_hand(alloc)?))
     } else if name == "blind-bid" {
         Ok(Some(AnyGame::blind_bid(alloc)?))
+    } else if name == "captions" {
+        Ok(Some(AnyGame::captions(alloc)?))
     } else {
         Ok(None)
     }
@@ -139,23 +167,11 @@ impl Game for AnyGame {
     ghost lawful = { any_lawful };
 
     fn sheet(&self) -> &Sheet {
-        match &self.game {
-            Picked::TicTacToe(game) => game.sheet(),
-            Picked::Countdown(game) => game.sheet(),
-            Picked::Pig(game) => game.sheet(),
-            Picked::HighHand(game) => game.sheet(),
-            Picked::BlindBid(game) => game.sheet(),
-        }
+        picked!(self, sheet())
     }
 
     fn setup(&self, alloc: Global, seats: u8, tape: &mut Tape) -> Result<AnyG, HookHalt> {
-        match &self.game {
-            Picked::TicTacToe(game) => game.setup(alloc, seats, tape),
-            Picked::Countdown(game) => game.setup(alloc, seats, tape),
-            Picked::Pig(game) => game.setup(alloc, seats, tape),
-            Picked::HighHand(game) => game.setup(alloc, seats, tape),
-            Picked::BlindBid(game) => game.setup(alloc, seats, tape),
-        }
+        picked!(self, setup(alloc, seats, tape))
     }
 
     fn play(
@@ -169,13 +185,7 @@ impl Game for AnyGame {
         tape: &mut Tape,
         events: &mut EventQueue,
     ) -> Result<AnyG, Halt> {
-        match &self.game {
-            Picked::TicTacToe(game) => game.play(alloc, g, ctx, seat, id, args, tape, events),
-            Picked::Countdown(game) => game.play(alloc, g, ctx, seat, id, args, tape, events),
-            Picked::Pig(game) => game.play(alloc, g, ctx, seat, id, args, tape, events),
-            Picked::HighHand(game) => game.play(alloc, g, ctx, seat, id, args, tape, events),
-            Picked::BlindBid(game) => game.play(alloc, g, ctx, seat, id, args, tape, events),
-        }
+        picked!(self, play(alloc, g, ctx, seat, id, args, tape, events))
     }
 
     fn on_move(
@@ -187,13 +197,7 @@ impl Game for AnyGame {
         tape: &mut Tape,
         events: &mut EventQueue,
     ) -> Result<Option<AnyG>, HookHalt> {
-        match &self.game {
-            Picked::TicTacToe(game) => game.on_move(alloc, g, ctx, seat, tape, events),
-            Picked::Countdown(game) => game.on_move(alloc, g, ctx, seat, tape, events),
-            Picked::Pig(game) => game.on_move(alloc, g, ctx, seat, tape, events),
-            Picked::HighHand(game) => game.on_move(alloc, g, ctx, seat, tape, events),
-            Picked::BlindBid(game) => game.on_move(alloc, g, ctx, seat, tape, events),
-        }
+        picked!(self, on_move(alloc, g, ctx, seat, tape, events))
     }
 
     fn turn_begin(
@@ -204,13 +208,7 @@ impl Game for AnyGame {
         tape: &mut Tape,
         events: &mut EventQueue,
     ) -> Result<Option<AnyG>, HookHalt> {
-        match &self.game {
-            Picked::TicTacToe(game) => game.turn_begin(alloc, g, ctx, tape, events),
-            Picked::Countdown(game) => game.turn_begin(alloc, g, ctx, tape, events),
-            Picked::Pig(game) => game.turn_begin(alloc, g, ctx, tape, events),
-            Picked::HighHand(game) => game.turn_begin(alloc, g, ctx, tape, events),
-            Picked::BlindBid(game) => game.turn_begin(alloc, g, ctx, tape, events),
-        }
+        picked!(self, turn_begin(alloc, g, ctx, tape, events))
     }
 
     fn turn_end(
@@ -221,13 +219,7 @@ impl Game for AnyGame {
         tape: &mut Tape,
         events: &mut EventQueue,
     ) -> Result<Option<AnyG>, HookHalt> {
-        match &self.game {
-            Picked::TicTacToe(game) => game.turn_end(alloc, g, ctx, tape, events),
-            Picked::Countdown(game) => game.turn_end(alloc, g, ctx, tape, events),
-            Picked::Pig(game) => game.turn_end(alloc, g, ctx, tape, events),
-            Picked::HighHand(game) => game.turn_end(alloc, g, ctx, tape, events),
-            Picked::BlindBid(game) => game.turn_end(alloc, g, ctx, tape, events),
-        }
+        picked!(self, turn_end(alloc, g, ctx, tape, events))
     }
 
     fn phase_begin(
@@ -239,13 +231,7 @@ impl Game for AnyGame {
         tape: &mut Tape,
         events: &mut EventQueue,
     ) -> Result<Option<AnyG>, HookHalt> {
-        match &self.game {
-            Picked::TicTacToe(game) => game.phase_begin(alloc, g, ctx, phase, tape, events),
-            Picked::Countdown(game) => game.phase_begin(alloc, g, ctx, phase, tape, events),
-            Picked::Pig(game) => game.phase_begin(alloc, g, ctx, phase, tape, events),
-            Picked::HighHand(game) => game.phase_begin(alloc, g, ctx, phase, tape, events),
-            Picked::BlindBid(game) => game.phase_begin(alloc, g, ctx, phase, tape, events),
-        }
+        picked!(self, phase_begin(alloc, g, ctx, phase, tape, events))
     }
 
     fn phase_end(
@@ -257,13 +243,7 @@ impl Game for AnyGame {
         tape: &mut Tape,
         events: &mut EventQueue,
     ) -> Result<Option<AnyG>, HookHalt> {
-        match &self.game {
-            Picked::TicTacToe(game) => game.phase_end(alloc, g, ctx, phase, tape, events),
-            Picked::Countdown(game) => game.phase_end(alloc, g, ctx, phase, tape, events),
-            Picked::Pig(game) => game.phase_end(alloc, g, ctx, phase, tape, events),
-            Picked::HighHand(game) => game.phase_end(alloc, g, ctx, phase, tape, events),
-            Picked::BlindBid(game) => game.phase_end(alloc, g, ctx, phase, tape, events),
-        }
+        picked!(self, phase_end(alloc, g, ctx, phase, tape, events))
     }
 
     fn game_end(
@@ -274,53 +254,23 @@ impl Game for AnyGame {
         tape: &mut Tape,
         events: &mut EventQueue,
     ) -> Result<Option<AnyG>, HookHalt> {
-        match &self.game {
-            Picked::TicTacToe(game) => game.game_end(alloc, g, ctx, tape, events),
-            Picked::Countdown(game) => game.game_end(alloc, g, ctx, tape, events),
-            Picked::Pig(game) => game.game_end(alloc, g, ctx, tape, events),
-            Picked::HighHand(game) => game.game_end(alloc, g, ctx, tape, events),
-            Picked::BlindBid(game) => game.game_end(alloc, g, ctx, tape, events),
-        }
+        picked!(self, game_end(alloc, g, ctx, tape, events))
     }
 
     fn end_if(&self, g: &AnyG, ctx: &Ctx) -> Option<Outcome> {
-        match &self.game {
-            Picked::TicTacToe(game) => game.end_if(g, ctx),
-            Picked::Countdown(game) => game.end_if(g, ctx),
-            Picked::Pig(game) => game.end_if(g, ctx),
-            Picked::HighHand(game) => game.end_if(g, ctx),
-            Picked::BlindBid(game) => game.end_if(g, ctx),
-        }
+        picked!(self, end_if(g, ctx))
     }
 
     fn turn_end_if(&self, g: &AnyG, ctx: &Ctx) -> bool {
-        match &self.game {
-            Picked::TicTacToe(game) => game.turn_end_if(g, ctx),
-            Picked::Countdown(game) => game.turn_end_if(g, ctx),
-            Picked::Pig(game) => game.turn_end_if(g, ctx),
-            Picked::HighHand(game) => game.turn_end_if(g, ctx),
-            Picked::BlindBid(game) => game.turn_end_if(g, ctx),
-        }
+        picked!(self, turn_end_if(g, ctx))
     }
 
     fn phase_end_if(&self, g: &AnyG, ctx: &Ctx) -> bool {
-        match &self.game {
-            Picked::TicTacToe(game) => game.phase_end_if(g, ctx),
-            Picked::Countdown(game) => game.phase_end_if(g, ctx),
-            Picked::Pig(game) => game.phase_end_if(g, ctx),
-            Picked::HighHand(game) => game.phase_end_if(g, ctx),
-            Picked::BlindBid(game) => game.phase_end_if(g, ctx),
-        }
+        picked!(self, phase_end_if(g, ctx))
     }
 
     fn play_order(&self, alloc: Global, g: &AnyG, ctx: &Ctx) -> Result<List<Seat>, NoMemory> {
-        match &self.game {
-            Picked::TicTacToe(game) => game.play_order(alloc, g, ctx),
-            Picked::Countdown(game) => game.play_order(alloc, g, ctx),
-            Picked::Pig(game) => game.play_order(alloc, g, ctx),
-            Picked::HighHand(game) => game.play_order(alloc, g, ctx),
-            Picked::BlindBid(game) => game.play_order(alloc, g, ctx),
-        }
+        picked!(self, play_order(alloc, g, ctx))
     }
 
     fn view(
@@ -330,23 +280,11 @@ impl Game for AnyGame {
         ctx: &Ctx,
         viewer: Option<Seat>,
     ) -> Result<AnyG, NoMemory> {
-        match &self.game {
-            Picked::TicTacToe(game) => game.view(alloc, g, ctx, viewer),
-            Picked::Countdown(game) => game.view(alloc, g, ctx, viewer),
-            Picked::Pig(game) => game.view(alloc, g, ctx, viewer),
-            Picked::HighHand(game) => game.view(alloc, g, ctx, viewer),
-            Picked::BlindBid(game) => game.view(alloc, g, ctx, viewer),
-        }
+        picked!(self, view(alloc, g, ctx, viewer))
     }
 
     fn undoable(&self, g: &AnyG, ctx: &Ctx, id: MoveId) -> bool {
-        match &self.game {
-            Picked::TicTacToe(game) => game.undoable(g, ctx, id),
-            Picked::Countdown(game) => game.undoable(g, ctx, id),
-            Picked::Pig(game) => game.undoable(g, ctx, id),
-            Picked::HighHand(game) => game.undoable(g, ctx, id),
-            Picked::BlindBid(game) => game.undoable(g, ctx, id),
-        }
+        picked!(self, undoable(g, ctx, id))
     }
 
     fn options(
@@ -356,33 +294,15 @@ impl Game for AnyGame {
         ctx: &Ctx,
         seat: Seat,
     ) -> Result<List<(MoveId, Args)>, NoMemory> {
-        match &self.game {
-            Picked::TicTacToe(game) => game.options(alloc, g, ctx, seat),
-            Picked::Countdown(game) => game.options(alloc, g, ctx, seat),
-            Picked::Pig(game) => game.options(alloc, g, ctx, seat),
-            Picked::HighHand(game) => game.options(alloc, g, ctx, seat),
-            Picked::BlindBid(game) => game.options(alloc, g, ctx, seat),
-        }
+        picked!(self, options(alloc, g, ctx, seat))
     }
 
     fn to_value(&self, alloc: Global, g: &AnyG) -> Result<Value, NoMemory> {
-        match &self.game {
-            Picked::TicTacToe(game) => game.to_value(alloc, g),
-            Picked::Countdown(game) => game.to_value(alloc, g),
-            Picked::Pig(game) => game.to_value(alloc, g),
-            Picked::HighHand(game) => game.to_value(alloc, g),
-            Picked::BlindBid(game) => game.to_value(alloc, g),
-        }
+        picked!(self, to_value(alloc, g))
     }
 
     fn from_value(&self, alloc: Global, v: &Value) -> Result<Option<AnyG>, NoMemory> {
-        match &self.game {
-            Picked::TicTacToe(game) => game.from_value(alloc, v),
-            Picked::Countdown(game) => game.from_value(alloc, v),
-            Picked::Pig(game) => game.from_value(alloc, v),
-            Picked::HighHand(game) => game.from_value(alloc, v),
-            Picked::BlindBid(game) => game.from_value(alloc, v),
-        }
+        picked!(self, from_value(alloc, v))
     }
 
     fn same(&self, a: &AnyG, b: &AnyG) -> bool {

@@ -21,7 +21,7 @@ pub(crate) struct Lifted<X> {
 
 /// A move's answer with its state among those of all games.
 fn given<H: OwnState>(answer: Result<H, Halt>) -> Result<AnyG, Halt>
-    ensures { (left : Items ℕ) (queued : Items Event) (meaning : Deed H Barred) → Gives answer left queued meaning → Gives result left queued (lifted_deed H.inject meaning) }
+    ensures { (before left : Items ℕ) (queued : Items Event) (meaning : Deed H Barred) → Gives answer before left queued meaning → Gives result before left queued (lifted_deed H.inject meaning) }
 {
     match answer {
         Ok(own) => Ok(own.into_any()),
