@@ -8,16 +8,24 @@ use Rattle.tcp_links.specs.declared.line_buffer.Fill.{Fill}
 use Rattle.tcp_links.specs.declared.line_buffer.Fill.TheVariants as fill
 use Rattle.tcp_links.specs.Newlines.{NoNewline}
 
--- a read adds bytes at the end, or changes nothing
+-- bytes come at the end
+abbrev pub Grows : List ℕ → List ℕ → Type 0
+Grows old new = (more : List ℕ) × (new ≡ old ++ more)
+
+-- a read adds bytes, or changes nothing
 abbrev pub Fills : Fill → List ℕ → List ℕ → Type 0
-Fills fill.Some old new = (more : List ℕ) × (new ≡ old ++ more)
+Fills fill.Some old new = Grows old new
 Fills answer old new = new ≡ old
 
+-- no whole line stands there, and what does is within the limit
+abbrev pub IsPart : ℕ → List ℕ → Type 0
+IsPart limit bytes = (length bytes ≤ limit) × NoNewline bytes (length bytes)
+
 -- what is cut out of the bytes that are held, and what is held then: a line comes off the front with its newline, and nothing else
--- does; a part of a line is within the limit, and a line is too long where more bytes than the limit come before any newline
+-- does; a line is too long where more bytes than the limit come before any newline
 abbrev pub Cuts : ℕ → Cut → List ℕ → List ℕ → Type 0
 Cuts limit (cut.Line line) old new = (length line ≤ limit) × NoNewline old (length line) × (old ≡ line ++ 10 ∷ new)
-Cuts limit cut.Part old new = (length old ≤ limit) × NoNewline old (length old) × (new ≡ old)
+Cuts limit cut.Part old new = IsPart limit old × (new ≡ old)
 Cuts limit cut.TooLong old new = (limit < length old) × NoNewline old (limit + 1) × (new ≡ old)
 Cuts limit cut.NoMemory old new = new ≡ old
 

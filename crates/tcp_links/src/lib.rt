@@ -1,11 +1,12 @@
 //! Links and doors over TCP sockets that don't block. What they receive and send is told to nobody.
 #![tactic(auto)]
 
+mod connection;
+mod halt;
 mod line_buffer;
-mod socket;
 mod tcp_door;
 mod tcp_link;
+mod watch;
 
-pub use line_buffer::{Cut, Fill, LineBuffer};
 pub use tcp_door::TcpDoor;
 pub use tcp_link::{SERVER_LINE, TcpLink};

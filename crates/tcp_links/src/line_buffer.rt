@@ -1,12 +1,13 @@
 //! Lines out of bytes that come piece by piece.
 
-ghost use Rattle.std.specs.Prelude.{◌≡◌, ◌≤◌, ◌<◌, ◌++◌, ◌∷◌, [], length, slice_index, IfOk, OnErr, IfSome, IfNone};
+ghost use Rattle.std.specs.Prelude.{◌≡◌, ◌≤◌, ◌<◌, ◌+◌, ◌++◌, ◌∷◌, [], length, vec_len, vec_capacity, slice_index, IfOk, OnErr, IfSome, IfNone};
 ghost use Rattle.tcp_links.specs.Newlines.{NoNewline};
 
+use crate::halt::Halt;
 use game_sheet::{Bytes, NoMemory};
 use memchr::memchr;
 use std::alloc::Global;
-use std::io::{ErrorKind, Read};
+use std::io::Read;
 use std::marker::Model;
 use std::mem;
 
@@ -29,7 +30,7 @@ pub enum Cut {
 /// What a read brought.
 #[derive(Clone, Copy, PartialEq, Eq, Debug)]
 pub enum Fill {
-    /// Bytes, or a signal: another read may bring more.
+    /// Bytes; another read may bring more.
     Some,
     /// Nothing was there yet.
     Nothing,
@@ -37,7 +38,7 @@ pub enum Fill {
     Ended,
     /// The read failed.
     Failed,
-    /// There was no memory for what might come, so nothing was read.
+    /// There was no memory, so nothing was read.
     NoMemory,
 }
 
@@ -119,16 +120,37 @@ impl LineBuffer {
             return Fill::NoMemory;
         }
         let mut room = [0u8; ROOM];
-        match reader.read(&mut room) {
+        match read(reader, &mut room) {
             Ok(0) => Fill::Ended,
-            Ok(n) => match self.bytes.extend_from_slice(&room[..n]) {
-                Ok(()) => Fill::Some,
-                Err(_) => unreachable!(),
-            },
-            Err(e) if e.kind() == ErrorKind::WouldBlock => Fill::Nothing,
-            Err(e) if e.kind() == ErrorKind::Interrupted => Fill::Some,
-            Err(_) => Fill::Failed,
+            Ok(n) => {
+                add(&mut self.bytes, &room[..n]);
+                Fill::Some
+            }
+            Err(Halt::Wait) => Fill::Nothing,
+            Err(Halt::Failed) => Fill::Failed,
+            Err(Halt::NoMemory) => Fill::NoMemory,
         }
+    }
+}
+
+/// Adds bytes for which there is room.
+fn add(bytes: &mut Vec<u8>, more: &[u8])
+    requires { vec_len bytes.old + length more.now ≤ vec_capacity bytes.old }
+    ensures { bytes.new.items ≡ bytes.old.items ++ more.now }
+{
+    match bytes.extend_from_slice(more) {
+        Ok(()) => {}
+        Err(_) => unreachable!(),
+    }
+}
+
+/// Reads once, and tells how many bytes came; 0 where the reader has ended.
+fn read<R: Read>(reader: &mut R, room: &mut [u8]) -> Result<usize, Halt>
+    ensures { IfOk result (λ n. n ≤ length room.new) }
+{
+    match reader.read(room) {
+        Ok(n) => Ok(n),
+        Err(error) => Err(Halt::from(error)),
     }
 }
 

@@ -2,16 +2,16 @@
 
 ghost use Rattle.std.specs.Prelude.{◌≡◌, ◌≤◌, false, IfOk};
 
+use crate::halt::Halt;
 use crate::tcp_link::TcpLink;
+use crate::watch::Watch;
 use board_links::{Door, Link, SessionEnd, Visit};
+use mio::Interest;
 use mio::net::{TcpListener, TcpStream};
-use mio::{Events, Interest, Poll, Token};
 use std::alloc::Global;
 use std::io;
-use std::io::ErrorKind;
 use std::net::{Net, SocketAddr};
 use std::sync::Wait;
-use std::time::Duration;
 
 /// How many milliseconds a poll for a connection waits before the listener is asked again.
 const WAIT: u64 = 100;
@@ -22,8 +22,7 @@ pub struct TcpDoor<N> {
     net: N,
     alloc: Global,
     listener: TcpListener,
-    poll: Poll,
-    events: Events,
+    watch: Watch,
     limit: u32,
     given: u64,
     came_back: u64,
@@ -40,22 +39,22 @@ impl<N: Net + Drop> TcpDoor<N> {
         ensures shut { IfOk result (λ d. ⟦<TcpDoor<N> as Door>⟧.shut d ≡ false) }
         ensures faults { IfOk result (λ d. ⟦<TcpDoor<N> as Door>⟧.faults d ≡ 0) }
     {
-        let mut listener = TcpListener::bind(&net, addr)?;
-        let poll = Poll::new(&net)?;
-        let events = Events::with_capacity(alloc, 4)?;
-        poll.registry()
-            .register(&mut listener, Token(0), Interest::READABLE)?;
-        Ok(TcpDoor {
-            net,
-            alloc,
-            listener,
-            poll,
-            events,
-            limit,
-            given: 0,
-            came_back: 0,
-            faults: 0,
-        })
+        match listen(&net, alloc, addr) {
+            Ok((listener, watch)) => Ok(TcpDoor {
+                net,
+                alloc,
+                listener,
+                watch,
+                limit,
+                given: 0,
+                came_back: 0,
+                faults: 0,
+            }),
+            Err(error) => {
+                drop(net);
+                Err(error)
+            }
+        }
     }
 
     /// The address at which it listens, with the port that it got.
@@ -63,33 +62,61 @@ impl<N: Net + Drop> TcpDoor<N> {
         self.listener.local_addr()
     }
 
-    /// The next connection. It may wait.
-    fn connection<R: Wait>(&mut self, rt: &R) -> io::Result<TcpStream>
-        ensures same { (self.new.given ≡ self.old.given) × (self.new.came_back ≡ self.old.came_back) × (self.new.faults ≡ self.old.faults) }
-    {
-        for _ in rt.forever() {
-            match self.listener.accept() {
-                Ok((stream, _)) => return Ok(stream),
-                Err(e) if e.kind() == ErrorKind::WouldBlock => {
-                    self.poll
-                        .poll(&mut self.events, Some(Duration::from_millis(WAIT)))?;
-                }
-                Err(e)
-                    if e.kind() == ErrorKind::Interrupted
-                        || e.kind() == ErrorKind::ConnectionAborted => {}
-                Err(e) => return Err(e),
-            }
-        }
-        unreachable!()
-    }
-
     /// A link over the next connection. It may wait.
-    fn link<R: Wait>(&mut self, rt: &R) -> io::Result<TcpLink>
+    fn link<R: Wait>(&mut self, rt: &R) -> Result<TcpLink, Halt>
         ensures same { (self.new.given ≡ self.old.given) × (self.new.came_back ≡ self.old.came_back) × (self.new.faults ≡ self.old.faults) }
         ensures fresh { IfOk result (λ l. ⟦<TcpLink as Link>⟧.faults l ≡ 0) }
     {
-        let stream = self.connection(rt)?;
-        TcpLink::over(&self.net, self.alloc, stream, self.limit)
+        let stream = connection(rt, &self.listener, &mut self.watch)?;
+        match TcpLink::over(&self.net, self.alloc, stream, self.limit) {
+            Ok(link) => Ok(link),
+            Err(error) => Err(Halt::from(error)),
+        }
+    }
+}
+
+/// A listener at an address, with its watch.
+fn listen<N: Net>(net: &N, alloc: Global, addr: SocketAddr) -> io::Result<(TcpListener, Watch)> {
+    let mut listener = TcpListener::bind(net, addr)?;
+    match Watch::over(net, alloc, &mut listener, Interest::READABLE) {
+        Ok(watch) => Ok((listener, watch)),
+        Err(error) => {
+            drop(listener);
+            Err(error)
+        }
+    }
+}
+
+/// The next connection. It may wait.
+fn connection<R: Wait>(
+    rt: &R,
+    listener: &TcpListener,
+    watch: &mut Watch,
+) -> Result<TcpStream, Halt> {
+    for _ in rt.forever() {
+        if let Some(answer) = next(listener, watch) {
+            return answer;
+        }
+    }
+    unreachable!()
+}
+
+/// The next connection, or why none comes; nothing where it may come yet.
+fn next(listener: &TcpListener, watch: &mut Watch) -> Option<Result<TcpStream, Halt>> {
+    match accept(listener) {
+        Err(Halt::Wait) => match watch.ready(WAIT) {
+            Ok(_) => None,
+            Err(halt) => Some(Err(halt)),
+        },
+        answer => Some(answer),
+    }
+}
+
+/// A connection that waits already.
+fn accept(listener: &TcpListener) -> Result<TcpStream, Halt> {
+    match listener.accept() {
+        Ok((stream, _)) => Ok(stream),
+        Err(error) => Err(Halt::from(error)),
     }
 }
 
@@ -115,7 +142,7 @@ impl<N: Net + Drop> Door for TcpDoor<N> {
                     self.given += 1;
                     return Visit::Came(link);
                 }
-                Err(e) if e.kind() == ErrorKind::OutOfMemory => return Visit::NoMemory,
+                Err(Halt::NoMemory) => return Visit::NoMemory,
                 Err(_) => {}
             }
         }
