@@ -6,5 +6,6 @@ demo:
 	@cd crates/board_server && rt run -- script < ../../examples/countdown.script
 	@cd crates/board_server && rt run -- script < ../../examples/blind-bid.script
 
+# Proves and tests everything: the gate.
 test:
 	rt ci

@@ -1,7 +1,7 @@
 #!/usr/bin/env bash
-# Plays one match of Blind Bid in which seat 0 boasts 4,000 times, and prints what each hundred boasts took, in microseconds, from
-# the first line written to the last line read; then the last hundred over the first. The arguments are the command to time:
-# bench/hundreds.sh path/to/board_server script
+# Plays one match of Blind Bid in which seat 0 boasts 4,000 times, or COUNT times by hundreds, up to 4,000. Prints the state number at
+# which each hundred began and what it took, in microseconds, from its first line written to its last line read; then the last hundred
+# over the first. The arguments are the command to time: bench/hundreds.sh path/to/board_server script
 set -euo pipefail
 count=${COUNT:-4000}
 key=00000000000000000000000000000000
