@@ -8,5 +8,6 @@ mod tcp_door;
 mod tcp_link;
 mod watch;
 
+pub use line_buffer::{Cut, Fill, LineBuffer};
 pub use tcp_door::TcpDoor;
 pub use tcp_link::{SERVER_LINE, TcpLink};

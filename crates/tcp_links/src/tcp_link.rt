@@ -46,8 +46,8 @@ impl TcpLink {
         })
     }
 
-    /// A client's link to a server that listens there, with lines of at most `SERVER_LINE` bytes. Where nobody listens, its calls
-    /// fail.
+    /// A client's link to a server that listens there, with lines of at most `SERVER_LINE` bytes. Where nobody listens, its first
+    /// call fails.
     pub fn connect<N: Net>(net: &N, alloc: Global, addr: SocketAddr) -> io::Result<TcpLink>
         ensures faults { IfOk result (λ l. ⟦<TcpLink as Link>⟧.faults l ≡ 0) }
         ensures stage { IfOk result (λ l. ⟦<TcpLink as Link>⟧.stage l ≡ at.Open) }
