@@ -1,8 +1,8 @@
 -- A walk byte by byte puts a prefix before each line.
-use Rattle.std.proofs.Common.{◌≡◌, ◌==◌, ◌+◌, ◌≤◌, ℕ, Bool, true, false, if◌then◌else◌, List, [], ◌∷◌, ◌++◌, length, take, slice_get, Some, refl, sym, ap, ◌∙◌, append-nil, add-one}
+use Rattle.std.proofs.Common.{◌≡◌, ◌==◌, ◌+◌, ◌≤◌, ℕ, Bool, true, false, if◌then◌else◌, List, [], ◌∷◌, ◌++◌, length, take, drop, slice_get, Some, refl, sym, ap, ◌∙◌, append-nil, add-one}
 use Rattle.std.proofs.Math.Seq.{take-suc}
 use Rattle.std.proofs.lemmas.Grind.{flat_map-append}
-use Rattle.std.proofs.lemmas.List.{append_assoc, take_all}
+use Rattle.std.proofs.lemmas.List.{append_assoc, drop_all, take_all}
 use Rattle.std.proofs.lemmas.Option.{slice_get_within, get_or_from_slice_get}
 use Rattle.std.specs.List.{flat_map, onto_first}
 use Rattle.game_sheet.specs.Lines.{lines}
@@ -49,6 +49,15 @@ module _ (prefix : List ℕ) where
   pub by_byte_is : (bytes : List ℕ) → by_byte prefix true bytes ≡ behind prefix bytes
   unfolding all
   by_byte_is bytes = (both bytes).0
+
+  nothing_left : (begins : Bool) → by_byte prefix begins [] ≡ []
+  nothing_left true = refl
+  nothing_left false = refl
+
+  -- the walk has come to the end
+  pub walk_done : (bytes text : List ℕ) (begins : Bool) (place : ℕ) → length bytes ≤ place → text ++ by_byte prefix begins (drop place bytes) ≡ by_byte prefix true bytes → text ≡ behind prefix bytes
+  walk_done bytes text begins place h walked =
+      sym (append-nil text) ∙ ap (λ x. text ++ x) (sym (ap (by_byte prefix begins) (drop_all place bytes h) ∙ nothing_left begins)) ∙ walked ∙ by_byte_is bytes
 
   -- one line more behind the prefix
   pub line_more : (ls : List (List ℕ)) (place : ℕ) (line : List ℕ) → slice_get ls place ≡ Some line

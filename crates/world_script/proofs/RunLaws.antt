@@ -1,5 +1,5 @@
 -- What each line makes of a run, and how a run ends.
-use Rattle.std.proofs.Common.{◌≡◌, ◌+◌, ℕ, zero, suc, true, false, List, [], ◌∷◌, ◌++◌, length, take, drop, Option, Some, None, refl, sym, ap, ◌∙◌, append_assoc, append-nil, arith}
+use Rattle.std.proofs.Common.{◌≡◌, ◌+◌, ℕ, zero, suc, true, false, List, [], ◌∷◌, ◌++◌, length, take, drop, Option, Some, None, refl, sym, ap, ◌∙◌, append_assoc, append-nil}
 use Rattle.std.proofs.lemmas.List.{length-append}
 use Rattle.match_master.specs.Held.{Held, StandsFor}
 use Rattle.any_game.specs.AnyRules.{any_rules}
@@ -13,7 +13,6 @@ use Rattle.world_script.specs.ScriptLines as script
 use Rattle.world_script.specs.Transcript.{transcript, bad_line, bad_by, bad_from, printed, printed_by, says, history_after, no_lines_yet}
 use Rattle.world_script.specs.Reader.{Reader, fresh}
 use Rattle.world_script.specs.Reading.{Moves}
-use Rattle.world_script.specs.declared.mark.Mark.{Mark}
 use Rattle.world_script.specs.declared.mark.Mark.TheVariants.{Served}
 use Rattle.world_script.specs.declared.next.Next.TheVariants.{ReadFault}
 use Rattle.world_script.specs.declared.stage.Stage.{Stage}

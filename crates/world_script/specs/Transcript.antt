@@ -19,7 +19,6 @@ use Rattle.match_master.specs.Reply.{reply}
 use Rattle.game_sheet.specs.Viewer.{Viewer}
 use Rattle.world_script.specs.Answers.{answer_line, answer_of}
 use Rattle.world_script.specs.Forms.{step_of, stage_after}
-use Rattle.world_script.specs.ScriptLines.{Script}
 use Rattle.world_script.specs.declared.answer.Answer.{Answer}
 use Rattle.world_script.specs.declared.answer.Answer.TheVariants.{NoMatch, AlreadyAttached, NotAttached, Again, Ends}
 use Rattle.world_script.specs.declared.mark.Mark.{Mark}

@@ -76,20 +76,26 @@ fn taken(alloc: Global, session: u8, bytes: &Bytes, end: Option<Bye>) -> Result<
 }
 
 /// Lines that are held one by one, each behind a prefix.
-#[tactic(auto, using(crate::proofs::Prefixes::line_more, crate::proofs::Prefixes::lines_done))]
 fn prefixed_lines(alloc: Global, prefix: &[u8], bytes: &Bytes) -> Result<Vec<u8>, NoMemory>
     ensures { IfOk result (λ text. text.items ≡ behind prefix.now bytes.now) }
 {
     let mut text = Vec::new(alloc);
     for place in 0..bytes.count() {
-        text.extend_from_slice(prefix)?;
-        text.extend_from_slice(bytes.piece(place))?;
+        put_line(&mut text, prefix, bytes.piece(place))?;
     }
     Ok(text)
 }
 
+/// Adds a line behind the prefix.
+fn put_line(lines: &mut Vec<u8>, prefix: &[u8], line: &[u8]) -> Result<(), NoMemory>
+    ensures { OnOk result (lines.new.items ≡ lines.old.items ++ prefix.now ++ line.now) }
+{
+    lines.extend_from_slice(prefix)?;
+    lines.extend_from_slice(line)?;
+    Ok(())
+}
+
 /// The bytes with a prefix before each line, in one walk.
-#[tactic(auto, using(crate::proofs::Prefixes::by_byte_is))]
 fn prefixed(alloc: Global, prefix: &[u8], bytes: &[u8]) -> Result<Vec<u8>, NoMemory>
     ensures { IfOk result (λ text. text.items ≡ behind prefix.now bytes.now) }
 {
@@ -233,10 +239,10 @@ impl Room {
             name: Text::from_str(self.alloc, name.as_str())?,
             key: Key::new(key_of_seat(seat)),
         };
-        if is_starved(&self.book.apply(32, call)) {
-            return Err(NoMemory);
-        }
-        Ok(())
+        let reply = self.book.apply(32, call);
+        let starved = is_starved(&reply);
+        drop(reply);
+        if starved { Err(NoMemory) } else { Ok(()) }
     }
 
     /// Attaches a session to a match of the room, unless it is attached already.

@@ -1,4 +1,4 @@
-use Rattle.std.proofs.Common.{◌≡◌, ◌++◌, Some, take, sym, ap, ◌∙◌}
+use Rattle.std.proofs.Common.{◌≡◌, ◌++◌, Some, take, ap, ◌∙◌}
 use Rattle.board_links.specs.Pieces.{told_bytes}
 use Rattle.world_script.specs.Forms.{step_of}
 use Rattle.world_script.specs.Transcript.{was_read}
