@@ -1,6 +1,7 @@
 //! The rows of messages, byte for byte, and where a line stops being one.
 ghost use Rattle.std.specs.Prelude.{IfOk};
 ghost use Rattle.game_sheet.specs.SheetFits.{SheetFits};
+ghost use Rattle.wire_json.specs.Asking.{IsAskable};
 
 use game_sheet::{
     Act, Arg, Args, Event, EventKind, Key, List, MatchName, MoveRow, NoMemory, Order, Outcome,
@@ -240,23 +241,35 @@ fn ten() -> Key {
     Key::new(bytes)
 }
 
-/// Compares the line of a client's message.
-fn client_writes(
-    rt: &impl Abort,
-    alloc: Global,
-    message: Result<ClientMsg, NoMemory>,
-    wanted: &str,
-) -> Result<(), NoMemory> {
-    let message = message?;
+/// The line of a sync of seat 1 in the first match of the first room.
+fn sync_line(alloc: Global) -> Result<Vec<u8>, NoMemory> {
+    let message = ClientMsg::Sync {
+        name: MatchName::new(0, 1),
+        viewer: Some((1, ten())),
+    };
     let line = write_client(alloc, &message);
     drop(message);
-    let line = line?;
-    assert_eq!(rt; line.as_slice(), wanted.as_bytes());
-    Ok(())
+    line
 }
 
-/// A click of cell 4 with a second argument, as a copy.
-fn click(alloc: Global) -> Result<Asked, NoMemory> {
+/// The line of an act in the same match.
+fn line_of_act(alloc: Global, asked: Asked, number: u32, ticket: u32) -> Result<Vec<u8>, NoMemory>
+    requires { IsAskable asked }
+{
+    let message = ClientMsg::Act(Submission {
+        name: MatchName::new(0, 1),
+        key: ten(),
+        number,
+        ticket,
+        asked,
+    });
+    let line = write_client(alloc, &message);
+    drop(message);
+    line
+}
+
+/// The line of a click of cell 4 with a second argument, which is asked for by a copy.
+fn click_line(alloc: Global) -> Result<Vec<u8>, NoMemory> {
     let mut args = Args::new();
     args.push(Arg::Whole(4));
     args.push(Arg::Whole(-2147483648));
@@ -264,49 +277,29 @@ fn click(alloc: Global) -> Result<Asked, NoMemory> {
     let asked = Asked::Move { name, args };
     let copy = asked.copy(alloc);
     drop(asked);
-    copy
-}
-
-/// What is asked for in the first match of the first room, with the key whose last byte is 10.
-fn submitted(
-    asked: Result<Asked, NoMemory>,
-    number: u32,
-    ticket: u32,
-) -> Result<ClientMsg, NoMemory> {
-    Ok(ClientMsg::Act(Submission {
-        name: MatchName::new(0, 1),
-        key: ten(),
-        number,
-        ticket,
-        asked: asked?,
-    }))
+    line_of_act(alloc, copy?, 4294967295, 0)
 }
 
 #[test]
 fn client_lines_are_written_as_they_are_read(rt: HostRuntime) -> Result<(), Fail> {
     let alloc = rt.alloc();
-    let sync = ClientMsg::Sync {
-        name: MatchName::new(0, 1),
-        viewer: Some((1, ten())),
-    };
-    client_writes(
-        &rt,
-        alloc,
-        Ok(sync),
-        "{\"key\":\"0000000000000000000000000000000a\",\"match\":\"0-1\",\"seat\":1,\"type\":\"sync\"}\n",
-    )?;
-    client_writes(
-        &rt,
-        alloc,
-        submitted(click(alloc), 4294967295, 0),
-        "{\"act\":{\"args\":[4,-2147483648],\"kind\":\"move\",\"move\":\"clickCell\"},\"key\":\"0000000000000000000000000000000a\",\"match\":\"0-1\",\"number\":4294967295,\"ticket\":0,\"type\":\"act\"}\n",
-    )?;
-    client_writes(
-        &rt,
-        alloc,
-        submitted(Ok(Asked::Undo), 3, 2),
-        "{\"act\":{\"kind\":\"undo\"},\"key\":\"0000000000000000000000000000000a\",\"match\":\"0-1\",\"number\":3,\"ticket\":2,\"type\":\"act\"}\n",
-    )?;
+    let rows = [
+        (
+            sync_line(alloc)?,
+            "{\"key\":\"0000000000000000000000000000000a\",\"match\":\"0-1\",\"seat\":1,\"type\":\"sync\"}\n",
+        ),
+        (
+            click_line(alloc)?,
+            "{\"act\":{\"args\":[4,-2147483648],\"kind\":\"move\",\"move\":\"clickCell\"},\"key\":\"0000000000000000000000000000000a\",\"match\":\"0-1\",\"number\":4294967295,\"ticket\":0,\"type\":\"act\"}\n",
+        ),
+        (
+            line_of_act(alloc, Asked::Undo, 3, 2)?,
+            "{\"act\":{\"kind\":\"undo\"},\"key\":\"0000000000000000000000000000000a\",\"match\":\"0-1\",\"number\":3,\"ticket\":2,\"type\":\"act\"}\n",
+        ),
+    ];
+    for (line, wanted) in &rows {
+        assert_eq!(rt; line.as_slice(), wanted.as_bytes());
+    }
     Ok(())
 }
 

@@ -27,8 +27,12 @@ fn fresh(alloc: Global, over: Option<Outcome>) -> Result<Ctx, NoMemory> {
 
 /// The same in the phase, with four seats on the map.
 fn mapped(alloc: Global) -> Result<Ctx, NoMemory> {
-    let stage = Some(StageId::at(0));
-    let rows: [(Seat, Option<StageId>); 4] = [(0, stage), (1, None), (2, None), (10, stage)];
+    let rows: [(Seat, Option<StageId>); 4] = [
+        (0, Some(StageId::at(0))),
+        (1, None),
+        (2, None),
+        (10, Some(StageId::at(0))),
+    ];
     let active = List::from_slice(alloc, &rows)?;
     let order = List::from_slice(alloc, &[0, 1])?;
     Ok(Ctx {

@@ -1,4 +1,4 @@
-//! Tests of sources, sinks, links and doors, in memory and over the system's traits, of which some calls fail.
+//! Tests of sources, sinks and links, by what they answer call by call, in memory and over the readers and writers of the system.
 #![tactic(auto)]
 
 #[cfg(test)]

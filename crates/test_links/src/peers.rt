@@ -34,9 +34,9 @@ fn word(came: &Came) -> &'static str {
 fn answers<L: Link, R: Wait>(rt: &R, link: L) -> [&'static str; 6] {
     let mut link = link;
     let mut words = [""; 6];
-    for place in words.iter_mut() {
+    for turn in 0..6 {
         let came = link.receive(rt);
-        *place = word(&came);
+        words[turn] = word(&came);
         drop(came);
     }
     drop(link);
