@@ -5,6 +5,7 @@ demo:
 	@cd crates/board_server && rt run -- script < ../../examples/tic-tac-toe.script
 	@cd crates/board_server && rt run -- script < ../../examples/countdown.script
 	@cd crates/board_server && rt run -- script < ../../examples/blind-bid.script
+	@cd crates/board_server && rt run -- script < ../../examples/captions.script
 
 # Proves and tests everything: the gate.
 test:
