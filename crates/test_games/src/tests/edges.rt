@@ -15,29 +15,34 @@ use std::process::Abort;
 /// The end of a stage of a seat that is in none, which changes nothing.
 const NOTHING: Event = Event::EndStage;
 
-/// Adds so many events that change nothing, at this moment.
-fn fill(cues: &mut List<Cue>, count: u8, moment: Moment) -> Result<(), Fault> {
-    for _event in 0..count {
-        cues.push(Cue {
-            moment,
+/// An event that changes nothing, as the move is made, after it, as a turn ends, as the second phase begins, or as a turn begins.
+fn nothing_at(moment: usize) -> Cue {
+    match moment {
+        0 => on_move(NOTHING),
+        1 => after_move(NOTHING),
+        2 => Cue {
+            moment: Moment::TurnEnd,
             event: NOTHING,
-        })?;
+        },
+        3 => on_phase_begin(1, NOTHING),
+        _ => Cue {
+            moment: Moment::TurnBegin,
+            event: NOTHING,
+        },
     }
-    Ok(())
 }
 
-/// A game of two whose cues are so many events at each of these moments: as the move is made, after it, as a turn ends, as the
-/// second phase begins, and as a turn begins. The move leads to the second phase, where it is to.
+/// A game of two whose cues are so many events at each of these moments. The move leads to the second phase, where it is to.
 fn filled(alloc: Global, counts: [u8; 5], leads: bool) -> Result<Toy, Fault> {
     let mut cues = List::new(alloc);
     if leads {
         cues.push(on_move(set_phase(1)))?;
     }
-    fill(&mut cues, counts[0], on_move(NOTHING).moment)?;
-    fill(&mut cues, counts[1], after_move(NOTHING).moment)?;
-    fill(&mut cues, counts[2], Moment::TurnEnd)?;
-    fill(&mut cues, counts[3], on_phase_begin(1, NOTHING).moment)?;
-    fill(&mut cues, counts[4], Moment::TurnBegin)?;
+    for moment in 0..5 {
+        for _event in 0..counts[moment] {
+            cues.push(nothing_at(moment))?;
+        }
+    }
     plain(alloc, 2, turns(Order::Default), cues.as_slice(), NEVER)
 }
 

@@ -148,11 +148,15 @@ fn three_kept_maps_return_with_their_counts(rt: HostRuntime) -> Result<(), Fault
 
 /// A spec whose rows name seats that its other lines put somewhere else, and one whose last line puts all seats.
 fn replacing(alloc: Global) -> Result<Toy, Fault> {
-    let none = Place { stage: None };
     let last = Place {
         stage: Some(StageId::at(2)),
     };
-    let value = List::from_slice(alloc, &[(2, none), (0, none), (2, last)])?;
+    let rows = [
+        (2, Place { stage: None }),
+        (0, Place { stage: None }),
+        (2, last),
+    ];
+    let value = List::from_slice(alloc, &rows)?;
     let mut specs = List::new(alloc);
     specs.push(SpecRow {
         current: in_stage(1),
