@@ -12,12 +12,21 @@ use world_script::run_script;
 
 fn main(rt: HostRuntime) -> io::Result<()> {
     let text = read_input(&rt)?;
-    let cases = match text.as_str().strip_prefix("== ") {
+    play_cases(&rt, cases_of(text.as_str()))
+}
+
+/// The text behind the mark of its first script.
+fn cases_of(text: &str) -> &str {
+    match text.strip_prefix("== ") {
         Some(cases) => cases,
-        None => text.as_str(),
-    };
+        None => text,
+    }
+}
+
+/// Plays one script after the other.
+fn play_cases(rt: &HostRuntime, cases: &str) -> io::Result<()> {
     for case in cases.split("\n== ") {
-        play_case(&rt, case)?;
+        play_case(rt, case)?;
     }
     Ok(())
 }
