@@ -25,6 +25,16 @@ enum Held {
     Fixed(&'static [u8]),
     /// In lines that others hold too.
     Shared(Vec<Arc<Vec<u8>>>),
+    /// In the value itself.
+    InPlace(InPlace),
+}
+
+/// A few bytes in an array, with zeros behind them.
+#[derive(Clone, Copy)]
+struct InPlace {
+    bytes: [u8; 128],
+    len: usize,
+    ghost within: { len ≤ 128 },
 }
 
 impl Model for Bytes {
@@ -67,6 +77,22 @@ impl Bytes {
         }
     }
 
+    /// At most 128 bytes, which are copied into the value. It takes no memory.
+    pub fn short(bytes: &[u8]) -> Self
+        requires { length bytes.now ≤ 128 }
+        ensures { result ≡ bytes.now }
+    {
+        let mut kept = [0; 128];
+        let front = &mut kept[..bytes.len()];
+        front.copy_from_slice(bytes);
+        Bytes {
+            held: Held::InPlace(InPlace {
+                bytes: kept,
+                len: bytes.len(),
+            }),
+        }
+    }
+
     /// Lines that others may hold too, each with its newline.
     pub fn from_lines(shared: Vec<Arc<Vec<u8>>>) -> Self
         requires { list_all (λ line. is_line line.value.items) shared.items ≡ true }
@@ -85,6 +111,7 @@ impl Bytes {
             Held::Owned(bytes) => line_count(bytes.as_slice()),
             Held::Fixed(bytes) => line_count(bytes),
             Held::Shared(shared) => shared.len(),
+            Held::InPlace(kept) => line_count(&kept.bytes[..kept.len]),
         }
     }
 
@@ -97,6 +124,7 @@ impl Bytes {
             Held::Owned(bytes) => line_at(bytes.as_slice(), place),
             Held::Fixed(bytes) => line_at(bytes, place),
             Held::Shared(shared) => shared[place].as_slice(),
+            Held::InPlace(kept) => line_at(&kept.bytes[..kept.len], place),
         }
     }
 
@@ -108,6 +136,7 @@ impl Bytes {
             Held::Owned(bytes) => Some(bytes.as_slice()),
             Held::Fixed(bytes) => Some(bytes),
             Held::Shared(_) => None,
+            Held::InPlace(kept) => Some(&kept.bytes[..kept.len]),
         }
     }
 }
