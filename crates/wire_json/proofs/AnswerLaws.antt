@@ -19,7 +19,7 @@ use Rattle.wire_json.specs.Refusals as fault
 use Rattle.wire_json.specs.declared.refusal.Member.{Member}
 use Rattle.wire_json.specs.declared.refusal.Member.TheVariants as part
 use Rattle.wire_json.specs.declared.refusal.Refusal.{Refusal}
-use Rattle.wire_json.specs.declared.refusal.Refusal.TheVariants.{BadMessage, NoGame, Full, BadSeats, NoStart, NoMatch, SeatTaken, NoSeat, BadName, Unauthorized, AlreadyAttached, NotAttached}
+use Rattle.wire_json.specs.declared.refusal.Refusal.TheVariants.{BadMessage, NoGame, Full, BadSeats, NoStart, NoMatch, SeatTaken, NoSeat, BadName, Unauthorized, AlreadyAttached, NotAttached, NotABot}
 use Rattle.wire_json.specs.declared.server.ServerMsg.{ServerMsg}
 use Rattle.wire_json.specs.declared.server.ServerMsg.TheVariants as to_client
 use Rattle.wire_json.proofs.FieldLaws.{step, past, formed, text_is}
@@ -44,7 +44,7 @@ within_again most (Some n) h = rw (natural_again most n h) refl
 member_is : (o : Option Data) (m : Member) → member_in o ≡ Ok m → o ≡ Some (string (member_text m))
 member_is o m e =
     let t = bound (text_in o) _ m e in
-    text_is o t.0 t.1 ∙ ap (λ x. Some (string x)) (table_is member_text t.0 member_table m (refl, (refl, (refl, (refl, (refl, (refl, (refl, (refl, (refl, (refl, (refl, tt))))))))))) (formed (member_from t.0) m t.2))
+    text_is o t.0 t.1 ∙ ap (λ x. Some (string x)) (table_is member_text t.0 member_table m (refl, (refl, (refl, (refl, (refl, (refl, (refl, (refl, (refl, (refl, (refl, (refl, tt)))))))))))) (formed (member_from t.0) m t.2))
 
 field_is : (o : Option Data) (f : Option Member) → Holds member_in o f → o ≡ Some (field_or_null f)
 field_is o None h = h
@@ -60,6 +60,7 @@ field_again (Some part.Key) = refl
 field_again (Some part.Match) = refl
 field_again (Some part.Name) = refl
 field_again (Some part.Number) = refl
+field_again (Some part.Protocol) = refl
 field_again (Some part.Seat) = refl
 field_again (Some part.Seats) = refl
 field_again (Some part.Ticket) = refl
@@ -67,7 +68,7 @@ field_again (Some part.Ticket) = refl
 word_is : (o : Option Data) (r : Refusal) → refusal_in o ≡ Ok r → o ≡ Some (string (refusal_text r))
 word_is o r e =
     let t = bound (text_in o) _ r e in
-    text_is o t.0 t.1 ∙ ap (λ x. Some (string x)) (table_is refusal_text t.0 refusal_table r (refl, (refl, (refl, (refl, (refl, (refl, (refl, (refl, (refl, (refl, (refl, (refl, tt)))))))))))) (formed (refusal_from t.0) r t.2))
+    text_is o t.0 t.1 ∙ ap (λ x. Some (string x)) (table_is refusal_text t.0 refusal_table r (refl, (refl, (refl, (refl, (refl, (refl, (refl, (refl, (refl, (refl, (refl, (refl, (refl, tt))))))))))))) (formed (refusal_from t.0) r t.2))
 
 -- what points at a field is that refusal with that field
 record IsPointed (r : Refusal) (f : Option Member) (x : Refusal) : Type 0 where
@@ -91,6 +92,7 @@ pointed_is BadName f x e = unpointed_is BadName f x refl e
 pointed_is Unauthorized f x e = unpointed_is Unauthorized f x refl e
 pointed_is AlreadyAttached f x e = unpointed_is AlreadyAttached f x refl e
 pointed_is NotAttached f x e = unpointed_is NotAttached f x refl e
+pointed_is NotABot f x e = unpointed_is NotABot f x refl e
 
 why_from : (s : List ℕ) (why : Bye) → bye_from s ≡ Some why → s ≡ bye_text why
 why_from s why e = table_is bye_text s ((codes "left", Left) ∷ (codes "lagging", Lagging) ∷ []) why (refl, (refl, tt)) e
@@ -142,6 +144,7 @@ refused_again BadName = refl
 refused_again Unauthorized = refl
 refused_again AlreadyAttached = refl
 refused_again NotAttached = refl
+refused_again NotABot = refl
 
 bye_names : List (List ℕ)
 bye_names = codes "type" ∷ codes "why" ∷ []

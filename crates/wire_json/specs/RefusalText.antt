@@ -4,9 +4,9 @@ use Rattle.std.specs.Prelude.{ℕ, List, [], ◌∷◌, codes, Option, Some, Non
 use Rattle.std.specs.Map.{lookup}
 use Rattle.std.specs.Str.{bytes_eq}
 use Rattle.wire_json.specs.declared.refusal.Member.{Member}
-use Rattle.wire_json.specs.declared.refusal.Member.TheVariants.{Extra, Kind, Act, Game, Key, Match, Name, Number, Seat, Seats, Ticket}
+use Rattle.wire_json.specs.declared.refusal.Member.TheVariants.{Extra, Kind, Act, Game, Key, Match, Name, Number, Protocol, Seat, Seats, Ticket}
 use Rattle.wire_json.specs.declared.refusal.Refusal.{Refusal}
-use Rattle.wire_json.specs.declared.refusal.Refusal.TheVariants.{BadMessage, NoGame, Full, BadSeats, NoStart, NoMatch, SeatTaken, NoSeat, BadName, Unauthorized, AlreadyAttached, NotAttached}
+use Rattle.wire_json.specs.declared.refusal.Refusal.TheVariants.{BadMessage, NoGame, Full, BadSeats, NoStart, NoMatch, SeatTaken, NoSeat, BadName, Unauthorized, AlreadyAttached, NotAttached, NotABot}
 use Rattle.wire_json.specs.declared.wire_no.WireNo.{WireNo}
 use Rattle.wire_json.specs.declared.wire_no.WireNo.TheVariants as no
 
@@ -19,6 +19,7 @@ member_text Key = codes "key"
 member_text Match = codes "match"
 member_text Name = codes "name"
 member_text Number = codes "number"
+member_text Protocol = codes "protocol"
 member_text Seat = codes "seat"
 member_text Seats = codes "seats"
 member_text Ticket = codes "ticket"
@@ -26,7 +27,7 @@ member_text Ticket = codes "ticket"
 abbrev pub member_table : List (List ℕ × Member)
 member_table =
     (codes "*", Extra) ∷ (codes "type", Kind) ∷ (codes "act", Act) ∷ (codes "game", Game) ∷ (codes "key", Key) ∷ (codes "match", Match)
-    ∷ (codes "name", Name) ∷ (codes "number", Number) ∷ (codes "seat", Seat) ∷ (codes "seats", Seats) ∷ (codes "ticket", Ticket) ∷ []
+    ∷ (codes "name", Name) ∷ (codes "number", Number) ∷ (codes "protocol", Protocol) ∷ (codes "seat", Seat) ∷ (codes "seats", Seats) ∷ (codes "ticket", Ticket) ∷ []
 
 abbrev pub member_from : List ℕ → Option Member
 member_from s = lookup (bytes_eq s) member_table
@@ -44,6 +45,7 @@ refusal_text BadName = codes "bad-name"
 refusal_text Unauthorized = codes "unauthorized"
 refusal_text AlreadyAttached = codes "already-attached"
 refusal_text NotAttached = codes "not-attached"
+refusal_text NotABot = codes "not-a-bot"
 
 abbrev pub refusal_field : Refusal → Option Member
 refusal_field (BadMessage field) = field
@@ -58,13 +60,14 @@ refusal_field BadName = None
 refusal_field Unauthorized = None
 refusal_field AlreadyAttached = None
 refusal_field NotAttached = None
+refusal_field NotABot = None
 
 abbrev pub refusal_table : List (List ℕ × Refusal)
 refusal_table =
     (codes "bad-message", BadMessage None) ∷ (codes "no-game", NoGame) ∷ (codes "full", Full) ∷ (codes "bad-seats", BadSeats)
     ∷ (codes "no-start", NoStart) ∷ (codes "no-match", NoMatch) ∷ (codes "seat-taken", SeatTaken) ∷ (codes "no-seat", NoSeat)
     ∷ (codes "bad-name", BadName) ∷ (codes "unauthorized", Unauthorized) ∷ (codes "already-attached", AlreadyAttached)
-    ∷ (codes "not-attached", NotAttached) ∷ []
+    ∷ (codes "not-attached", NotAttached) ∷ (codes "not-a-bot", NotABot) ∷ []
 
 -- the refusal of a word, pointing at nothing
 abbrev pub refusal_from : List ℕ → Option Refusal
@@ -88,6 +91,7 @@ with_field BadName field = unpointed BadName field
 with_field Unauthorized field = unpointed Unauthorized field
 with_field AlreadyAttached field = unpointed AlreadyAttached field
 with_field NotAttached field = unpointed NotAttached field
+with_field NotABot field = unpointed NotABot field
 
 -- the refusal of a line for its first fault
 abbrev pub refusal_of : WireNo → Option Refusal

@@ -21,6 +21,8 @@ pub enum Member {
     Name,
     /// The member `number`.
     Number,
+    /// The member `protocol`.
+    Protocol,
     /// The member `seat`.
     Seat,
     /// The member `seats`.
@@ -46,6 +48,7 @@ impl Member {
             Member::Match => "match",
             Member::Name => "name",
             Member::Number => "number",
+            Member::Protocol => "protocol",
             Member::Seat => "seat",
             Member::Seats => "seats",
             Member::Ticket => "ticket",
@@ -65,6 +68,7 @@ impl Member {
             "match" => Some(Member::Match),
             "name" => Some(Member::Name),
             "number" => Some(Member::Number),
+            "protocol" => Some(Member::Protocol),
             "seat" => Some(Member::Seat),
             "seats" => Some(Member::Seats),
             "ticket" => Some(Member::Ticket),
@@ -103,6 +107,8 @@ pub enum Refusal {
     AlreadyAttached,
     /// The session has no stream.
     NotAttached,
+    /// No bot sits at the seat that is asked for.
+    NotABot,
 }
 
 impl Refusal {
@@ -148,6 +154,7 @@ impl Refusal {
             Refusal::Unauthorized => "unauthorized",
             Refusal::AlreadyAttached => "already-attached",
             Refusal::NotAttached => "not-attached",
+            Refusal::NotABot => "not-a-bot",
         }
     }
 
@@ -178,6 +185,7 @@ impl Refusal {
             "unauthorized" => Some(Refusal::Unauthorized),
             "already-attached" => Some(Refusal::AlreadyAttached),
             "not-attached" => Some(Refusal::NotAttached),
+            "not-a-bot" => Some(Refusal::NotABot),
             _ => None,
         }
     }
