@@ -40,7 +40,7 @@ pub(crate) fn settle<X: Game>(
     let mut left = MOST_TASKS;
     let mut after = false;
     'tasks: loop {
-        let Some(task) = head(game, &table, &mut tasks, after) else {
+        let Some(task) = next_task(game, &table, &mut tasks, after) else {
             return Ok(table);
         };
         if left == 0 {
@@ -55,7 +55,12 @@ pub(crate) fn settle<X: Game>(
 }
 
 /// The task that runs next: the one that comes by itself, else the first of the others; none where nothing is left to do.
-fn head<X: Game>(game: &X, table: &Table<X::G>, tasks: &mut Line<Task>, after: bool) -> Option<Task>
+fn next_task<X: Game>(
+    game: &X,
+    table: &Table<X::G>,
+    tasks: &mut Line<Task>,
+    after: bool,
+) -> Option<Task>
     ensures { Heads result table.now tasks.new (with_automatic (X.rules game.now) after table.now tasks.old) }
 {
     if table.ctx.over.is_some() {

@@ -175,15 +175,15 @@ fn turn<X: Game>(
     ensures follows { Follows tape.old tape.new }
 {
     let spec = turn_row(game.sheet(), &table.ctx).active;
-    stand(place, table);
+    begin_turn(place, table);
     match set_spec(game.sheet(), spec, table) {
         Err(_) => Err(FlowNo::NoMemory),
         Ok(()) => turn_begun(alloc, game, table, tasks, tape),
     }
 }
 
-/// The turn of the seat at a place stands, with no move made and no map.
-fn stand<G>(place: u8, table: &mut Table<G>)
+/// The turn passes to the seat at a place, with no move made and no map.
+fn begin_turn<G>(place: u8, table: &mut Table<G>)
     requires place { place < length table.old.ctx.order }
     requires room { table.old.ctx.turn + 1 < 2 ^ 32 }
     ensures { table.new ≡ turned place table.old }
