@@ -16,8 +16,8 @@ use Rattle.reducer.specs.Standing.{Standing}
 use Rattle.reducer.specs.Steps.{state_after, with_lists}
 use Rattle.reducer.specs.Struck.{call_of}
 use Rattle.reducer.specs.Trails.{IsCounted, standing_at, trail_of}
-use Rattle.reducer.specs.Walk.{Fits, InSheet, reached_at, walked, waypoint}
-use Rattle.reducer.specs.declared.waypoint.Waypoint.{Waypoint}
+use Rattle.reducer.specs.Walk.{Fits, InSheet, reached_at, walked, checkpoint}
+use Rattle.reducer.specs.declared.checkpoint.Checkpoint.{Checkpoint}
 use Rattle.reducer.proofs.Walks.{ahead_counted, ahead_folds, counts, folds, past_counted, past_folds}
 
 -- a copy of a context and a map, with counts of at most so many moves, is sound with room for more
@@ -38,15 +38,15 @@ one_shorter {xs = xs} {ys = ys} {x = x} e =
     let same : length xs ≡ length (x ∷ ys) = ap length e in
     omega arith
 
-kept_same : {G : Type 0} {first first' now now' : Waypoint G} {done undone : List Accepted} {past past' ahead ahead' : List (Waypoint G)} → first ≡ first' → now ≡ now' → past ≡ past' → ahead ≡ ahead'
-    → let t : Kept (Waypoint G) Accepted = record { first = first; done = done; undone = undone; now = now; past = past; ahead = ahead } in
-    let u : Kept (Waypoint G) Accepted = record { first = first'; done = done; undone = undone; now = now'; past = past'; ahead = ahead' } in t ≡ u
+kept_same : {G : Type 0} {first first' now now' : Checkpoint G} {done undone : List Accepted} {past past' ahead ahead' : List (Checkpoint G)} → first ≡ first' → now ≡ now' → past ≡ past' → ahead ≡ ahead'
+    → let t : Kept (Checkpoint G) Accepted = record { first = first; done = done; undone = undone; now = now; past = past; ahead = ahead } in
+    let u : Kept (Checkpoint G) Accepted = record { first = first'; done = done; undone = undone; now = now'; past = past'; ahead = ahead' } in t ≡ u
 kept_same f n p a = cc
 
-same_trail : {G : Type 0} (number : ℕ) (t : Kept (Waypoint G) Accepted) → IsCounted t → trail_of (standing_at number t) ≡ t
+same_trail : {G : Type 0} (number : ℕ) (t : Kept (Checkpoint G) Accepted) → IsCounted t → trail_of (standing_at number t) ≡ t
 same_trail {G = G} number t h =
-    let first : waypoint 0 (reached_at t.first) ≡ t.first = ap (λ (k : ℕ). record t.first { count = k }) (sym h.first) in
-    let now : waypoint (length t.done) (reached_at t.now) ≡ t.now = ap (λ (k : ℕ). record t.now { count = k }) (sym h.now) in
+    let first : checkpoint 0 (reached_at t.first) ≡ t.first = ap (λ (k : ℕ). record t.first { count = k }) (sym h.first) in
+    let now : checkpoint (length t.done) (reached_at t.now) ≡ t.now = ap (λ (k : ℕ). record t.now { count = k }) (sym h.now) in
     kept_same first now (sym h.past) (sym h.ahead)
 
 standing_same : {G : Type 0} {number : ℕ} {table table' first : Reached G} {done undone : List Accepted} {past past' ahead ahead' : List (Reached G)} → table ≡ table' → past ≡ past' → ahead ≡ ahead'
@@ -56,10 +56,10 @@ standing_same t p a = cc
 
 module _ {G : Type 0} (rules : Rules G) where
   -- a trail of the game's machine
-  abbrev pub IsWalk : Kept (Waypoint G) Accepted → Type 0
+  abbrev pub IsWalk : Kept (Checkpoint G) Accepted → Type 0
   IsWalk t = IsTrail (walked rules) (Fits rules) (InSheet rules) t
 
-  pub counted : (t : Kept (Waypoint G) Accepted) → t.first.count ≡ 0 → IsWalk t → IsCounted t
+  pub counted : (t : Kept (Checkpoint G) Accepted) → t.first.count ≡ 0 → IsWalk t → IsCounted t
   counted t none trail =
       let all : t.now.count ≡ t.first.count + length t.done = counts rules t.first t.done t.now trail.stands in
       let now : t.now.count ≡ length t.done = omega arith in
@@ -70,7 +70,7 @@ module _ {G : Type 0} (rules : Rules G) where
         ahead = ahead_counted rules t.now t.undone t.ahead (length t.done) now trail.leads_to;
       }
 
-  pub sound_at : (number : ℕ) (t : Kept (Waypoint G) Accepted) → BoundGrows → t.first.count ≡ 0 → number ≤ 4096 → length t.done ≤ number → IsWalk t → IsSound rules (standing_at number t)
+  pub sound_at : (number : ℕ) (t : Kept (Checkpoint G) Accepted) → BoundGrows → t.first.count ≡ 0 → number ≤ 4096 → length t.done ≤ number → IsWalk t → IsSound rules (standing_at number t)
   sound_at number t grows none room most trail =
       let count : IsCounted t = counted t none trail in
       let fits : Fits rules t.now = trail.now_fits in
@@ -85,33 +85,33 @@ module _ {G : Type 0} (rules : Rules G) where
       }
 
   -- a trail whose lists are struck by an action stands for the state after it
-  pub stands_after : (number : ℕ) (t next : Kept (Waypoint G) Accepted) (a : Accepted) → next.first ≡ t.first → strike (call_of a) (record { done = t.done; undone = t.undone }) ≡ record { done = next.done; undone = next.undone } → IsWalk next
+  pub stands_after : (number : ℕ) (t next : Kept (Checkpoint G) Accepted) (a : Accepted) → next.first ≡ t.first → strike (call_of a) (record { done = t.done; undone = t.undone }) ≡ record { done = next.done; undone = next.undone } → IsWalk next
       → standing_at (number + 1) next ≡ state_after rules (standing_at number t) a
   stands_after number t next a first lists trail =
       let table : folded rules (reached_at next.first) next.done ≡ reached_at next.now = folds rules next.first next.done next.now trail.stands in
-      let after : Waypoint G → Standing G = λ w. with_lists rules (standing_at number (record t { first = w })) (record { done = next.done; undone = next.undone }) in
+      let after : Checkpoint G → Standing G = λ w. with_lists rules (standing_at number (record t { first = w })) (record { done = next.done; undone = next.undone }) in
       let whole : standing_at (number + 1) next ≡ after next.first =
       standing_same (sym table) (past_folds rules next.first next.done next.past trail.came_by)
       (ahead_folds rules next.now next.undone next.ahead trail.leads_to ∙ ap (λ (r : Reached G). leads_to rules r next.undone) (sym table)) in
       whole ∙ ap after first ∙ ap (with_lists rules (standing_at number t)) (sym lists)
 
   -- the state of which the number and the trail are these, as it is opened
-  pub record Opened (number : ℕ) (t : Kept (Waypoint G) Accepted) (s : Standing G) : Type 0 where
+  pub record Opened (number : ℕ) (t : Kept (Checkpoint G) Accepted) (s : Standing G) : Type 0 where
     pub shown : standing_at number t ≡ s
     pub counted : IsCounted t
     pub sound : IsSound rules s
 
-  pub trail_held : (number : ℕ) (t copied : Kept (Waypoint G) Accepted) (s : Standing G) → Opened number t s → copied ≡ t → IsWalk copied
+  pub trail_held : (number : ℕ) (t copied : Kept (Checkpoint G) Accepted) (s : Standing G) → Opened number t s → copied ≡ t → IsWalk copied
   trail_held number t copied s o same =
       let at : IsSound rules (standing_at number t) = subst (IsSound rules) (sym o.shown) o.sound in
       subst IsWalk (sym same) (subst IsWalk (same_trail number t o.counted) at.trail)
 
-  pub next_counted : (t next : Kept (Waypoint G) Accepted) → next.first ≡ t.first → IsCounted t → IsWalk next → IsCounted next
-  next_counted t next first count trail = counted next (ap (λ (w : Waypoint G). w.count) first ∙ count.first) trail
+  pub next_counted : (t next : Kept (Checkpoint G) Accepted) → next.first ≡ t.first → IsCounted t → IsWalk next → IsCounted next
+  next_counted t next first count trail = counted next (ap (λ (w : Checkpoint G). w.count) first ∙ count.first) trail
 
-  pub next_sound : (number : ℕ) (t next : Kept (Waypoint G) Accepted) (s : Standing G) → BoundGrows → Opened number t s → s.number < 4096 → next.first ≡ t.first → length next.done ≤ length t.done + 1 → IsWalk next → IsSound rules (standing_at (number + 1) next)
+  pub next_sound : (number : ℕ) (t next : Kept (Checkpoint G) Accepted) (s : Standing G) → BoundGrows → Opened number t s → s.number < 4096 → next.first ≡ t.first → length next.done ≤ length t.done + 1 → IsWalk next → IsSound rules (standing_at (number + 1) next)
   next_sound number t next s grows o room first more trail =
       let at : IsSound rules (standing_at number t) = subst (IsSound rules) (sym o.shown) o.sound in
       let most : length t.done ≤ number = at.done in
       let same : number ≡ s.number = ap (λ (x : Standing G). x.number) o.shown in
-      sound_at (number + 1) next grows (ap (λ (w : Waypoint G). w.count) first ∙ o.counted.first) (omega arith) (omega arith) trail
+      sound_at (number + 1) next grows (ap (λ (w : Checkpoint G). w.count) first ∙ o.counted.first) (omega arith) (omega arith) trail

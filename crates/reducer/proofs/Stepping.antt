@@ -26,8 +26,8 @@ use Rattle.reducer.specs.Standing.{Standing}
 use Rattle.reducer.specs.Steps.{state_after}
 use Rattle.reducer.specs.Struck.{IsDeed, call_of, called}
 use Rattle.reducer.specs.Trails.{standing_at}
-use Rattle.reducer.specs.Walk.{Fits, reached_at, walked, waypoint}
-use Rattle.reducer.specs.declared.waypoint.Waypoint.{Waypoint}
+use Rattle.reducer.specs.Walk.{Fits, reached_at, walked, checkpoint}
+use Rattle.reducer.specs.declared.checkpoint.Checkpoint.{Checkpoint}
 use Rattle.reducer.proofs.Seats.{may_is_seat}
 use Rattle.reducer.proofs.States.{IsWalk, Opened, stands_after, trail_held}
 use Rattle.reducer.proofs.Walks.{came_last, folds, leads_first, none_came, none_leads, walks_on}
@@ -59,18 +59,18 @@ module _ {G : Type 0} (rules : Rules G) where
   deed_answer s seat Redo d = absurd d
 
   -- the trail of a state that is opened
-  walk : (number : ℕ) (t : Kept (Waypoint G) Accepted) (s : Standing G) → Opened rules number t s → IsWalk rules t
+  walk : (number : ℕ) (t : Kept (Checkpoint G) Accepted) (s : Standing G) → Opened rules number t s → IsWalk rules t
   walk number t s o = trail_held rules number t t s o refl
 
-  at : (number : ℕ) (t : Kept (Waypoint G) Accepted) (s : Standing G) → Opened rules number t s → IsSound rules (standing_at number t)
+  at : (number : ℕ) (t : Kept (Checkpoint G) Accepted) (s : Standing G) → Opened rules number t s → IsSound rules (standing_at number t)
   at number t s o = subst (IsSound rules) (sym o.shown) o.sound
 
   -- what done actions have come to is the present table
-  stood : (t : Kept (Waypoint G) Accepted) → IsWalk rules t → folded rules (reached_at t.first) t.done ≡ reached_at t.now
+  stood : (t : Kept (Checkpoint G) Accepted) → IsWalk rules t → folded rules (reached_at t.first) t.done ≡ reached_at t.now
   stood t trail = folds rules t.first t.done t.now trail.stands
 
   -- a move or an event leads from what was done to one more
-  deed_table : (t : Kept (Waypoint G) Accepted) (number : ℕ) (a : Accepted) → IsWalk rules t → IsDeed a.act
+  deed_table : (t : Kept (Checkpoint G) Accepted) (number : ℕ) (a : Accepted) → IsWalk rules t → IsDeed a.act
       → (state_after rules (standing_at number t) a).table ≡ unless_refused (reached_at t.now) (once rules (reached_at t.now) a.seat a.act)
   deed_table t number a trail d =
       ap (λ (call : Call Accepted). folded rules (reached_at t.first) (strike call (record { done = t.done; undone = t.undone })).done) (deed_call a.act a d)
@@ -78,19 +78,19 @@ module _ {G : Type 0} (rules : Rules G) where
 
   -- ---- what is prepared
 
-  shown_as : (number : ℕ) (t : Kept (Waypoint G) Accepted) (s : Standing G) (seat : ℕ) (act : Act) (p told : Coming G) → standing_at number t ≡ s → told ≡ p → told.action ≡ record { seat = seat; act = act } → IsReady rules (standing_at number t) told
+  shown_as : (number : ℕ) (t : Kept (Checkpoint G) Accepted) (s : Standing G) (seat : ℕ) (act : Act) (p told : Coming G) → standing_at number t ≡ s → told ≡ p → told.action ≡ record { seat = seat; act = act } → IsReady rules (standing_at number t) told
       → Prepares rules s seat act (Ok p)
   shown_as number t s seat act p told shown is action ready =
       (ap (λ (c : Coming G). c.action) (sym is) ∙ action, subst (λ (c : Coming G). IsReady rules s c) is (subst (λ (x : Standing G). IsReady rules x told) shown ready))
 
-  pub applied : (number : ℕ) (t : Kept (Waypoint G) Accepted) (s : Standing G) (seat : ℕ) (act : Act) (w next : Waypoint G) (p : Coming G) → Opened rules number t s → s.number < 4096 → may s.table.ctx seat ≡ true → ActInSheet rules.sheet act → IsDeed act
+  pub applied : (number : ℕ) (t : Kept (Checkpoint G) Accepted) (s : Standing G) (seat : ℕ) (act : Act) (w next : Checkpoint G) (p : Coming G) → Opened rules number t s → s.number < 4096 → may s.table.ctx seat ≡ true → ActInSheet rules.sheet act → IsDeed act
       → w ≡ t.now → Performs rules w seat act (Ok next) → Fits rules next → p ≡ record { action = record { seat = seat; act = act }; number = number + 1; count = next.count; table = reached_at next } → Prepares rules s seat act (Ok p)
   applied number t s seat act w next p o room active known d is h fits e =
       let a : Accepted = record { seat = seat; act = act } in
       let told : Coming G = record { action = a; number = number + 1; count = next.count; table = reached_at next } in
       let trail : IsWalk rules t = walk number t s o in
-      let accepted : once rules (reached_at t.now) seat act ≡ Ok (reached_at next) = ap (λ (v : Waypoint G). once rules (reached_at v) seat act) (sym is) ∙ h.0 in
-      let counts : w.count ≡ length t.done = ap (λ (v : Waypoint G). v.count) is ∙ o.counted.now in
+      let accepted : once rules (reached_at t.now) seat act ≡ Ok (reached_at next) = ap (λ (v : Checkpoint G). once rules (reached_at v) seat act) (sym is) ∙ h.0 in
+      let counts : w.count ≡ length t.done = ap (λ (v : Checkpoint G). v.count) is ∙ o.counted.now in
       let numbers : number ≡ s.number = ap (λ (x : Standing G). x.number) o.shown in
       let more : next.count ≡ length t.done + 1 = omega (arith, h.1) in
       let ready : IsReady rules (standing_at number t) told = record {
@@ -104,14 +104,14 @@ module _ {G : Type 0} (rules : Rules G) where
       } in
       shown_as number t s seat act p told o.shown (sym e) refl ready
 
-  pub refused_on : (number : ℕ) (t : Kept (Waypoint G) Accepted) (s : Standing G) (w : Waypoint G) (seat : ℕ) (act : Act) (why : GameNo) → standing_at number t ≡ s → IsDeed act → w ≡ t.now → Performs rules w seat act (Err why) → Prepares rules s seat act (Err why)
+  pub refused_on : (number : ℕ) (t : Kept (Checkpoint G) Accepted) (s : Standing G) (w : Checkpoint G) (seat : ℕ) (act : Act) (why : GameNo) → standing_at number t ≡ s → IsDeed act → w ≡ t.now → Performs rules w seat act (Err why) → Prepares rules s seat act (Err why)
   refused_on number t s w seat act (Broken rule) shown d is h =
       deed_answer s seat act d ∙ ap (λ (x : Standing G). refusal (once rules x.table seat act)) (sym shown)
-      ∙ ap (λ (v : Waypoint G). refusal (once rules (reached_at v) seat act)) (sym is) ∙ ap refusal h
+      ∙ ap (λ (v : Checkpoint G). refusal (once rules (reached_at v) seat act)) (sym is) ∙ ap refusal h
   refused_on number t s w seat act NoMemory shown d is h = tt
 
-  -- what an undo is answered, by the last action and the waypoint before it
-  pub undo_asked : (number : ℕ) (t : Kept (Waypoint G) Accepted) (s : Standing G) (now before : Waypoint G) (seat : ℕ) (last : Accepted) (told : Option GameRule) → Opened rules number t s → Some last ≡ slice_get t.done 0 → Some before ≡ slice_get t.past 0
+  -- what an undo is answered, by the last action and the checkpoint before it
+  pub undo_asked : (number : ℕ) (t : Kept (Checkpoint G) Accepted) (s : Standing G) (now before : Checkpoint G) (seat : ℕ) (last : Accepted) (told : Option GameRule) → Opened rules number t s → Some last ≡ slice_get t.done 0 → Some before ≡ slice_get t.past 0
       → now ≡ t.now → told ≡ undo_broken rules (reached_at now) before.table.ctx.turn last seat → answer_on rules s seat Undo ≡ told
   undo_asked number t s now before seat last told o l b n e =
       let trail : IsWalk rules t = walk number t s o in
@@ -119,10 +119,10 @@ module _ {G : Type 0} (rules : Rules G) where
       ap (λ (x : Standing G). answer_on rules x seat Undo) (sym o.shown)
       ∙ ap (λ (done : List Accepted). undo_answer rules (standing_at number t) done seat) came.1
       ∙ ap (λ (r : Reached G). undo_broken rules (reached_at t.now) r.ctx.turn last seat) (folds rules t.first came.0 before came.2)
-      ∙ ap (λ (w : Waypoint G). undo_broken rules (reached_at w) before.table.ctx.turn last seat) (sym n)
+      ∙ ap (λ (w : Checkpoint G). undo_broken rules (reached_at w) before.table.ctx.turn last seat) (sym n)
       ∙ sym e
 
-  pub undo_prepared : (number : ℕ) (t : Kept (Waypoint G) Accepted) (s : Standing G) (before : Waypoint G) (seat : ℕ) (last : Accepted) (p : Coming G) → Opened rules number t s → s.number < 4096 → may s.table.ctx seat ≡ true
+  pub undo_prepared : (number : ℕ) (t : Kept (Checkpoint G) Accepted) (s : Standing G) (before : Checkpoint G) (seat : ℕ) (last : Accepted) (p : Coming G) → Opened rules number t s → s.number < 4096 → may s.table.ctx seat ≡ true
       → Some last ≡ slice_get t.done 0 → Some before ≡ slice_get t.past 0 → answer_on rules s seat Undo ≡ None
       → p ≡ record { action = record { seat = seat; act = Undo }; number = number + 1; count = before.count; table = reached_at before } → Prepares rules s seat Undo (Ok p)
   undo_prepared number t s before seat last p o room active l b none e =
@@ -141,13 +141,13 @@ module _ {G : Type 0} (rules : Rules G) where
       } in
       shown_as number t s seat Undo p told o.shown (sym e) refl ready
 
-  pub nothing_done : (number : ℕ) (t : Kept (Waypoint G) Accepted) (s : Standing G) (seat : ℕ) → Opened rules number t s → None ≡ slice_get t.past 0 → answer_on rules s seat Undo ≡ Some NothingToUndo
+  pub nothing_done : (number : ℕ) (t : Kept (Checkpoint G) Accepted) (s : Standing G) (seat : ℕ) → Opened rules number t s → None ≡ slice_get t.past 0 → answer_on rules s seat Undo ≡ Some NothingToUndo
   nothing_done number t s seat o n =
       let trail : IsWalk rules t = walk number t s o in
       ap (λ (x : Standing G). answer_on rules x seat Undo) (sym o.shown)
       ∙ ap (λ (done : List Accepted). undo_answer rules (standing_at number t) done seat) (none_came rules t.first t.done t.past trail.came_by n)
 
-  pub redo_prepared : (number : ℕ) (t : Kept (Waypoint G) Accepted) (s : Standing G) (after : Waypoint G) (seat : ℕ) (next : Accepted) (p : Coming G) → Opened rules number t s → s.number < 4096 → may s.table.ctx seat ≡ true
+  pub redo_prepared : (number : ℕ) (t : Kept (Checkpoint G) Accepted) (s : Standing G) (after : Checkpoint G) (seat : ℕ) (next : Accepted) (p : Coming G) → Opened rules number t s → s.number < 4096 → may s.table.ctx seat ≡ true
       → Some next ≡ slice_get t.undone 0 → Some after ≡ slice_get t.ahead 0 → nat_eq next.seat seat ≡ true
       → p ≡ record { action = record { seat = seat; act = Redo }; number = number + 1; count = after.count; table = reached_at after } → Prepares rules s seat Redo (Ok p)
   redo_prepared number t s after seat next p o room active l b own e =
@@ -168,7 +168,7 @@ module _ {G : Type 0} (rules : Rules G) where
       } in
       shown_as number t s seat Redo p told o.shown (sym e) refl ready
 
-  pub nothing_undone : (number : ℕ) (t : Kept (Waypoint G) Accepted) (s : Standing G) (seat : ℕ) → Opened rules number t s → None ≡ slice_get t.ahead 0 → answer_on rules s seat Redo ≡ Some NothingToRedo
+  pub nothing_undone : (number : ℕ) (t : Kept (Checkpoint G) Accepted) (s : Standing G) (seat : ℕ) → Opened rules number t s → None ≡ slice_get t.ahead 0 → answer_on rules s seat Redo ≡ Some NothingToRedo
   nothing_undone number t s seat o n =
       let trail : IsWalk rules t = walk number t s o in
       ap (λ (x : Standing G). answer_on rules x seat Redo) (sym o.shown)
@@ -177,7 +177,7 @@ module _ {G : Type 0} (rules : Rules G) where
   -- ---- what is taken in
 
   -- the step of what is ready is one of the game's machine
-  pub steps_on : (number : ℕ) (t : Kept (Waypoint G) Accepted) (s : Standing G) (p : Coming G) (act : Accepted) (after : Waypoint G) → Opened rules number t s → IsReady rules s p → IsDeed p.action.act → act ≡ p.action → after.count ≡ p.count → reached_at after ≡ p.table
+  pub steps_on : (number : ℕ) (t : Kept (Checkpoint G) Accepted) (s : Standing G) (p : Coming G) (act : Accepted) (after : Checkpoint G) → Opened rules number t s → IsReady rules s p → IsDeed p.action.act → act ≡ p.action → after.count ≡ p.count → reached_at after ≡ p.table
       → walked rules t.now act ≡ Some after
   steps_on number t s p act after o ready d is count table =
       let a = p.action in
@@ -192,13 +192,13 @@ module _ {G : Type 0} (rules : Rules G) where
       let counted : t.now.count + 1 ≡ after.count = let c = o.counted.now in let l = (here.leads_on d).count in omega arith in
       ap (λ (x : Accepted). walked rules t.now x) is
       ∙ walks_on rules t.now a (reached_at after) (both t.now.count 4096 a.seat t.now.table.ctx.seats few seated) leads
-      ∙ ap (λ (k : ℕ). Some (waypoint k (reached_at after))) counted
+      ∙ ap (λ (k : ℕ). Some (checkpoint k (reached_at after))) counted
 
-  pub fits_on : (s : Standing G) (p : Coming G) (after : Waypoint G) → IsReady rules s p → IsDeed p.action.act → after.count ≡ p.count → reached_at after ≡ p.table → Fits rules after
+  pub fits_on : (s : Standing G) (p : Coming G) (after : Checkpoint G) → IsReady rules s p → IsDeed p.action.act → after.count ≡ p.count → reached_at after ≡ p.table → Fits rules after
   fits_on s p after ready d count table =
-      subst (λ (r : Reached G). Fits rules (waypoint after.count r)) (sym table) (subst (λ (k : ℕ). Fits rules (waypoint k p.table)) (sym count) (ready.leads_on d).fits)
+      subst (λ (r : Reached G). Fits rules (checkpoint after.count r)) (sym table) (subst (λ (k : ℕ). Fits rules (checkpoint k p.table)) (sym count) (ready.leads_on d).fits)
 
-  pub went_on : (number : ℕ) (t next : Kept (Waypoint G) Accepted) (s : Standing G) (a act : Accepted) → standing_at number t ≡ s → IsDeed a.act → act ≡ a → Does (walked rules) act t next → IsWalk rules next → standing_at (number + 1) next ≡ state_after rules s a
+  pub went_on : (number : ℕ) (t next : Kept (Checkpoint G) Accepted) (s : Standing G) (a act : Accepted) → standing_at number t ≡ s → IsDeed a.act → act ≡ a → Does (walked rules) act t next → IsWalk rules next → standing_at (number + 1) next ≡ state_after rules s a
   went_on number t next s a act shown d is h trail =
       let lists : strike (call_of a) (record { done = t.done; undone = t.undone }) ≡ record { done = next.done; undone = next.undone } =
       ap (λ (call : Call Accepted). strike call (record { done = t.done; undone = t.undone })) (deed_call a.act a d)
@@ -208,12 +208,12 @@ module _ {G : Type 0} (rules : Rules G) where
       subst (λ (x : Standing G). standing_at (number + 1) next ≡ state_after rules x a) shown (stands_after rules number t next a h.first lists trail)
 
   -- a trail one move back or on again
-  pub record Moved (lists : Struck Accepted) (t next : Kept (Waypoint G) Accepted) : Type 0 where
+  pub record Moved (lists : Struck Accepted) (t next : Kept (Checkpoint G) Accepted) : Type 0 where
     pub first : next.first ≡ t.first
     pub lists_are : lists ≡ record { done = next.done; undone = next.undone }
     pub few : length next.done ≤ length t.done + 1
 
-  pub went_back : (r : Result Bool Starved) (t next : Kept (Waypoint G) Accepted) → IsOk r → Undone (walked rules) r t next → Moved (undo_last t.done t.undone) t next
+  pub went_back : (r : Result Bool Starved) (t next : Kept (Checkpoint G) Accepted) → IsOk r → Undone (walked rules) r t next → Moved (undo_last t.done t.undone) t next
   went_back (Ok true) t next sure h =
       let u : Undoes (walked rules) h.0 t next = h.1 in
       let longer : length t.done ≡ length (h.0 ∷ next.done) = ap length u.done in
@@ -225,17 +225,17 @@ module _ {G : Type 0} (rules : Rules G) where
       }
   went_back (Ok false) t next sure h =
       let same : next ≡ t = h.1 in
-      let longer : length next.done ≡ length t.done = ap (λ (k : Kept (Waypoint G) Accepted). length k.done) same in
+      let longer : length next.done ≡ length t.done = ap (λ (k : Kept (Checkpoint G) Accepted). length k.done) same in
       record {
-        first = ap (λ (k : Kept (Waypoint G) Accepted). k.first) same;
+        first = ap (λ (k : Kept (Checkpoint G) Accepted). k.first) same;
         lists_are =
             ap (λ (done : List Accepted). undo_last done t.undone) h.0 ∙ ap (λ (done : List Accepted). record { done = done; undone = t.undone }) (sym h.0)
-            ∙ ap (λ (k : Kept (Waypoint G) Accepted). record { done = k.done; undone = k.undone }) (sym same);
+            ∙ ap (λ (k : Kept (Checkpoint G) Accepted). record { done = k.done; undone = k.undone }) (sym same);
         few = omega arith;
       }
   went_back (Err why) t next sure h = absurd (cc)
 
-  pub went_again : (r : Result Bool Starved) (t next : Kept (Waypoint G) Accepted) → IsOk r → Redone (walked rules) r t next → Moved (redo_first t.done t.undone) t next
+  pub went_again : (r : Result Bool Starved) (t next : Kept (Checkpoint G) Accepted) → IsOk r → Redone (walked rules) r t next → Moved (redo_first t.done t.undone) t next
   went_again (Ok true) t next sure h =
       let u : Redoes (walked rules) h.0 t next = h.1 in
       let longer : length next.done ≡ length (h.0 ∷ t.done) = ap length u.done in
@@ -247,17 +247,17 @@ module _ {G : Type 0} (rules : Rules G) where
       }
   went_again (Ok false) t next sure h =
       let same : next ≡ t = h.1 in
-      let longer : length next.done ≡ length t.done = ap (λ (k : Kept (Waypoint G) Accepted). length k.done) same in
+      let longer : length next.done ≡ length t.done = ap (λ (k : Kept (Checkpoint G) Accepted). length k.done) same in
       record {
-        first = ap (λ (k : Kept (Waypoint G) Accepted). k.first) same;
+        first = ap (λ (k : Kept (Checkpoint G) Accepted). k.first) same;
         lists_are =
             ap (λ (undone : List Accepted). redo_first t.done undone) h.0 ∙ ap (λ (undone : List Accepted). record { done = t.done; undone = undone }) (sym h.0)
-            ∙ ap (λ (k : Kept (Waypoint G) Accepted). record { done = k.done; undone = k.undone }) (sym same);
+            ∙ ap (λ (k : Kept (Checkpoint G) Accepted). record { done = k.done; undone = k.undone }) (sym same);
         few = omega arith;
       }
   went_again (Err why) t next sure h = absurd (cc)
 
-  pub moved_to : (number : ℕ) (t next : Kept (Waypoint G) Accepted) (s : Standing G) (a : Accepted) → standing_at number t ≡ s → Moved (strike (call_of a) (record { done = t.done; undone = t.undone })) t next → IsWalk rules next
+  pub moved_to : (number : ℕ) (t next : Kept (Checkpoint G) Accepted) (s : Standing G) (a : Accepted) → standing_at number t ≡ s → Moved (strike (call_of a) (record { done = t.done; undone = t.undone })) t next → IsWalk rules next
       → standing_at (number + 1) next ≡ state_after rules s a
   moved_to number t next s a shown m trail =
       subst (λ (x : Standing G). standing_at (number + 1) next ≡ state_after rules x a) shown (stands_after rules number t next a m.first m.lists_are trail)

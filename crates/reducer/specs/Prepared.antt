@@ -12,7 +12,7 @@ use Rattle.reducer.specs.Answer.{answer_on}
 use Rattle.reducer.specs.Standing.{Standing}
 use Rattle.reducer.specs.Steps.{state_after}
 use Rattle.reducer.specs.Struck.{IsDeed}
-use Rattle.reducer.specs.Walk.{Fits, waypoint}
+use Rattle.reducer.specs.Walk.{Fits, checkpoint}
 
 pub record Coming (G : Type 0) : Type 0 where
   pub action : Accepted
@@ -25,7 +25,7 @@ pub record Coming (G : Type 0) : Type 0 where
 -- a move or an event leads one action further
 pub record LeadsOn {G : Type 0} (rules : Rules G) (s : Standing G) (p : Coming G) : Type 0 where
   pub count : p.count ≡ length s.done + 1
-  pub fits : Fits rules (waypoint p.count p.table)
+  pub fits : Fits rules (checkpoint p.count p.table)
 
 pub record IsReady {G : Type 0} (rules : Rules G) (s : Standing G) (p : Coming G) : Type 0 where
   pub room : s.number < 4096

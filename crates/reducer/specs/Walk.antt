@@ -8,27 +8,27 @@ use Rattle.phase_flow.specs.Action.{once}
 use Rattle.phase_flow.specs.IsSound.{IsSound as TableIsSound}
 use Rattle.phase_flow.specs.Reached.{Reached, reached, table_of}
 use Rattle.reducer.specs.Accepted.{Accepted}
-use Rattle.reducer.specs.declared.waypoint.Waypoint.{Waypoint}
+use Rattle.reducer.specs.declared.checkpoint.Checkpoint.{Checkpoint}
 
--- what a match has come to at a waypoint
-abbrev pub reached_at : {G : Type 0} → Waypoint G → Reached G
+-- what a match has come to at a checkpoint
+abbrev pub reached_at : {G : Type 0} → Checkpoint G → Reached G
 reached_at w = reached w.seed w.place w.table
 
--- the waypoint of what a match has come to by so many actions
-abbrev pub waypoint : {G : Type 0} → ℕ → Reached G → Waypoint G
-waypoint count r = record { table = table_of r; seed = r.seed; place = r.place; count = count }
+-- the checkpoint of what a match has come to by so many actions
+abbrev pub checkpoint : {G : Type 0} → ℕ → Reached G → Checkpoint G
+checkpoint count r = record { table = table_of r; seed = r.seed; place = r.place; count = count }
 
-abbrev pub next_waypoint : {G : Type 0} → ℕ → Result (Reached G) GameRule → Option (Waypoint G)
-next_waypoint count (Ok r) = Some (waypoint count r)
-next_waypoint count (Err rule) = None
+abbrev pub next_checkpoint : {G : Type 0} → ℕ → Result (Reached G) GameRule → Option (Checkpoint G)
+next_checkpoint count (Ok r) = Some (checkpoint count r)
+next_checkpoint count (Err rule) = None
 
--- where an action leads from a waypoint, unless it is refused
-unfoldable pub walked : {G : Type 0} → Rules G → Waypoint G → Accepted → Option (Waypoint G)
+-- where an action leads from a checkpoint, unless it is refused
+unfoldable pub walked : {G : Type 0} → Rules G → Checkpoint G → Accepted → Option (Checkpoint G)
 walked rules w a =
-    if nat_lt w.count 4096 && nat_lt a.seat w.table.ctx.seats then next_waypoint (w.count + 1) (once rules (reached_at w) a.seat a.act) else None
+    if nat_lt w.count 4096 && nat_lt a.seat w.table.ctx.seats then next_checkpoint (w.count + 1) (once rules (reached_at w) a.seat a.act) else None
 
--- a waypoint fits a game where its table is sound with counts of at most so many moves as actions led there
-pub record Fits {G : Type 0} (rules : Rules G) (w : Waypoint G) : Type 0 where
+-- a checkpoint fits a game where its table is sound with counts of at most so many moves as actions led there
+pub record Fits {G : Type 0} (rules : Rules G) (w : Checkpoint G) : Type 0 where
   pub count : w.count ≤ 4096
   pub table : TableIsSound rules.sheet w.count w.table.ctx w.table.active
   pub turn : w.table.ctx.turn ≤ 65 + 64 * w.count

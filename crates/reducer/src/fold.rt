@@ -14,11 +14,11 @@ ghost use Rattle.reducer.specs.Steps.{Steps, state_after};
 ghost use Rattle.stage_map.specs.Moves.{may};
 
 use crate::act::flow_answer;
+use crate::checkpoint::Checkpoint;
 use crate::prepared::Prepared;
 use crate::preparing::prepare;
 use crate::state::State;
 use crate::taking::commit;
-use crate::waypoint::Waypoint;
 use dice_words::Tape;
 use game_sheet::{Act, GameNo, GameRule, Seat};
 use game_trait::Game;
@@ -60,7 +60,7 @@ pub fn start<X: Game>(
         Ok(table) => table,
         Err(why) => return Err(no_start(why)),
     };
-    let first = Waypoint {
+    let first = Checkpoint {
         table,
         seed: *seed,
         place: tape.place(),

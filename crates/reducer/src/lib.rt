@@ -2,6 +2,7 @@
 #![tactic(auto)]
 
 mod act;
+mod checkpoint;
 mod fold;
 mod laws;
 mod machine;
@@ -10,7 +11,6 @@ mod preparing;
 mod state;
 mod taking;
 mod way;
-mod waypoint;
 
 pub use fold::{StartNo, start, step};
 pub use laws::matches_stay_sound;

@@ -6,7 +6,7 @@ ghost use Rattle.reducer.specs.Performs.{Performs};
 ghost use Rattle.reducer.specs.Walk.{Fits, InSheet, walked};
 
 use crate::act::act_on;
-use crate::waypoint::{Deed, Waypoint};
+use crate::checkpoint::{Checkpoint, Deed};
 use dice_words::Tape;
 use game_sheet::{Act, GameNo, NoMemory, Seat};
 use game_trait::Game;
@@ -17,7 +17,7 @@ use undo_redo::Machine;
 /// How many actions a match accepts at most.
 pub const MOST_ACTIONS: u32 = 4096;
 
-/// The machine of a game: an action of a seat leads from one waypoint of a match to the next.
+/// The machine of a game: an action of a seat leads from one checkpoint of a match to the next.
 ///
 /// It refuses an action after 4,096 others, one of a seat that the match doesn't have, and one that breaks a rule of the game.
 #[derive(Drop)]
@@ -29,7 +29,7 @@ pub(crate) struct Reducer<'a, X> {
 impl<'a, X: Game> Machine for Reducer<'a, X> {
     ghost use Rattle.reducer.specs.Walk.{Fits, InSheet, walked};
 
-    type State = Waypoint<X::G>;
+    type State = Checkpoint<X::G>;
 
     type Act = Deed;
 
@@ -42,21 +42,21 @@ impl<'a, X: Game> Machine for Reducer<'a, X> {
     fn step(
         &self,
         alloc: Global,
-        state: &Waypoint<X::G>,
+        state: &Checkpoint<X::G>,
         act: &Deed,
-    ) -> Result<Option<Waypoint<X::G>>, NoMemory> {
+    ) -> Result<Option<Checkpoint<X::G>>, NoMemory> {
         walk(alloc, self.game, state, act)
     }
 }
 
-/// The waypoint that an action leads to; none where it is refused.
+/// The checkpoint that an action leads to; none where it is refused.
 #[tactic(auto, unfolding(crate::specs::Walk::walked))]
 fn walk<X: Game>(
     alloc: Global,
     game: &X,
-    from: &Waypoint<X::G>,
+    from: &Checkpoint<X::G>,
     deed: &Deed,
-) -> Result<Option<Waypoint<X::G>>, NoMemory>
+) -> Result<Option<Checkpoint<X::G>>, NoMemory>
     requires fits { Fits (X.rules game.now) from.now }
     requires act { InSheet (X.rules game.now) deed.now }
     ensures value { IfOk result (λ next. next ≡ walked (X.rules game.now) from.now deed.now) }
@@ -72,15 +72,15 @@ fn walk<X: Game>(
     }
 }
 
-/// The waypoint that an action of a seat of the match leads to. A rule is broken exactly where the action breaks it.
+/// The checkpoint that an action of a seat of the match leads to. A rule is broken exactly where the action breaks it.
 #[tactic(auto, unfolding(phase_flow::specs::Action::once))]
 pub(crate) fn perform<X: Game>(
     alloc: Global,
     game: &X,
-    from: &Waypoint<X::G>,
+    from: &Checkpoint<X::G>,
     seat: Seat,
     act: &Act,
-) -> Result<Waypoint<X::G>, GameNo>
+) -> Result<Checkpoint<X::G>, GameNo>
     requires room { from.now.count < 4096 }
     requires fits { Fits (X.rules game.now) from.now }
     requires seat { seat < from.now.table.ctx.seats }
@@ -91,7 +91,7 @@ pub(crate) fn perform<X: Game>(
     bounds_grow();
     let mut tape = Tape::live(from.seed, 0, from.place);
     match act_on(alloc, game, &from.table, seat, act, &mut tape) {
-        Ok(table) => Ok(Waypoint {
+        Ok(table) => Ok(Checkpoint {
             table,
             seed: from.seed,
             place: tape.place(),

@@ -4,8 +4,8 @@ ghost use Rattle.std.specs.Prelude.{◌≡◌};
 ghost use Rattle.reducer.specs.Walk.{reached_at};
 ghost use Rattle.reducer.specs.Way.{way_of};
 
+use crate::checkpoint::{Checkpoint, Deed};
 use crate::way::{Way, way_of};
-use crate::waypoint::{Deed, Waypoint};
 use game_sheet::{Ctx, Number};
 use std::marker::Model;
 use undo_redo::Step;
@@ -16,7 +16,7 @@ use undo_redo::Step;
 #[derive(Drop)]
 pub struct Prepared<G> {
     pub(crate) number: Number,
-    pub(crate) step: Step<Waypoint<G>, Deed>,
+    pub(crate) step: Step<Checkpoint<G>, Deed>,
 }
 
 impl<G> Model for Prepared<G> {
@@ -72,7 +72,7 @@ impl<G> Prepared<G> {
 
 impl<G: Drop> Prepared<G> {
     /// The step that the action makes.
-    pub(crate) fn into_step(self) -> Step<Waypoint<G>, Deed>
+    pub(crate) fn into_step(self) -> Step<Checkpoint<G>, Deed>
         ensures act { result.act ≡ self.action }
         ensures count { result.after.count ≡ self.count }
         ensures table { reached_at result.after ≡ self.table }

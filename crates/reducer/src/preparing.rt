@@ -11,10 +11,10 @@ ghost use Rattle.reducer.specs.Struck.{IsDeed};
 ghost use Rattle.reducer.specs.Walk.{InSheet, reached_at};
 ghost use Rattle.stage_map.specs.Moves.{may};
 
+use crate::checkpoint::{Checkpoint, Deed};
 use crate::machine::perform;
 use crate::prepared::Prepared;
 use crate::state::State;
-use crate::waypoint::{Deed, Waypoint};
 use game_sheet::{Act, GameNo, GameRule, NoMemory, Number, Seat};
 use game_trait::Game;
 use std::alloc::Global;
@@ -124,13 +124,13 @@ fn redo<X: Game>(
     }
 }
 
-/// An action to a waypoint of its own.
+/// An action to a checkpoint of its own.
 fn made<G: Drop>(
     alloc: Global,
     number: Number,
     seat: Seat,
     act: &Act,
-    next: Waypoint<G>,
+    next: Checkpoint<G>,
 ) -> Result<Prepared<G>, NoMemory>
     ensures { IfOk result (λ p. p ≡ record { action = record { seat = seat; act = act.now }; number = number; count = next.count; table = reached_at next }) }
 {
@@ -142,13 +142,13 @@ fn made<G: Drop>(
     Ok(Prepared { number, step })
 }
 
-/// An action to a waypoint that is kept already.
+/// An action to a checkpoint that is kept already.
 fn kept<G: Drop>(
     alloc: Global,
     number: Number,
     seat: Seat,
     act: Act,
-    next: &Arc<Waypoint<G>>,
+    next: &Arc<Checkpoint<G>>,
 ) -> Result<Prepared<G>, NoMemory>
     ensures { IfOk result (λ p. p ≡ record { action = record { seat = seat; act = act }; number = number; count = (arc_value next.now).count; table = reached_at (arc_value next.now) }) }
 {
@@ -157,11 +157,11 @@ fn kept<G: Drop>(
     Ok(Prepared { number, step })
 }
 
-/// The rule that the undo of the last action breaks, which led from one waypoint to the present one.
+/// The rule that the undo of the last action breaks, which led from one checkpoint to the present one.
 fn undo_broken<X: Game>(
     game: &X,
-    now: &Waypoint<X::G>,
-    before: &Waypoint<X::G>,
+    now: &Checkpoint<X::G>,
+    before: &Checkpoint<X::G>,
     last: &Deed,
     seat: Seat,
 ) -> Option<GameRule>
@@ -182,7 +182,7 @@ fn undo_broken<X: Game>(
 }
 
 /// Whether an action may be undone: no event, and a move where the game says so in the present state.
-fn is_undoable<X: Game>(game: &X, now: &Waypoint<X::G>, act: &Act) -> bool
+fn is_undoable<X: Game>(game: &X, now: &Checkpoint<X::G>, act: &Act) -> bool
     requires { ActInSheet (X.rules game.now).sheet act.now }
     ensures { result ≡ is_undoable (X.rules game.now) (reached_at now.now) act.now }
 {

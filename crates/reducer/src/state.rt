@@ -2,7 +2,7 @@
 
 ghost use Rattle.std.specs.Prelude.{◌≡◌, IfOk};
 
-use crate::waypoint::{Deed, Waypoint};
+use crate::checkpoint::{Checkpoint, Deed};
 use game_sheet::{Ctx, NoMemory, Number};
 use std::alloc::Global;
 use std::marker::Model;
@@ -12,7 +12,7 @@ use undo_redo::Trail;
 #[derive(Drop)]
 pub struct State<G> {
     pub(crate) number: Number,
-    pub(crate) trail: Trail<Waypoint<G>, Deed>,
+    pub(crate) trail: Trail<Checkpoint<G>, Deed>,
 }
 
 impl<G> Model for State<G> {

@@ -22,20 +22,20 @@ pub fn commit<X: Game>(game: &X, state: &mut State<X::G>, prepared: Prepared<X::
     ensures sound { IsSound (X.rules game.now) state.new }
 {
     match prepared.way() {
-        Way::On => put_in(game, state, prepared),
+        Way::On => apply(game, state, prepared),
         Way::Back => {
             drop(prepared);
-            go_back(game, state);
+            undo(game, state);
         }
         Way::Again => {
             drop(prepared);
-            go_again(game, state);
+            redo(game, state);
         }
     }
 }
 
 /// Takes in a move or an event.
-fn put_in<X: Game>(game: &X, state: &mut State<X::G>, prepared: Prepared<X::G>)
+fn apply<X: Game>(game: &X, state: &mut State<X::G>, prepared: Prepared<X::G>)
     requires sound { IsSound (X.rules game.now) state.old }
     requires ready { IsReady (X.rules game.now) state.old prepared }
     requires deed { IsDeed prepared.action.act }
@@ -49,7 +49,7 @@ fn put_in<X: Game>(game: &X, state: &mut State<X::G>, prepared: Prepared<X::G>)
 }
 
 /// Takes in an undo.
-fn go_back<X: Game>(game: &X, state: &mut State<X::G>)
+fn undo<X: Game>(game: &X, state: &mut State<X::G>)
     requires sound { IsSound (X.rules game.now) state.old }
     requires room { state.old.number < 4096 }
     ensures after { (seat : ℕ) → state.new ≡ state_after (X.rules game.now) state.old (record { seat = seat; act = Undo }) }
@@ -61,7 +61,7 @@ fn go_back<X: Game>(game: &X, state: &mut State<X::G>)
 }
 
 /// Takes in a redo.
-fn go_again<X: Game>(game: &X, state: &mut State<X::G>)
+fn redo<X: Game>(game: &X, state: &mut State<X::G>)
     requires sound { IsSound (X.rules game.now) state.old }
     requires room { state.old.number < 4096 }
     ensures after { (seat : ℕ) → state.new ≡ state_after (X.rules game.now) state.old (record { seat = seat; act = Redo }) }

@@ -1,4 +1,4 @@
--- The present waypoint has room and fits, and a seat that may act is one of the match.
+-- The present checkpoint has room and fits, and a seat that may act is one of the match.
 use Rattle.std.proofs.Common.{◌≡◌, ◌<◌, ◌≤◌, length, arith, ap, refl, sym, subst, ◌∙◌}
 use Rattle.reducer.specs.Sound.{IsSound}
 use Rattle.reducer.specs.Trails.{standing_at}

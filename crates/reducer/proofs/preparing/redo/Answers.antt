@@ -1,4 +1,4 @@
--- The next action and the waypoint after it are the ends of what is undone and kept.
+-- The next action and the checkpoint after it are the ends of what is undone and kept.
 use Rattle.std.proofs.Common.{ap, eq-eqb, sym, ◌∙◌}
 use Rattle.std.specs.Arc.{arc_value}
 use Rattle.reducer.specs.Accepted.{Accepted}

@@ -1,4 +1,4 @@
--- The last action and the waypoint before it are the ends of what is done and kept.
+-- The last action and the checkpoint before it are the ends of what is done and kept.
 use Rattle.std.proofs.Common.{Some, None, ap, ◌∙◌}
 use Rattle.std.specs.Arc.{arc_value}
 use Rattle.reducer.proofs.Stepping.{undo_asked, undo_prepared}

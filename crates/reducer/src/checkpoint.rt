@@ -9,7 +9,7 @@ use std::marker::Model;
 
 /// What a match has come to by some actions, each of which led on from the one before.
 #[derive(Drop)]
-pub(crate) struct Waypoint<G> {
+pub(crate) struct Checkpoint<G> {
     /// The state of the game, the context and the map.
     pub(crate) table: Table<G>,
     /// The seed of the match's random words.

@@ -5,7 +5,7 @@ use Rattle.reducer.specs.Trails.{standing_at}
 use Rattle.reducer.specs.Walk.{InSheet}
 use Rattle.reducer.proofs.States.{next_counted, next_sound, one_longer, trail_held}
 use Rattle.reducer.proofs.Stepping.{fits_on, steps_on, went_on}
-use Rattle.reducer.proofs.taking.put_in.Goals as goal
+use Rattle.reducer.proofs.taking.apply.Goals as goal
 
 pub commit-requires-clause-trail : goal.commit-requires-clause-trail
 commit-requires-clause-trail g c = trail_held (g.X.Game.rules c.args.game.now) c.state.inside.number c.state.inside.trail c.state.inside.trail c.args.state.now (record { shown = c.state.view_is; counted = c.state.invariant; sound = c.requires.sound }) refl

@@ -3,7 +3,7 @@ use Rattle.std.proofs.Common.{refl}
 use Rattle.game_sheet.specs.declared.act.Act.TheVariants.{Redo}
 use Rattle.reducer.proofs.States.{next_counted, next_sound, trail_held}
 use Rattle.reducer.proofs.Stepping.{moved_to, went_again}
-use Rattle.reducer.proofs.taking.go_again.Goals as goal
+use Rattle.reducer.proofs.taking.redo.Goals as goal
 
 pub redo-redone-requires : goal.redo-redone-requires
 redo-redone-requires g c = trail_held (g.X.Game.rules c.args.game.now) c.state.inside.number c.state.inside.trail c.state.inside.trail c.args.state.now (record { shown = c.state.view_is; counted = c.state.invariant; sound = c.requires.sound }) refl
