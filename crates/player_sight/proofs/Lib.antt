@@ -1,12 +1,4 @@
 pub mod NoFloat
 pub mod Depths
-pub mod ActiveRows
-pub mod PartLaws
-pub mod RowsAre
-pub mod EntryLaws
-pub mod CtxLaws
-pub mod RowLaws
-pub mod NumberLaws
-pub mod Readers
-pub mod SnapshotLaws
 pub mod CtxPut
+pub mod ShownPlain

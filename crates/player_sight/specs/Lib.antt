@@ -2,10 +2,6 @@ pub mod Parts
 pub mod EntryData
 pub mod CtxData
 pub mod SnapshotData
-pub mod Reading
-pub mod CtxReading
-pub mod EntryReading
 pub mod Plain
 pub mod Seen
 pub mod PlainSnapshot
-pub mod SnapshotReading

@@ -4,8 +4,8 @@ ghost use Rattle.game_sheet.specs.SheetFits.{SheetFits};
 
 use crate::auction::{auction, ctx_text, entry_text};
 use game_sheet::{NoMemory, Sheet};
-use player_sight::{ctx_of, entry_of};
 use serde_json::Value;
+use sight_reading::{ctx_of, entry_of};
 use std::alloc::Global;
 use std::process::Abort;
 use std::test::Fail;

@@ -1,5 +1,5 @@
 use Rattle.std.proofs.Common.{arith}
-use Rattle.player_sight.proofs.SnapshotLaws.{seen_plain}
+use Rattle.player_sight.proofs.ShownPlain.{seen_plain}
 use Rattle.player_sight.proofs.snapshots.snapshot.Goals as goal
 
 pub returns-clause-plain : goal.returns-clause-plain

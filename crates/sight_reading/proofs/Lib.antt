@@ -1,0 +1,9 @@
+pub mod ActiveRows
+pub mod PartLaws
+pub mod RowsAre
+pub mod EntryLaws
+pub mod CtxLaws
+pub mod RowLaws
+pub mod NumberLaws
+pub mod Readers
+pub mod SnapshotLaws

@@ -1,0 +1,4 @@
+pub mod Reading
+pub mod CtxReading
+pub mod EntryReading
+pub mod SnapshotReading

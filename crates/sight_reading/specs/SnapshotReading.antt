@@ -1,0 +1,34 @@
+-- How the value of a snapshot is read back: each member in its form and no other, the state of the game by the game's own reading.
+use Rattle.std.specs.Prelude.{ℕ, List, [], ◌∷◌, codes, if◌then◌else◌, Option, Some, None, option_map, option_and_then}
+use Rattle.std.specs.Result.{result_ok}
+use Rattle.serde_json.specs.Data.{Data, Items, no_items, item}
+use Rattle.serde_json.specs.Find.{get}
+use Rattle.json_tree.specs.Fields.{list_in}
+use Rattle.json_tree.specs.Names.{extra_in}
+use Rattle.game_sheet.specs.declared.sheet.Sheet.{Sheet}
+use Rattle.game_trait.specs.Rules.{Rules}
+use Rattle.move_log.specs.declared.entry.Entry.{Entry}
+use Rattle.sight_reading.specs.CtxReading.{ctx_in}
+use Rattle.sight_reading.specs.EntryReading.{entry_in}
+use Rattle.sight_reading.specs.Reading.{◌>>=◌, natural_at}
+use Rattle.player_sight.specs.declared.shown.Snapshot.{Snapshot}
+
+abbrev pub entries_from : Sheet → Items → Option (List Entry)
+entries_from sheet no_items = Some []
+entries_from sheet (item d ds) = option_and_then (λ e. option_map (λ es. e ∷ es) (entries_from sheet ds)) (entry_in sheet d)
+
+abbrev pub log_in : Sheet → Option Data → Option (List Entry)
+log_in sheet found = option_and_then (entries_from sheet) (result_ok (list_in found))
+
+abbrev pub snapshot_names : List (List ℕ)
+snapshot_names = codes "ctx" ∷ codes "g" ∷ codes "log" ∷ codes "number" ∷ []
+
+unfoldable pub snapshot_in : {G : Type 0} → Rules G → Data → Option (Snapshot G)
+snapshot_in rules d =
+    if extra_in snapshot_names d then None
+    else
+    (option_and_then (ctx_in rules.sheet) (get (codes "ctx") d) >>= λ ctx.
+    option_and_then rules.read (get (codes "g") d) >>= λ g.
+    log_in rules.sheet (get (codes "log") d) >>= λ log.
+    natural_at 4294967295 (get (codes "number") d) >>= λ number.
+    Some (record { number = number; ctx = ctx; g = g; log = log }))
