@@ -1,5 +1,5 @@
 -- What reads as arguments is their array, and their array reads as them; it is writable, and flat.
-use Rattle.std.proofs.Common.{◌≡◌, ℕ, suc, ◌≤◌, ◌<◌, ◌+◌, ◌^◌, List, [], ◌∷◌, length, map, ℤ, pos, negsuc, Bool, true, false, cond, Option, Some, None, option_map, option_and_then, IsUtf8, refl, sym, ap, ◌∙◌, subst, arith}
+use Rattle.std.proofs.Common.{◌≡◌, ℕ, suc, ◌≤◌, ◌^◌, List, [], ◌∷◌, length, pos, negsuc, Bool, true, false, cond, Option, Some, None, option_map, option_and_then, refl, ap, ◌∙◌, subst, arith}
 use Rattle.std.proofs.lemmas.Bool.{and_parts, le-leb, leb-true, lt-ltb}
 use Rattle.std.proofs.lemmas.Bool.Decides.{nat_tests}
 use Rattle.std.proofs.lemmas.Str.{IsUtf8-from_is_utf8}
@@ -8,14 +8,13 @@ use Rattle.std.specs.Str.{is_utf8}
 use Rattle.std.specs.Prelude.{nat_le, nat_lt, int_le, ◌&&◌}
 use Rattle.serde_json.specs.Data.{unsigned, negative, float, Data, null, boolean, number, string, array, object, Items, no_items, item, depth, items_depth}
 use Rattle.serde_json.specs.Events.{items_len}
-use Rattle.serde_json.specs.Find.{of_integer}
 use Rattle.serde_json.specs.Written.{has_float, items_have_float}
 use Rattle.json_tree.specs.Canonical.{IsCanonical, ItemsAreCanonical}
 use Rattle.json_tree.specs.Writable.{IsWritable, ItemsAreWritable}
-use Rattle.game_sheet.specs.Short.{is_short, is_plain}
+use Rattle.game_sheet.specs.Short.{is_plain}
 use Rattle.game_sheet.specs.declared.args.Arg.{Arg}
 use Rattle.game_sheet.specs.declared.args.Arg.TheVariants.{Whole, Text}
-use Rattle.sheet_json.specs.Arguments.{argument, arguments, is_whole, is_argument, AreArguments, if_argument, whole_from, argument_in, arguments_from, arguments_in}
+use Rattle.sheet_json.specs.Arguments.{argument, arguments, is_argument, AreArguments, if_argument, whole_from, argument_in, arguments_from, arguments_in}
 
 -- ---- options
 

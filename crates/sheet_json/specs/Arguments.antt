@@ -1,5 +1,5 @@
 -- The arguments of a move as JSON values, at most eight: whole numbers of 32 bits with sign, and texts that a `Short` can hold.
-use Rattle.std.specs.Prelude.{◌≡◌, ◌≤◌, ℕ, ℤ, pos, negsuc, List, [], ◌∷◌, length, map, Bool, true, ◌&&◌, nat_le, int_le, if◌then◌else◌, Option, Some, None, option_map, option_and_then}
+use Rattle.std.specs.Prelude.{◌≡◌, ◌≤◌, ℤ, pos, negsuc, List, [], ◌∷◌, length, map, Bool, true, ◌&&◌, nat_le, int_le, if◌then◌else◌, Option, Some, None, option_map, option_and_then}
 use Rattle.std.specs.List.{AllByRecursion}
 use Rattle.serde_json.specs.Data.{Data, null, boolean, number, string, array, object, Items, no_items, item}
 use Rattle.serde_json.specs.Events.{items_len}

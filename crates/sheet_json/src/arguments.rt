@@ -1,12 +1,14 @@
 //! The arguments of a move: an array of whole numbers and texts.
 
-ghost use Rattle.std.specs.Prelude.{◌≡◌, IfOk, OnOk, true};
+ghost use Rattle.std.specs.Prelude.{◌≡◌, ◌++◌, IfOk, OnOk, true};
 ghost use Rattle.std.specs.List.{AllByRecursion};
 ghost use Rattle.serde_json.specs.Data.{array};
 ghost use Rattle.serde_json.specs.View.{view, items_view};
+ghost use Rattle.serde_json.specs.Written.{comma_if, compact_text};
 ghost use Rattle.sheet_json.specs.Arguments.{AreArguments, argument, arguments, is_argument, argument_in, arguments_in};
 
 use game_sheet::{Arg, Args, NoMemory, Short};
+use json_text::{put_comma, put_integer, put_string};
 use serde_json::Value;
 use std::alloc::Global;
 
@@ -38,6 +40,46 @@ fn value_of(alloc: Global, arg: Arg) -> Result<Value, NoMemory>
     match arg {
         Arg::Whole(number) => Ok(Value::from(number)),
         Arg::Text(text) => Ok(Value::try_from_str(alloc, text.as_str())?),
+    }
+}
+
+/// Appends the array of the arguments, in order.
+pub fn put_args(alloc: Global, out: &mut Vec<u8>, args: &Args) -> Result<(), NoMemory>
+    ensures text { OnOk result (out.new.items ≡ out.old.items ++ compact_text (array (arguments args.now))) }
+    ensures fits { OnOk result (AreArguments args.now) }
+{
+    put_list(alloc, out, args.as_slice())
+}
+
+fn put_list(alloc: Global, out: &mut Vec<u8>, args: &[Arg]) -> Result<(), NoMemory>
+    ensures text { OnOk result (out.new.items ≡ out.old.items ++ compact_text (array (arguments args.now))) }
+    ensures fits { OnOk result (AllByRecursion (λ a. is_argument a ≡ true) args.now) }
+{
+    out.push(b'[')?;
+    let mut later = false;
+    for arg in args {
+        put_item(alloc, out, later, *arg)?;
+        later = true;
+    }
+    out.push(b']')?;
+    Ok(())
+}
+
+fn put_item(alloc: Global, out: &mut Vec<u8>, later: bool, arg: Arg) -> Result<(), NoMemory>
+    ensures text { OnOk result (out.new.items ≡ out.old.items ++ comma_if later ++ compact_text (argument arg)) }
+    ensures fits { OnOk result (is_argument arg ≡ true) }
+{
+    put_comma(out, later)?;
+    put_arg(alloc, out, arg)
+}
+
+fn put_arg(alloc: Global, out: &mut Vec<u8>, arg: Arg) -> Result<(), NoMemory>
+    ensures text { OnOk result (out.new.items ≡ out.old.items ++ compact_text (argument arg)) }
+    ensures fits { OnOk result (is_argument arg ≡ true) }
+{
+    match arg {
+        Arg::Whole(number) => Ok(put_integer(out, i64::from(number))?),
+        Arg::Text(text) => Ok(put_string(alloc, out, text.as_str())?),
     }
 }
 

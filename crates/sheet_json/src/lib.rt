@@ -4,5 +4,5 @@
 mod arguments;
 mod seats;
 
-pub use arguments::{args_of, args_value};
-pub use seats::{is_null, seat_or_null_of, seat_value};
+pub use arguments::{args_of, args_value, put_args};
+pub use seats::{is_null, put_seat, seat_or_null_of, seat_value};

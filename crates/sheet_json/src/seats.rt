@@ -1,13 +1,14 @@
 //! Seats, or null in place of one.
 
-ghost use Rattle.std.specs.Prelude.{◌≡◌, false};
+ghost use Rattle.std.specs.Prelude.{◌≡◌, ◌++◌, OnOk, false};
 ghost use Rattle.serde_json.specs.Find.{get};
 ghost use Rattle.serde_json.specs.View.{view};
-ghost use Rattle.serde_json.specs.Written.{has_float};
+ghost use Rattle.serde_json.specs.Written.{has_float, compact_text};
 ghost use Rattle.json_tree.specs.Fields.{natural_in};
 ghost use Rattle.sheet_json.specs.Seats.{natural_or_null, IsWithin, is_null_in, or_null};
 
-use game_sheet::Seat;
+use game_sheet::{NoMemory, Seat};
+use json_text::{put_natural, put_null};
 use json_tree::{FieldFault, natural_of};
 use serde_json::Value;
 
@@ -41,5 +42,15 @@ pub fn seat_value(seat: Option<Seat>) -> Value
     match seat {
         Some(seat) => Value::from(seat),
         None => Value::Null,
+    }
+}
+
+/// Appends the number of a seat, or null where there is none.
+pub fn put_seat(out: &mut Vec<u8>, seat: Option<Seat>) -> Result<(), NoMemory>
+    ensures { OnOk result (out.new.items ≡ out.old.items ++ compact_text (natural_or_null seat)) }
+{
+    match seat {
+        Some(seat) => Ok(put_natural(out, u64::from(seat))?),
+        None => Ok(put_null(out)?),
     }
 }
