@@ -10,11 +10,11 @@ use Rattle.game_trait.specs.Deed.{Done, GaveUp}
 use Rattle.game_trait.specs.InSheet.{EventInSheet}
 use Rattle.game_trait.specs.Queues.{AllInSheet, KeepsToSheet, QueuesInSheet}
 use Rattle.test_games.specs.Moment.{cued, is_at}
-use Rattle.test_games.specs.Toy.{queueing, toy_rules}
+use Rattle.test_games.specs.ScriptedGame.{queueing, scripted_rules}
 use Rattle.test_games.specs.declared.cue.Cue.{Cue}
 use Rattle.test_games.specs.declared.cue.Moment.{Moment}
 use Rattle.test_games.specs.declared.cue.Moment.TheVariants.{Move, AfterMove, TurnBegin, TurnEnd, PhaseBegin, PhaseEnd, MatchEnd}
-use Rattle.test_games.specs.declared.toy.Ends.{Ends}
+use Rattle.test_games.specs.declared.scripted_game.Ends.{Ends}
 
 abbrev pub in_sheet : Sheet → Event → Bool
 in_sheet sheet (SetPhase to) = nat_lt to (length sheet.phases)
@@ -55,8 +55,8 @@ crowded_or_in_sheet sheet full value words events false all = all
 queueing_in_sheet : {A E : Type 0} (sheet : Sheet) (full : E) (value : A) (words : List ℕ) (moment : Moment) (cues : List Cue) → are_in_sheet sheet cues ≡ true → QueuesInSheet sheet (queueing full value words (cued moment cues))
 queueing_in_sheet sheet full value words moment cues are = crowded_or_in_sheet sheet full value words (cued moment cues) (nat_lt 16 (length (cued moment cues))) (cued_in_sheet sheet moment cues are)
 
-pub toy_in_sheet : (sheet : Sheet) (cues : List Cue) (ends : Ends) → are_in_sheet sheet cues ≡ true → KeepsToSheet (toy_rules sheet cues ends)
-toy_in_sheet sheet cues ends are = record {
+pub scripted_in_sheet : (sheet : Sheet) (cues : List Cue) (ends : Ends) → are_in_sheet sheet cues ≡ true → KeepsToSheet (scripted_rules sheet cues ends)
+scripted_in_sheet sheet cues ends are = record {
   play = λ g ctx seat id args words known. queueing_in_sheet sheet _ _ words (Move id) cues are;
   on_move = λ g ctx seat words. queueing_in_sheet sheet _ g words AfterMove cues are;
   turn_begin = λ g ctx words. queueing_in_sheet sheet _ g words TurnBegin cues are;

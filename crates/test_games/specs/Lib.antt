@@ -1,4 +1,4 @@
 pub mod InSheet
 pub mod Moment
-pub mod Toy
-pub mod ToyLaws
+pub mod ScriptedGame
+pub mod ScriptedGameLaws

@@ -2,9 +2,9 @@
 #![tactic(auto)]
 
 mod cue;
+mod scripted_game;
 #[cfg(test)]
 mod tests;
-mod toy;
 
 pub use cue::{Cue, Moment};
-pub use toy::{Ends, Toy};
+pub use scripted_game::{Ends, ScriptedGame};

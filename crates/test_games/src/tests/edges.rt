@@ -5,7 +5,7 @@ use super::matches::{Fault, Match};
 use super::{
     GO, START, after, after_move, at, in_phase, on_move, on_phase_begin, plays, refused, set_phase,
 };
-use crate::{Cue, Moment, Toy};
+use crate::{Cue, Moment, ScriptedGame};
 use game_sheet::{Event, GameRule, List, Order};
 use game_trait::Game;
 use reducer::StartNo;
@@ -33,7 +33,7 @@ fn nothing_at(moment: usize) -> Cue {
 }
 
 /// A game of two whose cues are so many events at each of these moments. The move leads to the second phase, where it is to.
-fn filled(alloc: Global, counts: [u8; 5], leads: bool) -> Result<Toy, Fault> {
+fn filled(alloc: Global, counts: [u8; 5], leads: bool) -> Result<ScriptedGame, Fault> {
     let mut cues = List::new(alloc);
     if leads {
         cues.push(on_move(set_phase(1)))?;

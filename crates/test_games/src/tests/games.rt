@@ -1,7 +1,7 @@
 //! The games of the tests: their sheets, with one move, three stages and three phases.
 
 use super::matches::Fault;
-use crate::{Cue, Ends, Toy};
+use crate::{Cue, Ends, ScriptedGame};
 use game_sheet::{
     List, MoveId, MoveRow, NoMemory, Order, PhaseId, PhaseRow, Place, Sheet, SpecId, SpecRow,
     StageId, StageRow, Text, TurnRow,
@@ -142,7 +142,7 @@ pub(crate) fn sheet(
     specs: List<SpecRow>,
 ) -> Result<Sheet, NoMemory> {
     Ok(Sheet {
-        name: Text::from_str(alloc, "toy")?,
+        name: Text::from_str(alloc, "scripted")?,
         min_seats: seats,
         max_seats: seats,
         moves: moves(alloc)?,
@@ -196,9 +196,14 @@ fn stage(alloc: Global, name: &str, next: Option<StageId>) -> Result<StageRow, N
 }
 
 /// The game of a sheet with these cues and ends.
-pub(crate) fn game(alloc: Global, sheet: Sheet, cues: &[Cue], ends: Ends) -> Result<Toy, Fault> {
+pub(crate) fn game(
+    alloc: Global,
+    sheet: Sheet,
+    cues: &[Cue],
+    ends: Ends,
+) -> Result<ScriptedGame, Fault> {
     let cues = List::from_slice(alloc, cues)?;
-    match Toy::new(sheet, cues, ends) {
+    match ScriptedGame::new(sheet, cues, ends) {
         Some(game) => Ok(game),
         None => Err(Fault::NoGame),
     }
@@ -211,13 +216,13 @@ pub(crate) fn plain(
     turn: TurnRow,
     cues: &[Cue],
     ends: Ends,
-) -> Result<Toy, Fault> {
+) -> Result<ScriptedGame, Fault> {
     let sheet = sheet(alloc, seats, turn, idle(alloc)?, List::new(alloc))?;
     game(alloc, sheet, cues, ends)
 }
 
 /// A game of two seats whose turns begin with this spec.
-pub(crate) fn staged(alloc: Global, spec: SpecRow, cues: &[Cue]) -> Result<Toy, Fault> {
+pub(crate) fn staged(alloc: Global, spec: SpecRow, cues: &[Cue]) -> Result<ScriptedGame, Fault> {
     let mut specs = List::new(alloc);
     specs.push(spec)?;
     let sheet = sheet(alloc, 2, active_turns(), idle(alloc)?, specs)?;
@@ -225,7 +230,11 @@ pub(crate) fn staged(alloc: Global, spec: SpecRow, cues: &[Cue]) -> Result<Toy, 
 }
 
 /// A game of so many seats with these specs, of which none stands at a turn.
-pub(crate) fn mapped(alloc: Global, seats: u8, specs: List<SpecRow>) -> Result<Toy, Fault> {
+pub(crate) fn mapped(
+    alloc: Global,
+    seats: u8,
+    specs: List<SpecRow>,
+) -> Result<ScriptedGame, Fault> {
     let sheet = sheet(alloc, seats, turns(Order::Default), idle(alloc)?, specs)?;
     game(alloc, sheet, &[], NEVER)
 }

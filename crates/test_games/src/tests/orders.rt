@@ -6,7 +6,7 @@ use super::{
     END_TURN, GO, START, after, at, end_turn_to, in_phase, on_move, ordered, plays, refused,
     set_phase,
 };
-use crate::Toy;
+use crate::ScriptedGame;
 use game_sheet::{Event, GameRule, List, Order, Seat};
 use game_trait::Game;
 use reducer::{StartNo, start};
@@ -14,7 +14,7 @@ use std::alloc::Global;
 use std::process::Abort;
 
 /// A game whose seats take turns as this list says.
-fn listed(alloc: Global, seats: u8, order: &[Seat]) -> Result<Toy, Fault> {
+fn listed(alloc: Global, seats: u8, order: &[Seat]) -> Result<ScriptedGame, Fault> {
     let order = List::from_slice(alloc, order)?;
     plain(alloc, seats, turns(Order::Custom(order)), &[], NEVER)
 }
@@ -77,7 +77,7 @@ fn a_turn_does_not_end_below_its_least_count(rt: HostRuntime) -> Result<(), Faul
 }
 
 /// A game with a phase that goes on from the place before it.
-fn continued(alloc: Global) -> Result<Toy, Fault> {
+fn continued(alloc: Global) -> Result<ScriptedGame, Fault> {
     let first = phase(alloc, "a", false, None, Some(turns(Order::Continue)))?;
     let sheet = sheet(alloc, 2, turns(Order::Default), first, List::new(alloc))?;
     game(alloc, sheet, &[], NEVER)
@@ -105,7 +105,11 @@ fn seats_out_of_bounds(rt: HostRuntime) -> Result<(), Fault> {
 }
 
 /// No count of seats out of bounds begins a match.
-fn refuses_all(rt: &impl Abort, alloc: Global, game: Result<Toy, Fault>) -> Result<(), Fault> {
+fn refuses_all(
+    rt: &impl Abort,
+    alloc: Global,
+    game: Result<ScriptedGame, Fault>,
+) -> Result<(), Fault> {
     let game = game?;
     for seats in [0, 1, 3, 255] {
         assert!(rt; has_bad_seats(alloc, &game, seats));

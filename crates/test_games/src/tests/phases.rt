@@ -6,12 +6,12 @@ use super::{
     END_TURN, GO, START, after, after_move, at, in_phase, on_move, on_phase_begin, over, plays,
     refused, set_phase, set_stage, with_only,
 };
-use crate::{Cue, Ends, Moment, Toy};
+use crate::{Cue, Ends, Moment, ScriptedGame};
 use game_sheet::{Event, GameRule, List, Order, Outcome, PhaseId};
 use std::alloc::Global;
 
 /// A phase of one round, whose end leads to the second phase, whose beginning ends the turn and sets a stage.
-fn chained(alloc: Global) -> Result<Toy, Fault> {
+fn chained(alloc: Global) -> Result<ScriptedGame, Fault> {
     let first = phase(alloc, "a", true, None, Some(one_round()))?;
     let sheet = sheet(alloc, 3, turns(Order::Default), first, List::new(alloc))?;
     let cues = [
@@ -37,7 +37,7 @@ fn chained_phases(rt: HostRuntime) -> Result<(), Fault> {
 }
 
 /// A move leads to the second phase, which leads to the third, which leads back.
-fn endless(alloc: Global) -> Result<Toy, Fault> {
+fn endless(alloc: Global) -> Result<ScriptedGame, Fault> {
     let cues = [
         on_move(set_phase(1)),
         on_phase_begin(1, set_phase(2)),
@@ -85,7 +85,7 @@ fn the_end_of_the_match_drops_the_rest(rt: HostRuntime) -> Result<(), Fault> {
 }
 
 /// A first phase that ends at the second move of a turn.
-fn short_phase(alloc: Global) -> Result<Toy, Fault> {
+fn short_phase(alloc: Global) -> Result<ScriptedGame, Fault> {
     let first = phase(alloc, "a", true, Some(PhaseId::at(1)), None)?;
     let sheet = sheet(alloc, 2, turns(Order::Default), first, List::new(alloc))?;
     let ends = Ends {

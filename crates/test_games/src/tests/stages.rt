@@ -9,12 +9,12 @@ use super::{
     END_STAGE, END_TURN, GO, START, after, at, on_move, plays, refused, set_stage, with_map,
     with_only,
 };
-use crate::{Cue, Moment, Toy};
+use crate::{Cue, Moment, ScriptedGame};
 use game_sheet::{Event, GameRule, List, Order, Place, SpecId, SpecRow, StageId};
 use std::alloc::Global;
 
 /// Turns that begin with a spec that another one follows.
-fn followed(alloc: Global) -> Result<Toy, Fault> {
+fn followed(alloc: Global) -> Result<ScriptedGame, Fault> {
     let mut specs = List::new(alloc);
     specs.push(leading_spec(alloc))?;
     specs.push(following_spec(alloc))?;
@@ -88,7 +88,7 @@ fn set(place: u8) -> Action {
 }
 
 /// A game whose one spec puts the other seats into a stage.
-fn others(alloc: Global) -> Result<Toy, Fault> {
+fn others(alloc: Global) -> Result<ScriptedGame, Fault> {
     let mut specs = List::new(alloc);
     specs.push(following_spec(alloc))?;
     mapped(alloc, 2, specs)
@@ -108,7 +108,7 @@ fn a_player_sets_the_map(rt: HostRuntime) -> Result<(), Fault> {
 }
 
 /// Two specs that keep the map before: the other seats in a stage for two moves at least, and the current one in another stage.
-fn keeping(alloc: Global) -> Result<Toy, Fault> {
+fn keeping(alloc: Global) -> Result<ScriptedGame, Fault> {
     let mut specs = List::new(alloc);
     specs.push(SpecRow {
         others: in_stage(0),
@@ -147,7 +147,7 @@ fn three_kept_maps_return_with_their_counts(rt: HostRuntime) -> Result<(), Fault
 }
 
 /// A spec whose rows name seats that its other lines put somewhere else, and one whose last line puts all seats.
-fn replacing(alloc: Global) -> Result<Toy, Fault> {
+fn replacing(alloc: Global) -> Result<ScriptedGame, Fault> {
     let last = Place {
         stage: Some(StageId::at(2)),
     };
@@ -196,7 +196,7 @@ fn a_stage_on_a_null_map_goes_to_its_next_and_leaves(rt: HostRuntime) -> Result<
 }
 
 /// Specs of which three put no seat: the second is followed by the fourth, and the third and the fourth by the fifth.
-fn empty(alloc: Global) -> Result<Toy, Fault> {
+fn empty(alloc: Global) -> Result<ScriptedGame, Fault> {
     let mut specs = List::new(alloc);
     specs.push(SpecRow {
         others: in_stage(0),
@@ -228,7 +228,7 @@ fn a_follower_that_is_empty_too(rt: HostRuntime) -> Result<(), Fault> {
 }
 
 /// Sixteen specs, each followed by the next, of which only the last puts a seat.
-fn chain(alloc: Global) -> Result<Toy, Fault> {
+fn chain(alloc: Global) -> Result<ScriptedGame, Fault> {
     let mut specs = List::new(alloc);
     for next in 1..16 {
         specs.push(no_spec(alloc, false, Some(next)))?;

@@ -3,7 +3,7 @@
 use super::games::{NEVER, active_turns, all_spec, game, idle, plain, sheet, turns};
 use super::matches::{Action, Fault, View};
 use super::{END_TURN, GO, START, after, at, plays, refused, set_stage, with_only};
-use crate::Toy;
+use crate::ScriptedGame;
 use game_sheet::{GameRule, List, Order};
 use std::alloc::Global;
 
@@ -26,7 +26,7 @@ fn an_event_is_kept_and_an_undo_reaches_over_no_turn(rt: HostRuntime) -> Result<
 }
 
 /// A game whose turns begin with all seats on the map.
-fn open(alloc: Global) -> Result<Toy, Fault> {
+fn open(alloc: Global) -> Result<ScriptedGame, Fault> {
     let mut specs = List::new(alloc);
     specs.push(all_spec(alloc))?;
     let sheet = sheet(alloc, 2, active_turns(), idle(alloc)?, specs)?;

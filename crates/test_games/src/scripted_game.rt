@@ -8,7 +8,7 @@ ghost use Rattle.game_trait.specs.Gives.{Hooks};
 ghost use Rattle.test_games.specs.InSheet.{are_in_sheet};
 ghost use Rattle.test_games.specs.Moment.{cued};
 ghost use Rattle.serde_json.specs.View.{view};
-ghost use Rattle.test_games.specs.Toy.{count_form, is_reached, queueing};
+ghost use Rattle.test_games.specs.ScriptedGame.{count_form, is_reached, queueing};
 
 use crate::cue::{Cue, Moment, are_in_sheet, queue};
 use dice_words::Tape;
@@ -34,7 +34,7 @@ pub struct Ends {
 
 /// A game that counts the moves made. Its functions queue the events of its cues.
 #[derive(Drop)]
-pub struct Toy {
+pub struct ScriptedGame {
     /// The sheet.
     pub sheet: Sheet,
     /// What is queued, and when.
@@ -45,18 +45,18 @@ pub struct Toy {
     pub ghost keeps: { IsTrue (are_in_sheet sheet cues) },
 }
 
-impl Toy {
+impl ScriptedGame {
     /// The game of a sheet that breaks no rule, with cues that name rows of it and winners that can be seats; none otherwise.
-    pub fn new(sheet: Sheet, cues: List<Cue>, ends: Ends) -> Option<Toy>
+    pub fn new(sheet: Sheet, cues: List<Cue>, ends: Ends) -> Option<ScriptedGame>
         ensures sound { IsSome result ↔ ((broken sheet ≡ 0) × IsTrue (are_in_sheet sheet cues)) }
-        ensures sheet { IfSome result (λ toy. toy.sheet ≡ sheet) }
-        ensures cues { IfSome result (λ toy. toy.cues ≡ cues) }
-        ensures ends { IfSome result (λ toy. toy.ends ≡ ends) }
+        ensures sheet { IfSome result (λ game. game.sheet ≡ sheet) }
+        ensures cues { IfSome result (λ game. game.cues ≡ cues) }
+        ensures ends { IfSome result (λ game. game.ends ≡ ends) }
     {
         if check_sheet(&sheet).is_err() || !are_in_sheet(&sheet, cues.as_slice()) {
             return None;
         }
-        Some(Toy { sheet, cues, ends })
+        Some(ScriptedGame { sheet, cues, ends })
     }
 
     /// A hook, which leaves the state and queues the events of its moment.
@@ -89,18 +89,18 @@ fn read_count(value: &Value) -> Option<u32>
     part_at(value, "count", u32::MAX)
 }
 
-impl Game for Toy {
-    ghost use Rattle.test_games.specs.InSheet.{toy_in_sheet};
-    ghost use Rattle.test_games.specs.Toy.{toy_rules};
-    ghost use Rattle.test_games.specs.ToyLaws.{toy_lawful};
+impl Game for ScriptedGame {
+    ghost use Rattle.test_games.specs.InSheet.{scripted_in_sheet};
+    ghost use Rattle.test_games.specs.ScriptedGame.{scripted_rules};
+    ghost use Rattle.test_games.specs.ScriptedGameLaws.{scripted_lawful};
 
     type G = u32;
 
-    ghost rules = { λ toy. toy_rules toy.sheet toy.cues toy.ends };
+    ghost rules = { λ game. scripted_rules game.sheet game.cues game.ends };
 
-    ghost in_sheet = { λ toy. toy_in_sheet toy.sheet toy.cues toy.ends toy.keeps };
+    ghost in_sheet = { λ game. scripted_in_sheet game.sheet game.cues game.ends game.keeps };
 
-    ghost lawful = { λ toy. toy_lawful toy.sheet toy.cues toy.ends toy.fits };
+    ghost lawful = { λ game. scripted_lawful game.sheet game.cues game.ends game.fits };
 
     fn sheet(&self) -> &Sheet {
         &self.sheet

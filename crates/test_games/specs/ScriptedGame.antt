@@ -11,7 +11,7 @@ use Rattle.open_game.specs.Forms.{greatest, natural, object_of_one}
 use Rattle.test_games.specs.Moment.{cued}
 use Rattle.test_games.specs.declared.cue.Cue.{Cue}
 use Rattle.test_games.specs.declared.cue.Moment.TheVariants.{Move, AfterMove, TurnBegin, TurnEnd, PhaseBegin, PhaseEnd, MatchEnd}
-use Rattle.test_games.specs.declared.toy.Ends.{Ends}
+use Rattle.test_games.specs.declared.scripted_game.Ends.{Ends}
 
 -- the events are queued, of which one call may queue sixteen
 abbrev pub queueing : {A E : Type 0} → E → A → List ℕ → List Event → Deed A E
@@ -26,8 +26,8 @@ is_reached (Some limit) count = nat_le limit count
 abbrev pub count_form : Form ℕ
 count_form = object_of_one (codes "count") (natural greatest) (λ count. count) (λ count. count)
 
-abbrev pub toy_rules : Sheet → List Cue → Ends → Rules ℕ
-toy_rules sheet cues ends = record {
+abbrev pub scripted_rules : Sheet → List Cue → Ends → Rules ℕ
+scripted_rules sheet cues ends = record {
   sheet = sheet;
   setup = λ seats words. Done 0 words [];
   play = λ g ctx seat id args words. queueing (Lacks Crowded) ((g + 1) % 2 ^ 32) words (cued (Move id) cues);

@@ -14,9 +14,9 @@ use Rattle.open_game.specs.Form.{IsReadFrom, StateLaws}
 use Rattle.open_game.specs.Forms.{greatest, natural}
 use Rattle.open_game.proofs.FormLaws.{IsName, natural_laws, one_laws}
 use Rattle.serde_json.specs.Data.{Data}
-use Rattle.test_games.specs.Toy.{count_form, is_reached, queueing, toy_rules}
+use Rattle.test_games.specs.ScriptedGame.{count_form, is_reached, queueing, scripted_rules}
 use Rattle.test_games.specs.declared.cue.Cue.{Cue}
-use Rattle.test_games.specs.declared.toy.Ends.{Ends}
+use Rattle.test_games.specs.declared.scripted_game.Ends.{Ends}
 
 either_own : {E : Type 0} (count : ℕ) (words : List ℕ) (queued : List Event) (full : E) (test : Bool) → IsTrue (count_form.own count) → GivesOwn count_form.own (if test then GaveUp full else Done count words queued)
 either_own count words queued full true own = tt
@@ -42,8 +42,8 @@ draws_fit : (test : Bool) → IfSome (if test then Some Draw else None) OutcomeF
 draws_fit true = tt
 draws_fit false = tt
 
-pub toy_lawful : (sheet : Sheet) (cues : List Cue) (ends : Ends) → SheetFits sheet → Lawful (toy_rules sheet cues ends)
-toy_lawful sheet cues ends fits = record {
+pub scripted_lawful : (sheet : Sheet) (cues : List Cue) (ends : Ends) → SheetFits sheet → Lawful (scripted_rules sheet cues ends)
+scripted_lawful sheet cues ends fits = record {
   fits = fits;
   setup = λ seats words least most. refl;
   play = λ g ctx seat id args words own. queueing_own _ _ words _ (wrapped_own g);
