@@ -1,4 +1,5 @@
 pub mod NoFloat
 pub mod Depths
 pub mod CtxPut
+pub mod Changes
 pub mod ShownPlain

@@ -1,5 +1,4 @@
 pub mod Alike
-pub mod Change
 pub mod Course
 pub mod Does
 pub mod Held

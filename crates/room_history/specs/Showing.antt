@@ -9,7 +9,7 @@ use Rattle.player_sight.specs.EntryData.{entry_data}
 use Rattle.player_sight.specs.SnapshotData.{Snap, snapshot_data}
 use Rattle.wire_json.specs.declared.protocol.Protocol.{Protocol}
 use Rattle.wire_json.specs.declared.protocol.Protocol.TheVariants.{One, Two}
-use Rattle.room_history.specs.Change.{put_part, gone_part}
+use Rattle.player_sight.specs.Change.{put_part, gone_part}
 use Rattle.room_history.specs.Message.{Message, Sync, Update, Change}
 use Rattle.game_sheet.specs.Viewer.{Viewer, seat_of}
 
