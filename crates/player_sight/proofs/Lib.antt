@@ -3,3 +3,4 @@ pub mod Depths
 pub mod CtxPut
 pub mod Changes
 pub mod ShownPlain
+pub mod RisingRows

@@ -3,7 +3,7 @@ use Rattle.std.proofs.Common.{◌≡◌, ℕ, List, [], ◌∷◌, map, fold, Bo
 use Rattle.std.specs.Prelude.{slice_get, decimal}
 use Rattle.std.specs.Ordering.{nat_cmp, match_ordering}
 use Rattle.std.specs.Cmp.Lexicographic.{slice_cmp}
-use Rattle.serde_json.specs.Data.{Data, Members, member, no_members, put}
+use Rattle.serde_json.specs.Data.{Data, object, Members, member, no_members, put}
 use Rattle.serde_json.specs.View.{items_of}
 use Rattle.serde_json.specs.Written.{has_float, items_have_float, members_have_float}
 use Rattle.game_sheet.specs.declared.act.Act.{Act}
@@ -20,7 +20,7 @@ use Rattle.sheet_json.proofs.ArgumentLaws.{no_float_in}
 use Rattle.player_sight.specs.Parts.{text_or_null, phase_or_null, stage_or_null}
 use Rattle.player_sight.specs.EntryData.{event_data, act_data, entry_data, log_data}
 use Rattle.player_sight.specs.SnapshotData.{snapshot_object}
-use Rattle.player_sight.specs.CtxData.{with_row, active_data, over_data, ctx_data}
+use Rattle.player_sight.specs.CtxData.{with_row, rows_members, active_data, over_data, ctx_data}
 
 of_text : (o : Option (List ℕ)) → has_float (text_or_null o) ≡ false
 of_text None = refl
@@ -112,3 +112,6 @@ ctx_has_none sheet ctx d is = ap has_float is ∙ of_ctx sheet ctx
 
 pub snapshot_has_none : (ctx g log v : Data) (number : ℕ) → v ≡ snapshot_object ctx g log number → has_float ctx ≡ false → has_float g ≡ false → has_float log ≡ false → has_float v ≡ false
 snapshot_has_none ctx g log v number e hc hg hl = rw (e, hc, hg, hl) refl
+
+pub rows_have_none : (sheet : Sheet) (rows : List (ℕ × Option ℕ)) (d : Data) → d ≡ object (rows_members sheet rows) → has_float d ≡ false
+rows_have_none sheet rows d is = ap has_float is ∙ of_rows sheet no_members rows refl

@@ -6,3 +6,5 @@ pub mod Plain
 pub mod Change
 pub mod Seen
 pub mod PlainSnapshot
+pub mod RowList
+pub mod Tails

@@ -29,7 +29,7 @@ fn ctx_object(alloc: Global, sheet: &Sheet, ctx: &Ctx) -> Result<Value, NoMemory
     ensures { IfOk result (λ v. view v ≡ ctx_data sheet.now ctx.now) }
 {
     let mut map = Map::new(alloc);
-    match put_ctx(alloc, sheet, ctx, &mut map) {
+    match fill_ctx(alloc, sheet, ctx, &mut map) {
         Ok(()) => Ok(Value::Object(map)),
         Err(no) => {
             drop(map);
@@ -40,7 +40,7 @@ fn ctx_object(alloc: Global, sheet: &Sheet, ctx: &Ctx) -> Result<Value, NoMemory
 
 // Puts the members of a context into an empty map.
 #[tactic(auto, using(crate::proofs::CtxPut::all_put))]
-fn put_ctx(
+fn fill_ctx(
     alloc: Global,
     sheet: &Sheet,
     ctx: &Ctx,
@@ -131,7 +131,20 @@ fn active_value(
     }
 }
 
-fn rows_value(
+/// The object from each seat to its stage.
+pub fn rows_value(
+    alloc: Global,
+    sheet: &Sheet,
+    rows: &[(Seat, Option<StageId>)],
+) -> Result<Value, NoMemory>
+    ensures value { IfOk result (λ v. view v ≡ object (rows_members sheet.now rows.now)) }
+    ensures no_float { IfOk result (λ v. has_float (view v) ≡ false) }
+{
+    let value = rows_object(alloc, sheet, rows)?;
+    Ok(value)
+}
+
+fn rows_object(
     alloc: Global,
     sheet: &Sheet,
     rows: &[(Seat, Option<StageId>)],
