@@ -21,7 +21,7 @@ set_first (suc n) sheet current order spec m h =
     ap (λ k. set_by (set_within k sheet current order) (slice_get sheet.specs spec) current order m) same
 
 -- a spec without rows comes to what its follower comes to
-pub set_follower : (n : ℕ) (sheet : Sheet) (current : ℕ) (order : List ℕ) (spec next : ℕ) (row : SpecRow) (listed : List Row) (later : Option Plan) (result : Map) (m : Map) → n ≢ 0 → slice_get sheet.specs spec ≡ Some row → listed ≡ spec_rows row current order → listed ≡ [] → row.next ≡ Some next → ((emptied : Map) → set_within (n - 1) sheet current order next emptied ≡ planned later emptied) → planned later (record { rows = Some listed; next = row.next; stack = stack_after row.revert m }) ≡ result → set_within n sheet current order spec m ≡ result
+pub set_follower : (n : ℕ) (sheet : Sheet) (current : ℕ) (order : List ℕ) (spec next : ℕ) (row : SpecRow) (listed : List Row) (later : Option Plan) (result : Map) (m : Map) → n ≢ 0 → slice_get sheet.specs spec ≡ Some row → listed ≡ spec_rows row current order → listed ≡ [] → row.next ≡ Some next → ((emptied : Map) → set_within (n - 1) sheet current order next emptied ≡ planned later emptied) → planned later (record { rows = Some []; next = row.next; stack = stack_after row.revert m }) ≡ result → set_within n sheet current order spec m ≡ result
 set_follower n sheet current order spec next row listed later result m some is rows_are empty follower by_later by_plan =
     let go = set_within (n - 1) sheet current order in
     let emptied : Map = record { rows = Some listed; next = row.next; stack = stack_after row.revert m } in
@@ -31,4 +31,5 @@ set_follower n sheet current order spec next row listed later result m some is r
     ∙ ap (λ given. settled_by go (Some given) row.next emptied) empty
     ∙ ap (λ f. settled_by go (Some []) f emptied) follower
     ∙ by_later emptied
+    ∙ ap (λ given. planned later (record { rows = Some given; next = row.next; stack = stack_after row.revert m })) empty
     ∙ by_plan

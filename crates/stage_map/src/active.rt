@@ -1,6 +1,6 @@
 //! The map of active players, with its follower and the earlier maps that may return.
 
-ghost use Rattle.std.specs.Prelude.{◌≡◌, ◌≢◌, ◌+◌, ◌<◌, ◌^◌, List, [], Some, None, Ok, IfOk, OnOk, OnErr, option_map, option_copied, if◌then◌else◌};
+ghost use Rattle.std.specs.Prelude.{◌≡◌, ◌≢◌, ◌+◌, ◌<◌, ◌^◌, ◌∷◌, List, [], Some, None, Ok, IfOk, OnOk, OnErr, option_map, option_copied, if◌then◌else◌};
 ghost use Rattle.stage_map.specs.declared.ended.Ended.TheVariants.{Done, NotListed, Below};
 ghost use Rattle.stage_map.specs.Active.{none, shown, row_on, is_listed, is_below, count_of};
 ghost use Rattle.stage_map.specs.Rows.{put};
@@ -139,15 +139,11 @@ impl Active {
         ensures ok { OnOk result (self.new ≡ set_stage seat to self.old) }
         ensures err { OnErr result (self.new ≡ self.old) }
     {
-        let rows = match &self.rows {
-            None => put(self.alloc, unlimited(seat, to), &[])?,
-            Some(rows) => put(self.alloc, unlimited(seat, to), rows.as_slice())?,
-        };
-        if self.rows.is_none() {
-            self.clear();
+        if self.rows.is_some() {
+            self.replace(unlimited(seat, to))
+        } else {
+            self.begin(unlimited(seat, to))
         }
-        self.rows = Some(rows);
-        Ok(())
     }
 
     /// Ends a seat's stage, with this current seat and play order. Where the map doesn't list the seat, or the seat has made
@@ -219,6 +215,17 @@ impl Active {
         self.settle(rows, sheet, current, order)
     }
 
+    /// Makes the map one of this row alone, with no follower and no earlier map.
+    fn begin(&mut self, row: Row) -> Result<(), NoMemory>
+        ensures ok { OnOk result (self.new ≡ record none { rows = Some (row ∷ []) }) }
+        ensures err { OnErr result (self.new ≡ self.old) }
+    {
+        let rows = put(self.alloc, row, &[])?;
+        self.clear();
+        self.rows = Some(rows);
+        Ok(())
+    }
+
     /// Puts a row in the place of its seat's; nothing where the map is null.
     fn replace(&mut self, row: Row) -> Result<(), NoMemory>
         ensures ok { OnOk result (self.new ≡ record self.old { rows = option_map (put row) self.old.rows }) }
@@ -243,19 +250,40 @@ impl Active {
         ensures ok { OnOk result (self.new ≡ settle sheet.now current order.now (record self.old { rows = Some rows })) }
         ensures err { OnErr result (self.new ≡ self.old) }
     {
-        let Some(spec) = self.next else {
-            self.stand(rows, None);
-            return Ok(());
-        };
-        if !rows.is_empty() {
-            self.rows = Some(rows);
-            return Ok(());
+        match self.next {
+            Some(spec) if rows.is_empty() => {
+                drop(rows);
+                self.follow(sheet, spec, current, order)
+            }
+            next => {
+                self.stand(rows, next);
+                Ok(())
+            }
         }
-        match plan_set(self.alloc, sheet, spec, sheet.specs.len(), current, order)? {
-            None => self.come_back(),
-            Some(plan) => self.carry_out(plan),
+    }
+
+    /// Sets the follower of a map that has no row left.
+    fn follow(
+        &mut self,
+        sheet: &Sheet,
+        spec: SpecId,
+        current: Seat,
+        order: &[Seat],
+    ) -> Result<(), NoMemory>
+        ensures ok { OnOk result (self.new ≡ set sheet.now spec current order.now (record self.old { rows = Some [] })) }
+        ensures err { OnErr result (self.new ≡ self.old) }
+    {
+        match plan_set(self.alloc, sheet, spec, sheet.specs.len(), current, order) {
+            Ok(None) => {
+                self.come_back();
+                Ok(())
+            }
+            Ok(Some(plan)) => {
+                self.carry_out(plan);
+                Ok(())
+            }
+            Err(failed) => Err(failed),
         }
-        Ok(())
     }
 
     /// The row of a seat, if the map lists it.

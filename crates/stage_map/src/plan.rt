@@ -1,13 +1,13 @@
 //! What setting a spec comes to, found before the map changes.
 
-ghost use Rattle.std.specs.Prelude.{◌≡◌, [], IfOk};
+ghost use Rattle.std.specs.Prelude.{◌≡◌, [], Some, IfOk};
 ghost use Rattle.stage_map.specs.Active.{Map};
-ghost use Rattle.stage_map.specs.Plan.{made_by, planned};
-ghost use Rattle.stage_map.specs.Set.{set_within};
+ghost use Rattle.stage_map.specs.Plan.{planned};
+ghost use Rattle.stage_map.specs.Set.{set_within, stack_after};
 
 use crate::rows::Row;
 use crate::spec_rows::spec_rows;
-use game_sheet::{List, NoMemory, Seat, Sheet, SpecId};
+use game_sheet::{List, NoMemory, Seat, Sheet, SpecId, SpecRow};
 use std::alloc::Global;
 
 /// What setting a spec comes to.
@@ -40,38 +40,35 @@ pub fn plan_set(
         return Ok(None);
     };
     let rows = spec_rows(alloc, row, current, order)?;
-    let plan = Plan {
-        rows,
-        next: row.next,
-        keeps: row.revert,
-    };
-    if !plan.rows.is_empty() {
-        return Ok(Some(plan));
-    }
-    match plan.next {
-        None => Ok(Some(plan)),
-        Some(next) => {
-            let later = plan_set(alloc, sheet, next, left - 1, current, order)?;
-            Ok(Some(followed(plan, later)))
+    match row.next {
+        Some(next) if rows.is_empty() => {
+            drop(rows);
+            match plan_set(alloc, sheet, next, left - 1, current, order) {
+                Ok(later) => Ok(Some(followed(alloc, row, later))),
+                Err(failed) => Err(failed),
+            }
         }
+        next => Ok(Some(Plan {
+            rows,
+            next,
+            keeps: row.revert,
+        })),
     }
 }
 
 /// The plan of a spec without rows and of those that follow it.
-fn followed(plan: Plan, later: Option<Plan>) -> Plan
-    requires { plan.rows ≡ [] }
-    ensures { (m : Map) → planned later (made_by plan m) ≡ planned (Some result) m }
+fn followed(alloc: Global, row: &SpecRow, later: Option<Plan>) -> Plan
+    ensures { (m : Map) → planned later (record { rows = Some []; next = row.now.next; stack = stack_after row.now.revert m }) ≡ planned (Some result) m }
 {
     match later {
         None => Plan {
-            rows: plan.rows,
+            rows: List::new(alloc),
             next: None,
-            keeps: plan.keeps,
+            keeps: row.revert,
         },
-        Some(later) => Plan {
-            rows: later.rows,
-            next: later.next,
-            keeps: plan.keeps && later.keeps,
+        Some(plan) => Plan {
+            keeps: row.revert && plan.keeps,
+            ..plan
         },
     }
 }

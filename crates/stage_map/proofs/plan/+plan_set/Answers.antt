@@ -3,7 +3,7 @@ use Rattle.std.proofs.lemmas.Grind.{common_steps}
 use Rattle.stage_map.proofs.Plans.{set_follower}
 use Rattle.stage_map.proofs.plan.+plan_set.Goals as goal
 
-pub returns-in_ok-later-in-Some-next : goal.returns-in_ok-later-in-Some-next
-returns-in_ok-later-in-Some-next t c m =
-    set_follower c.args.left c.args.sheet.now c.args.current c.args.order.now c.args.spec c.in-Some-next.next c.in-Some.row.now c.in_ok-rows.rows c.in_ok-later-in-Some-next.later _ m
-    (search rules) (search rules) (search rules) (grind (arith, common_steps)) (search rules) c.in_ok-later-in-Some-next.ensures (c.followed.ensures m)
+pub returns-in-Ok : goal.returns-in-Ok
+returns-in-Ok t c m =
+    set_follower c.args.left c.args.sheet.now c.args.current c.args.order.now c.args.spec c.in-Some-next.next c.in-Some.row.now c.in_ok-rows.rows c.in-Ok.later _ m
+    (search rules) (search rules) (search rules) (grind (arith, common_steps)) (search rules) c.in-Ok.ensures (c.followed.ensures m)
