@@ -1,6 +1,6 @@
 //! One step of a trail: an act and the state that it led to, both shared.
 
-ghost use Rattle.std.specs.Prelude.{◌≡◌, ◌≤◌, ◌<◌, ◌∷◌, ◌++◌, [], IfOk, length, take};
+ghost use Rattle.std.specs.Prelude.{◌≡◌, ◌≤◌, ◌<◌, ◌∷◌, ◌++◌, [], IfOk, OnErr, OnOk, length, take};
 ghost use Rattle.std.specs.Vec.{vec_capacity};
 ghost use Rattle.std.specs.Arc.{arc_value};
 
@@ -90,9 +90,22 @@ pub(crate) fn copies<S: Drop, A: Drop>(
 {
     let mut copied = Vec::with_capacity(alloc, room)?;
     'steps: for step in steps {
-        copied.push(step.share()?)?;
+        push_shared(&mut copied, step)?;
     }
     Ok(copied)
+}
+
+/// Adds the same act and state at the end.
+fn push_shared<S: Drop, A: Drop>(
+    copied: &mut Vec<Step<S, A>>,
+    step: &Step<S, A>,
+) -> Result<(), NoMemory>
+    ensures steps { OnOk result (copied.new.items ≡ copied.old.items ++ step.now ∷ []) }
+    ensures room { OnOk result (vec_capacity copied.old ≤ vec_capacity copied.new) }
+{
+    let shared = step.share()?;
+    copied.push(shared)?;
+    Ok(())
 }
 
 /// Keeps the first steps and puts one more after them. It takes no memory.
@@ -104,4 +117,27 @@ pub(crate) fn put<S: Drop, A: Drop>(steps: &mut Vec<Step<S, A>>, count: usize, s
 {
     steps.truncate(count);
     steps.push_reserved(step);
+}
+
+/// Keeps the first steps and puts one more after them, with more room where there is none. Without memory the steps stay.
+pub(crate) fn put_growing<S: Drop, A: Drop>(
+    steps: &mut Vec<Step<S, A>>,
+    count: usize,
+    step: Step<S, A>,
+) -> Result<(), NoMemory>
+    requires inside { count ≤ length steps.old.items }
+    ensures ok { OnOk result (steps.new.items ≡ take count steps.old.items ++ step ∷ []) }
+    ensures err { OnErr result (steps.new.items ≡ steps.old.items) }
+    ensures room { vec_capacity steps.old ≤ vec_capacity steps.new }
+{
+    match steps.reserve(1) {
+        Ok(()) => {
+            put(steps, count, step);
+            Ok(())
+        }
+        Err(failed) => {
+            drop(step);
+            Err(NoMemory::from(failed))
+        }
+    }
 }

@@ -9,14 +9,14 @@ ghost use Rattle.undo_redo.specs.Moves.{Advanced, Does, Redone, Undone};
 ghost use Rattle.undo_redo.specs.Runs.{KeepsStruckList};
 
 use crate::machine::Machine;
-use crate::steps::{Step, copies, put};
-use game_sheet::NoMemory;
+use crate::steps::{Step, copies, put, put_growing};
+use game_sheet::{MOST_ACTIONS, NoMemory};
 use std::alloc::Global;
 use std::marker::Model;
 use std::sync::Arc;
 
 /// For how many steps a trail has room from its beginning.
-pub const ROOM: usize = 4096;
+pub const ROOM: usize = MOST_ACTIONS as usize;
 
 /// Acts done and undone from a first state on, with each state that they led to, which copies share.
 ///
@@ -35,12 +35,13 @@ impl<S, A> Model for Trail<S, A> {
     ghost use Rattle.std.specs.Vec.{vec_capacity};
     ghost use Rattle.undo_redo.specs.Kept.{Kept};
     ghost use Rattle.undo_redo.specs.Wound.{wound};
+    ghost use Rattle.undo_redo.specs.declared.trail.TheConstants.{ROOM};
 
     ghost Value = { Kept S A };
 
     ghost view = { λ t. wound (arc_value t.first) t.steps.items t.count };
 
-    ghost invariant = { λ t. (t.count ≤ length t.steps.items) × (4096 ≤ vec_capacity t.steps) };
+    ghost invariant = { λ t. (t.count ≤ length t.steps.items) × (ROOM ≤ vec_capacity t.steps) };
 }
 
 impl<S, A> Trail<S, A> {
@@ -128,12 +129,31 @@ impl<S: Drop, A: Drop> Trail<S, A> {
         ensures moves { Advanced (M.stepped machine.now) act result self.old self.new }
         ensures trail { IsTrail (M.stepped machine.now) (M.state_fits machine.now) (M.act_fits machine.now) self.new }
     {
-        let Some(next) = machine.step(alloc, self.now(), &act)? else {
-            return Ok(false);
-        };
+        match machine.step(alloc, self.now(), &act) {
+            Ok(Some(next)) => self.append(alloc, machine, act, next),
+            Ok(None) => Ok(false),
+            Err(failed) => Err(failed),
+        }
+    }
+
+    /// Puts in an act with the state that it leads to, which empties the undone ones.
+    fn append<M: Machine<State = S, Act = A>>(
+        &mut self,
+        alloc: Global,
+        machine: &M,
+        act: A,
+        next: S,
+    ) -> Result<bool, NoMemory>
+        requires trail { IsTrail (M.stepped machine.now) (M.state_fits machine.now) (M.act_fits machine.now) self.old }
+        requires act { M.act_fits machine.now act }
+        requires state { M.state_fits machine.now next }
+        requires step { M.stepped machine.now self.old.now act ≡ Some next }
+        ensures moves { Advanced (M.stepped machine.now) act result self.old self.new }
+        ensures trail { IsTrail (M.stepped machine.now) (M.state_fits machine.now) (M.act_fits machine.now) self.new }
+    {
+        let _machine = machine;
         let step = Step::new(alloc, act, next)?;
-        self.steps.reserve(1)?;
-        put(&mut self.steps, self.count, step);
+        put_growing(&mut self.steps, self.count, step)?;
         self.count += 1;
         Ok(true)
     }
@@ -144,7 +164,7 @@ impl<S: Drop, A: Drop> Trail<S, A> {
         requires act { M.act_fits machine.now step.act }
         requires state { M.state_fits machine.now step.after }
         requires step { M.stepped machine.now self.old.now step.act ≡ Some step.after }
-        requires room { length self.old.done < 4096 }
+        requires room { length self.old.done < ROOM }
         ensures moves { Does (M.stepped machine.now) step.act self.old self.new }
         ensures trail { IsTrail (M.stepped machine.now) (M.state_fits machine.now) (M.act_fits machine.now) self.new }
     {
