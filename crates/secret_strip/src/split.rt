@@ -1,6 +1,6 @@
 //! A game's state that is split by who may see what.
 
-ghost use Rattle.std.specs.Prelude.{◌≡◌, IfOk};
+ghost use Rattle.std.specs.Prelude.{◌≡◌, ◌++◌, ◌∷◌, [], IfOk, OnOk};
 ghost use Rattle.secret_strip.specs.Strip.{strip, seen, seen_players, has_seat};
 
 use crate::part::CopyPart;
@@ -40,10 +40,24 @@ impl<C: CopyPart, S: Drop, P: CopyPart> Split<C, S, P> {
         let entries = self.players.as_slice();
         let mut players = List::new(alloc);
         for (seat, entry) in entries.iter().enumerate() {
-            players.push(seen(alloc, viewer, seat, entry)?)?;
+            push_seen(&mut players, alloc, viewer, seat, entry)?;
         }
         Ok(players)
     }
+}
+
+// Adds the entry of a seat as a viewer sees it.
+fn push_seen<P: CopyPart>(
+    players: &mut List<Option<P>>,
+    alloc: Global,
+    viewer: Option<Seat>,
+    seat: usize,
+    entry: &Option<P>,
+) -> Result<(), NoMemory>
+    ensures { OnOk result (players.new ≡ players.old ++ seen viewer (seat, entry.now) ∷ []) }
+{
+    let shown = seen(alloc, viewer, seat, entry)?;
+    players.push(shown)
 }
 
 // The entry of a seat as a viewer sees it.
