@@ -1,14 +1,20 @@
 -- How the code of the flow is tied to its meaning: want of memory is free, and all else is exact, with the table, the words left and the tasks.
 use Rattle.std.specs.Prelude.{◌≡◌, ℕ, Bool, false, List, [], ◌∷◌, Option, Some, None, Result, Ok, Err}
+use Rattle.game_sheet.specs.declared.act.Event.{Event}
+use Rattle.game_sheet.specs.declared.act.Event.TheVariants.{EndStage, SetActive, SetStage}
 use Rattle.game_sheet.specs.declared.refusal.GameRule.TheVariants as rule
+use Rattle.game_sheet.specs.declared.sheet.Sheet.{Sheet}
 use Rattle.game_trait.specs.declared.halt.HookHalt.{HookHalt}
 use Rattle.game_trait.specs.declared.halt.HookHalt.TheVariants.{Spent, Crowded, NoMemory as Starved}
 use Rattle.phase_flow.specs.declared.flow_no.FlowNo.{FlowNo}
 use Rattle.phase_flow.specs.declared.flow_no.FlowNo.TheVariants.{TooManyEvents, TooManyWords, TooEarly, NoMemory}
 use Rattle.phase_flow.specs.declared.table.Table.{Table}
 use Rattle.phase_flow.specs.declared.task.Task.{Task}
-use Rattle.phase_flow.specs.Settle.{next_task}
+use Rattle.phase_flow.specs.Settle.{next_task, speaking}
 use Rattle.phase_flow.specs.Step.{At, Ends, Step}
+use Rattle.phase_flow.specs.Turns.{with_active}
+use Rattle.stage_map.specs.Set.{set}
+use Rattle.stage_map.specs.Stages.{end_stage, set_stage}
 
 abbrev pub Fails : {G : Type 0} → FlowNo → Step G → Type 0
 Fails TooManyEvents meaning = meaning ≡ Ends rule.TooManyEvents
@@ -46,6 +52,13 @@ quieted (Err why) = Err why
 abbrev pub mapped : {A E : Type 0} → Result A E → Result Bool FlowNo
 mapped (Ok done) = Ok false
 mapped (Err why) = Err NoMemory
+
+-- what an event does that changes the map alone
+abbrev pub map_changed : {G : Type 0} → Sheet → Event → Option ℕ → Table G → Table G
+map_changed sheet (SetActive spec) speaker t = with_active (set sheet spec t.ctx.current t.ctx.order t.active) t
+map_changed sheet (SetStage to) speaker t = with_active (set_stage (speaking speaker t.ctx) to t.active) t
+map_changed sheet EndStage speaker t = with_active (end_stage sheet (speaking speaker t.ctx) t.ctx.current t.ctx.order t.active) t
+map_changed sheet event speaker t = t
 
 -- nothing is left to do
 abbrev pub IsDone : {G : Type 0} → Table G → List Task → Type 0

@@ -50,8 +50,12 @@ is_early sheet seat EndStage t = is_below t.active seat
 is_early sheet seat event t = false
 
 module _ {G : Type 0} (rules : Rules G) where
+  -- the first phase begins, or the time without one
+  abbrev pub opened : Table G → List ℕ → Step G
+  opened t words = carry_on (phase_entered rules true (start_phase rules.sheet) t words []) (settle rules 64)
+
   abbrev pub set_up : ℕ → Deed G Lack → Step G
-  set_up seats (Done g words events) = carry_on (phase_entered rules true (start_phase rules.sheet) (fresh seats g) words []) (settle rules 64)
+  set_up seats (Done g words events) = opened (fresh seats g) words
   set_up seats (GaveUp lack) = Ends (rule_of lack)
 
   -- the beginning of a match with so many seats

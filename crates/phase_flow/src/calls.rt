@@ -7,6 +7,7 @@ ghost use Rattle.game_trait.specs.Queues.{AllInSheet};
 ghost use Rattle.phase_flow.specs.Comes.{Settles};
 ghost use Rattle.phase_flow.specs.Flow.{begin, moved, run_event};
 ghost use Rattle.phase_flow.specs.IsSound.{IsSound};
+ghost use Rattle.phase_flow.specs.declared.table.TheConstants.{MOST_COUNT};
 
 use crate::flow;
 use crate::flow_no::FlowNo;
@@ -51,8 +52,8 @@ pub fn moved<X: Game>(
     events: EventQueue,
     tape: &mut Tape,
 ) -> Result<Table<X::G>, FlowNo>
-    requires sound { IsSound (X.rules game.now).sheet 4000000000 table.ctx table.active }
-    requires turn { table.ctx.turn ≤ 4000000000 }
+    requires sound { IsSound (X.rules game.now).sheet MOST_COUNT table.ctx table.active }
+    requires turn { table.ctx.turn ≤ MOST_COUNT }
     requires seat { seat < table.ctx.seats }
     requires events { AllInSheet (X.rules game.now).sheet events }
     ensures answer { Settles result tape.new.left (moved (X.rules game.now) seat counted table tape.old.left events) }
@@ -78,8 +79,8 @@ pub fn run_event<X: Game>(
     event: Event,
     tape: &mut Tape,
 ) -> Result<Table<X::G>, FlowNo>
-    requires sound { IsSound (X.rules game.now).sheet 4000000000 table.ctx table.active }
-    requires turn { table.ctx.turn ≤ 4000000000 }
+    requires sound { IsSound (X.rules game.now).sheet MOST_COUNT table.ctx table.active }
+    requires turn { table.ctx.turn ≤ MOST_COUNT }
     requires seat { seat < table.ctx.seats }
     requires event { EventInSheet (X.rules game.now).sheet event }
     ensures answer { Settles result tape.new.left (run_event (X.rules game.now) seat event table tape.old.left) }

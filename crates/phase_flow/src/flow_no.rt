@@ -1,7 +1,7 @@
 //! Why the flow gives no table.
 
 ghost use Rattle.std.specs.Prelude.{◌≡◌};
-ghost use Rattle.phase_flow.specs.Comes.{no_of};
+ghost use Rattle.phase_flow.specs.Comes.{no_of, quieted};
 
 use game_sheet::NoMemory;
 use game_trait::HookHalt;
@@ -37,5 +37,15 @@ pub(crate) fn give_up(halt: HookHalt) -> FlowNo
         HookHalt::Spent => FlowNo::TooManyWords,
         HookHalt::Crowded => FlowNo::TooManyEvents,
         HookHalt::NoMemory => FlowNo::NoMemory,
+    }
+}
+
+/// The answer of a task that puts no phase's end in front.
+pub(crate) fn quiet(done: Result<(), FlowNo>) -> Result<bool, FlowNo>
+    ensures { result ≡ quieted done }
+{
+    match done {
+        Ok(()) => Ok(false),
+        Err(why) => Err(why),
     }
 }

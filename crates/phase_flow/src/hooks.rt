@@ -5,19 +5,19 @@ ghost use Rattle.dice_words.specs.Strip.{Follows};
 ghost use Rattle.game_sheet.specs.declared.act.Event.{Event as Happening};
 ghost use Rattle.game_trait.specs.Deed.{Deed, Lack};
 ghost use Rattle.game_trait.specs.Gives.{Hooks};
-ghost use Rattle.phase_flow.specs.Comes.{Comes};
+ghost use Rattle.phase_flow.specs.Comes.{Comes, Runs};
 ghost use Rattle.phase_flow.specs.Flow.{after_move};
-ghost use Rattle.phase_flow.specs.Settle.{end_game};
+ghost use Rattle.phase_flow.specs.Settle.{end_game, over};
 ghost use Rattle.phase_flow.specs.Step.{ended_with, hooked, spoken_by};
 ghost use Rattle.phase_flow.specs.Turns.{phase_begun, phase_ended, turn_begun, turn_ended};
 ghost use Rattle.phase_flow.specs.declared.flow_no.FlowNo.TheVariants.{NoMemory as Starved};
 
-use crate::flow_no::{FlowNo, give_up};
+use crate::flow_no::{FlowNo, give_up, quiet};
 use crate::line::Line;
 use crate::table::Table;
 use crate::task::{Task, add};
 use dice_words::Tape;
-use game_sheet::{EventQueue, PhaseId, Seat};
+use game_sheet::{EventQueue, Outcome, PhaseId, Seat};
 use game_trait::{Game, HookHalt};
 use std::alloc::Global;
 
@@ -122,22 +122,24 @@ pub(crate) fn after_move<X: Game>(
     }
 }
 
-/// The hook of the match's end, after which no task is left.
+/// The match is over, and the hook of its end runs, after which no task is left.
 pub(crate) fn end_game<X: Game>(
     alloc: Global,
     game: &X,
+    outcome: Outcome,
     table: &mut Table<X::G>,
     tasks: &mut Line<Task>,
     tape: &mut Tape,
-) -> Result<(), FlowNo>
-    ensures came { Comes result table.new tape.new.left tasks.new (end_game (X.rules game.now) table.old tape.old.left) }
-    ensures ctx { table.new.ctx ≡ table.old.ctx }
+) -> Result<bool, FlowNo>
+    ensures ran { Runs result table.new tape.new.left tasks.new (end_game (X.rules game.now) (over outcome table.old) tape.old.left) }
+    ensures ctx { table.new.ctx ≡ (over outcome table.old).ctx }
     ensures follows { Follows tape.old tape.new }
 {
+    table.ctx.over = Some(outcome);
     let mut events = EventQueue::new();
     let answer = game.game_end(alloc, &table.g, &table.ctx, tape, &mut events);
     tasks.clear();
-    close(table, answer)
+    quiet(close(table, answer))
 }
 
 /// Takes in what a hook answered and queued.

@@ -19,5 +19,5 @@ mod turns;
 pub use calls::{begin, moved, run_event};
 pub use flow_no::FlowNo;
 pub use laws::{actions_keep_tables_sound, bounds_grow, matches_begin_soundly};
-pub use table::Table;
+pub use table::{MOST_COUNT, Table};
 pub use task::Task;

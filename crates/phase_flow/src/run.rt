@@ -2,9 +2,9 @@
 
 ghost use Rattle.std.specs.Prelude.{◌≡◌, ◌+◌, ◌<◌, ◌^◌, length, nat_eq, position, OnOk, IfSome};
 ghost use Rattle.dice_words.specs.Strip.{Follows};
-ghost use Rattle.phase_flow.specs.Comes.{Comes, Runs, mapped, quieted};
+ghost use Rattle.phase_flow.specs.Comes.{Runs, map_changed, mapped};
 ghost use Rattle.phase_flow.specs.Placed.{Goes, IsOrdered, IsPlaced};
-ghost use Rattle.phase_flow.specs.Settle.{end_phase, end_turn, pass_or_end, pass_to, run, speaking};
+ghost use Rattle.phase_flow.specs.Settle.{end_phase, end_turn, pass_or_end, pass_to, run};
 
 use crate::automatic::by_itself;
 use crate::flow_no::FlowNo;
@@ -16,7 +16,7 @@ use crate::table::Table;
 use crate::task::Task;
 use crate::turns::{enter, pass_on};
 use dice_words::Tape;
-use game_sheet::{Ctx, Event, NoMemory, Seat};
+use game_sheet::{Event, NoMemory, Seat, Sheet};
 use game_trait::Game;
 use std::alloc::Global;
 use turn_order::next;
@@ -36,38 +36,32 @@ pub(crate) fn run<X: Game>(
     ensures goes { OnOk result (Goes table.old.ctx table.new.ctx) }
     ensures follows { Follows tape.old tape.new }
 {
-    let seat = speaker(task.speaker, &table.ctx);
-    match &task.event {
-        Event::EndTurn { to } => end_turn(alloc, game, *to, table, tasks, tape),
-        Event::EndPhase => quiet(end_phase(alloc, game, table, tasks, tape)),
-        Event::SetPhase { to } => quiet(enter(alloc, game, Some(*to), table, tasks, tape)),
-        Event::EndStage => on_map(end_stage(game.sheet(), seat, table)),
-        Event::SetStage { to } => on_map(put_in_stage(seat, *to, table)),
-        Event::SetActive { spec } => on_map(set_spec(game.sheet(), Some(*spec), table)),
-        Event::EndGame { outcome } => {
-            table.ctx.over = Some(*outcome);
-            quiet(end_game(alloc, game, table, tasks, tape))
+    let Task { event, speaker } = task;
+    match event {
+        Event::EndTurn { to } => end_turn(alloc, game, to, table, tasks, tape),
+        Event::EndPhase => end_phase(alloc, game, table, tasks, tape),
+        Event::SetPhase { to } => enter(alloc, game, Some(to), table, tasks, tape),
+        Event::EndGame { outcome } => end_game(alloc, game, outcome, table, tasks, tape),
+        Event::EndStage | Event::SetStage { .. } | Event::SetActive { .. } => {
+            on_map(change_map(game.sheet(), event, speaker, table))
         }
     }
 }
 
-/// The seat that a task speaks of.
-fn speaker(named: Option<Seat>, ctx: &Ctx) -> Seat
-    ensures { result ≡ speaking named ctx.now }
+/// What an event does that changes the map alone. Any other leaves the table.
+fn change_map<G>(
+    sheet: &Sheet,
+    event: Event,
+    speaker: Option<Seat>,
+    table: &mut Table<G>,
+) -> Result<(), NoMemory>
+    ensures { OnOk result (table.new ≡ map_changed sheet.now event speaker table.old) }
 {
-    match named {
-        None => ctx.current,
-        Some(seat) => seat,
-    }
-}
-
-/// The answer of a task that puts no phase's end in front.
-fn quiet(done: Result<(), FlowNo>) -> Result<bool, FlowNo>
-    ensures { result ≡ quieted done }
-{
-    match done {
-        Ok(()) => Ok(false),
-        Err(why) => Err(why),
+    match event {
+        Event::EndStage => end_stage(sheet, speaker, table),
+        Event::SetStage { to } => put_in_stage(speaker, to, table),
+        Event::SetActive { spec } => set_spec(sheet, Some(spec), table),
+        _ => Ok(()),
     }
 }
 
@@ -88,15 +82,15 @@ fn end_phase<X: Game>(
     table: &mut Table<X::G>,
     tasks: &mut Line<Task>,
     tape: &mut Tape,
-) -> Result<(), FlowNo>
+) -> Result<bool, FlowNo>
     requires placed { IsPlaced table.old.ctx }
     requires room { table.old.ctx.turn + 1 < 2 ^ 32 }
-    ensures came { Comes result table.new tape.new.left tasks.new (end_phase (X.rules game.now) table.old.ctx.phase table.old tape.old.left tasks.old) }
+    ensures ran { Runs result table.new tape.new.left tasks.new (end_phase (X.rules game.now) table.old.ctx.phase table.old tape.old.left tasks.old) }
     ensures goes { OnOk result (Goes table.old.ctx table.new.ctx) }
     ensures follows { Follows tape.old tape.new }
 {
     match table.ctx.phase {
-        None => Ok(()),
+        None => Ok(false),
         Some(phase) => {
             let next = phase_after(game.sheet(), phase);
             enter(alloc, game, next, table, tasks, tape)

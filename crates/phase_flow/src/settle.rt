@@ -1,9 +1,9 @@
 //! How a table is settled.
 
-ghost use Rattle.std.specs.Prelude.{◌≡◌, ◌+◌, ◌<◌, ◌≤◌, ◌^◌, false, IfOk, OnOk, IfSome, IfNone};
+ghost use Rattle.std.specs.Prelude.{◌≡◌, ◌+◌, ◌<◌, ◌≤◌, ◌^◌, [], false, OnOk, IfSome, IfNone};
 ghost use Rattle.dice_words.specs.Strip.{Follows};
 ghost use Rattle.phase_flow.specs.Automatic.{with_automatic};
-ghost use Rattle.phase_flow.specs.Comes.{Heads, Settles};
+ghost use Rattle.phase_flow.specs.Comes.{Comes, Heads};
 ghost use Rattle.phase_flow.specs.Placed.{IsPlaced};
 ghost use Rattle.phase_flow.specs.Settle.{settle};
 
@@ -26,28 +26,27 @@ const MOST_TASKS: u8 = 64;
 pub(crate) fn settle<X: Game>(
     alloc: Global,
     game: &X,
-    mut table: Table<X::G>,
-    mut tasks: Line<Task>,
+    table: &mut Table<X::G>,
+    tasks: &mut Line<Task>,
     tape: &mut Tape,
-) -> Result<Table<X::G>, FlowNo>
-    requires placed { IsPlaced table.ctx }
-    requires room { table.ctx.turn + 64 < 2 ^ 32 }
-    ensures answer { Settles result tape.new.left (settle (X.rules game.now) 64 table tape.old.left tasks false) }
-    ensures turn { IfOk result (λ t. t.ctx.turn ≤ table.ctx.turn + 64) }
-    ensures placed { IfOk result (λ t. IsPlaced t.ctx) }
+) -> Result<(), FlowNo>
+    requires placed { IsPlaced table.old.ctx }
+    requires room { table.old.ctx.turn + 64 < 2 ^ 32 }
+    ensures answer { Comes result table.new tape.new.left [] (settle (X.rules game.now) 64 table.old tape.old.left tasks.old false) }
+    ensures turn { OnOk result (table.new.ctx.turn ≤ table.old.ctx.turn + 64) }
     ensures follows { Follows tape.old tape.new }
 {
     let mut left = MOST_TASKS;
     let mut after = false;
     'tasks: loop {
-        let Some(task) = next_task(game, &table, &mut tasks, after) else {
-            return Ok(table);
+        let Some(task) = next_task(game, table, tasks, after) else {
+            return Ok(());
         };
         if left == 0 {
             return Err(FlowNo::TooManyEvents);
         }
         left -= 1;
-        match run(alloc, game, task, &mut table, &mut tasks, tape) {
+        match run(alloc, game, task, table, tasks, tape) {
             Err(why) => return Err(why),
             Ok(put) => after = put,
         }

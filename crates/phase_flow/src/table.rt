@@ -3,6 +3,9 @@
 use game_sheet::Ctx;
 use stage_map::Active;
 
+/// The greatest count of turns and of moves with which an action begins, far below the end of their range.
+pub const MOST_COUNT: u32 = 4_000_000_000;
+
 /// The state of the game, the context of the match and its map of active players.
 #[derive(Drop)]
 pub struct Table<G> {

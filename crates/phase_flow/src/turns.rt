@@ -2,12 +2,12 @@
 
 ghost use Rattle.std.specs.Prelude.{◌≡◌, ◌+◌, ◌<◌, ◌≤◌, ◌^◌, length, IfOk, OnOk};
 ghost use Rattle.dice_words.specs.Strip.{Follows};
-ghost use Rattle.phase_flow.specs.Comes.{Comes};
+ghost use Rattle.phase_flow.specs.Comes.{Comes, Runs};
 ghost use Rattle.phase_flow.specs.Placed.{Goes, IsOrdered, IsPlaced};
 ghost use Rattle.phase_flow.specs.Rows.{order_list, turn_row};
 ghost use Rattle.phase_flow.specs.Turns.{enter, in_phase, order_begun, pass_on, phase_entered, phase_left, turn, turned};
 
-use crate::flow_no::FlowNo;
+use crate::flow_no::{FlowNo, quiet};
 use crate::hooks::{phase_begun, phase_ended, turn_begun, turn_ended};
 use crate::line::Line;
 use crate::map::set_spec;
@@ -28,16 +28,16 @@ pub(crate) fn enter<X: Game>(
     table: &mut Table<X::G>,
     tasks: &mut Line<Task>,
     tape: &mut Tape,
-) -> Result<(), FlowNo>
+) -> Result<bool, FlowNo>
     requires placed { IsPlaced table.old.ctx }
     requires room { table.old.ctx.turn + 1 < 2 ^ 32 }
-    ensures came { Comes result table.new tape.new.left tasks.new (enter (X.rules game.now) next table.old tape.old.left tasks.old) }
+    ensures ran { Runs result table.new tape.new.left tasks.new (enter (X.rules game.now) next table.old tape.old.left tasks.old) }
     ensures goes { OnOk result (Goes table.old.ctx table.new.ctx) }
     ensures follows { Follows tape.old tape.new }
 {
     match turn_ended(alloc, game, table, tasks, tape) {
         Err(why) => Err(why),
-        Ok(()) => phase_left(alloc, game, next, table, tasks, tape),
+        Ok(()) => quiet(phase_left(alloc, game, next, table, tasks, tape)),
     }
 }
 
