@@ -2,6 +2,7 @@
 use Rattle.std.proofs.Common.{◌≡◌, ◌+◌, ◌*◌, ◌<◌, ◌≤◌, ℕ, List, ◌∷◌, length, arith, sym, subst, ap, ◌∙◌}
 use Rattle.game_sheet.specs.declared.ctx.Ctx.{Ctx}
 use Rattle.game_sheet.specs.declared.sheet.Sheet.{Sheet}
+use Rattle.game_sheet.specs.declared.ids.TheConstants.{MOST_ACTIONS}
 use Rattle.game_trait.specs.Rules.{Rules}
 use Rattle.stage_map.specs.Active.{Map}
 use Rattle.phase_flow.specs.IsSound.{BoundGrows, IsSound as TableIsSound}
@@ -70,7 +71,7 @@ module _ {G : Type 0} (rules : Rules G) where
         ahead = ahead_counted rules t.now t.undone t.ahead (length t.done) now trail.leads_to;
       }
 
-  pub sound_at : (number : ℕ) (t : Kept (Checkpoint G) Accepted) → BoundGrows → t.first.count ≡ 0 → number ≤ 4096 → length t.done ≤ number → IsWalk t → IsSound rules (standing_at number t)
+  pub sound_at : (number : ℕ) (t : Kept (Checkpoint G) Accepted) → BoundGrows → t.first.count ≡ 0 → number ≤ MOST_ACTIONS → length t.done ≤ number → IsWalk t → IsSound rules (standing_at number t)
   sound_at number t grows none room most trail =
       let count : IsCounted t = counted t none trail in
       let fits : Fits rules t.now = trail.now_fits in
@@ -109,7 +110,7 @@ module _ {G : Type 0} (rules : Rules G) where
   pub next_counted : (t next : Kept (Checkpoint G) Accepted) → next.first ≡ t.first → IsCounted t → IsWalk next → IsCounted next
   next_counted t next first count trail = counted next (ap (λ (w : Checkpoint G). w.count) first ∙ count.first) trail
 
-  pub next_sound : (number : ℕ) (t next : Kept (Checkpoint G) Accepted) (s : Standing G) → BoundGrows → Opened number t s → s.number < 4096 → next.first ≡ t.first → length next.done ≤ length t.done + 1 → IsWalk next → IsSound rules (standing_at (number + 1) next)
+  pub next_sound : (number : ℕ) (t next : Kept (Checkpoint G) Accepted) (s : Standing G) → BoundGrows → Opened number t s → s.number < MOST_ACTIONS → next.first ≡ t.first → length next.done ≤ length t.done + 1 → IsWalk next → IsSound rules (standing_at (number + 1) next)
   next_sound number t next s grows o room first more trail =
       let at : IsSound rules (standing_at number t) = subst (IsSound rules) (sym o.shown) o.sound in
       let most : length t.done ≤ number = at.done in

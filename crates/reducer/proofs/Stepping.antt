@@ -8,6 +8,7 @@ use Rattle.game_sheet.specs.declared.refusal.GameNo.{GameNo}
 use Rattle.game_sheet.specs.declared.refusal.GameNo.TheVariants.{Broken, NoMemory}
 use Rattle.game_sheet.specs.declared.refusal.GameRule.{GameRule}
 use Rattle.game_sheet.specs.declared.refusal.GameRule.TheVariants.{NotYours, NothingToRedo, NothingToUndo}
+use Rattle.game_sheet.specs.declared.ids.TheConstants.{MOST_ACTIONS}
 use Rattle.game_trait.specs.InSheet.{ActInSheet}
 use Rattle.game_trait.specs.Rules.{Rules}
 use Rattle.phase_flow.specs.Action.{once}
@@ -83,7 +84,7 @@ module _ {G : Type 0} (rules : Rules G) where
   shown_as number t s seat act p told shown is action ready =
       (ap (λ (c : Coming G). c.action) (sym is) ∙ action, subst (λ (c : Coming G). IsReady rules s c) is (subst (λ (x : Standing G). IsReady rules x told) shown ready))
 
-  pub applied : (number : ℕ) (t : Kept (Checkpoint G) Accepted) (s : Standing G) (seat : ℕ) (act : Act) (w next : Checkpoint G) (p : Coming G) → Opened rules number t s → s.number < 4096 → may s.table.ctx seat ≡ true → ActInSheet rules.sheet act → IsDeed act
+  pub applied : (number : ℕ) (t : Kept (Checkpoint G) Accepted) (s : Standing G) (seat : ℕ) (act : Act) (w next : Checkpoint G) (p : Coming G) → Opened rules number t s → s.number < MOST_ACTIONS → may s.table.ctx seat ≡ true → ActInSheet rules.sheet act → IsDeed act
       → w ≡ t.now → Performs rules w seat act (Ok next) → Fits rules next → p ≡ record { action = record { seat = seat; act = act }; number = number + 1; count = next.count; table = reached_at next } → Prepares rules s seat act (Ok p)
   applied number t s seat act w next p o room active known d is h fits e =
       let a : Accepted = record { seat = seat; act = act } in
@@ -122,7 +123,7 @@ module _ {G : Type 0} (rules : Rules G) where
       ∙ ap (λ (w : Checkpoint G). undo_broken rules (reached_at w) before.table.ctx.turn last seat) (sym n)
       ∙ sym e
 
-  pub undo_prepared : (number : ℕ) (t : Kept (Checkpoint G) Accepted) (s : Standing G) (before : Checkpoint G) (seat : ℕ) (last : Accepted) (p : Coming G) → Opened rules number t s → s.number < 4096 → may s.table.ctx seat ≡ true
+  pub undo_prepared : (number : ℕ) (t : Kept (Checkpoint G) Accepted) (s : Standing G) (before : Checkpoint G) (seat : ℕ) (last : Accepted) (p : Coming G) → Opened rules number t s → s.number < MOST_ACTIONS → may s.table.ctx seat ≡ true
       → Some last ≡ slice_get t.done 0 → Some before ≡ slice_get t.past 0 → answer_on rules s seat Undo ≡ None
       → p ≡ record { action = record { seat = seat; act = Undo }; number = number + 1; count = before.count; table = reached_at before } → Prepares rules s seat Undo (Ok p)
   undo_prepared number t s before seat last p o room active l b none e =
@@ -147,7 +148,7 @@ module _ {G : Type 0} (rules : Rules G) where
       ap (λ (x : Standing G). answer_on rules x seat Undo) (sym o.shown)
       ∙ ap (λ (done : List Accepted). undo_answer rules (standing_at number t) done seat) (none_came rules t.first t.done t.past trail.came_by n)
 
-  pub redo_prepared : (number : ℕ) (t : Kept (Checkpoint G) Accepted) (s : Standing G) (after : Checkpoint G) (seat : ℕ) (next : Accepted) (p : Coming G) → Opened rules number t s → s.number < 4096 → may s.table.ctx seat ≡ true
+  pub redo_prepared : (number : ℕ) (t : Kept (Checkpoint G) Accepted) (s : Standing G) (after : Checkpoint G) (seat : ℕ) (next : Accepted) (p : Coming G) → Opened rules number t s → s.number < MOST_ACTIONS → may s.table.ctx seat ≡ true
       → Some next ≡ slice_get t.undone 0 → Some after ≡ slice_get t.ahead 0 → nat_eq next.seat seat ≡ true
       → p ≡ record { action = record { seat = seat; act = Redo }; number = number + 1; count = after.count; table = reached_at after } → Prepares rules s seat Redo (Ok p)
   redo_prepared number t s after seat next p o room active l b own e =
@@ -185,13 +186,13 @@ module _ {G : Type 0} (rules : Rules G) where
       let here : IsReady rules (standing_at number t) p = subst (λ (x : Standing G). IsReady rules x p) (sym o.shown) ready in
       let sound : IsSound rules (standing_at number t) = at number t s o in
       let seated : a.seat < t.now.table.ctx.seats = may_is_seat rules.sheet number t.now.table.ctx t.now.table.active a.seat sound.table here.active in
-      let few : t.now.count < 4096 = let c = o.counted.now in let m = sound.done in let r = here.room in omega arith in
+      let few : t.now.count < MOST_ACTIONS = let c = o.counted.now in let m = sound.done in let r = here.room in omega arith in
       let none : refusal (once rules (reached_at t.now) a.seat a.act) ≡ None = sym (deed_answer (standing_at number t) a.seat a.act d) ∙ here.accepted in
       let leads : once rules (reached_at t.now) a.seat a.act ≡ Ok (reached_at after) =
       ok_of (once rules (reached_at t.now) a.seat a.act) (reached_at after) (reached_at t.now) none (table ∙ here.table ∙ deed_table t number a trail d) in
       let counted : t.now.count + 1 ≡ after.count = let c = o.counted.now in let l = (here.leads_on d).count in omega arith in
       ap (λ (x : Accepted). walked rules t.now x) is
-      ∙ walks_on rules t.now a (reached_at after) (both t.now.count 4096 a.seat t.now.table.ctx.seats few seated) leads
+      ∙ walks_on rules t.now a (reached_at after) (both t.now.count MOST_ACTIONS a.seat t.now.table.ctx.seats few seated) leads
       ∙ ap (λ (k : ℕ). Some (checkpoint k (reached_at after))) counted
 
   pub fits_on : (s : Standing G) (p : Coming G) (after : Checkpoint G) → IsReady rules s p → IsDeed p.action.act → after.count ≡ p.count → reached_at after ≡ p.table → Fits rules after

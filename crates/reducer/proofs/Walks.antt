@@ -1,6 +1,7 @@
 -- Walks from checkpoint to checkpoint: each counts the actions that led there, and what it has come to is the fold over them.
 use Rattle.std.proofs.Common.{◌≡◌, ◌+◌, ◌-◌, ◌&&◌, ℕ, Bool, true, false, nat_lt, if◌then◌else◌, List, [], ◌∷◌, length, map, slice_get, Option, Some, None, option_and_then, Result, Ok, Err, arith, refl, ap, sym, ◌∙◌}
 use Rattle.game_sheet.specs.declared.refusal.GameRule.{GameRule}
+use Rattle.game_sheet.specs.declared.ids.TheConstants.{MOST_ACTIONS}
 use Rattle.game_trait.specs.Rules.{Rules}
 use Rattle.phase_flow.specs.Action.{once}
 use Rattle.phase_flow.specs.Reached.{Reached}
@@ -34,7 +35,7 @@ module _ {G : Type 0} (rules : Rules G) where
 
   pub leads : (w : Checkpoint G) (a : Accepted) (next : Checkpoint G) → walked rules w a ≡ Some next → Leads w a next
   unfolding walked
-  leads w a next e = leads_by (nat_lt w.count 4096 && nat_lt a.seat w.table.ctx.seats) w a (once rules (reached_at w) a.seat a.act) next refl e
+  leads w a next e = leads_by (nat_lt w.count MOST_ACTIONS && nat_lt a.seat w.table.ctx.seats) w a (once rules (reached_at w) a.seat a.act) next refl e
 
   no_way : (b : Bool) (count : ℕ) (r : Result (Reached G) GameRule) (next : Reached G) → b ≡ true → r ≡ Ok next → (if b then next_checkpoint count r else None) ≡ None → ⊥
   no_way true count (Ok r) next t is e = cc
@@ -42,9 +43,9 @@ module _ {G : Type 0} (rules : Rules G) where
   no_way false count r next t is e = cc
 
   -- an accepted action of a seat of the match leads on, while there is room
-  pub goes_on : (w : Checkpoint G) (a : Accepted) (next : Reached G) → (nat_lt w.count 4096 && nat_lt a.seat w.table.ctx.seats) ≡ true → once rules (reached_at w) a.seat a.act ≡ Ok next → walked rules w a ≡ None → ⊥
+  pub goes_on : (w : Checkpoint G) (a : Accepted) (next : Reached G) → (nat_lt w.count MOST_ACTIONS && nat_lt a.seat w.table.ctx.seats) ≡ true → once rules (reached_at w) a.seat a.act ≡ Ok next → walked rules w a ≡ None → ⊥
   unfolding walked
-  goes_on w a next t is e = no_way (nat_lt w.count 4096 && nat_lt a.seat w.table.ctx.seats) (w.count + 1) (once rules (reached_at w) a.seat a.act) next t is e
+  goes_on w a next t is e = no_way (nat_lt w.count MOST_ACTIONS && nat_lt a.seat w.table.ctx.seats) (w.count + 1) (once rules (reached_at w) a.seat a.act) next t is e
 
   pub counts : (first : Checkpoint G) (done : List Accepted) (now : Checkpoint G) → fold (walked rules) first done ≡ Some now → now.count ≡ first.count + length done
   counts first [] now e =
@@ -69,9 +70,9 @@ module _ {G : Type 0} (rules : Rules G) where
   one_way true count (Err rule) r t e = cc
   one_way false count o r t e = cc
 
-  pub walks_on : (w : Checkpoint G) (a : Accepted) (r : Reached G) → (nat_lt w.count 4096 && nat_lt a.seat w.table.ctx.seats) ≡ true → once rules (reached_at w) a.seat a.act ≡ Ok r → walked rules w a ≡ Some (checkpoint (w.count + 1) r)
+  pub walks_on : (w : Checkpoint G) (a : Accepted) (r : Reached G) → (nat_lt w.count MOST_ACTIONS && nat_lt a.seat w.table.ctx.seats) ≡ true → once rules (reached_at w) a.seat a.act ≡ Ok r → walked rules w a ≡ Some (checkpoint (w.count + 1) r)
   unfolding walked
-  walks_on w a r t e = one_way (nat_lt w.count 4096 && nat_lt a.seat w.table.ctx.seats) (w.count + 1) (once rules (reached_at w) a.seat a.act) r t e
+  walks_on w a r t e = one_way (nat_lt w.count MOST_ACTIONS && nat_lt a.seat w.table.ctx.seats) (w.count + 1) (once rules (reached_at w) a.seat a.act) r t e
 
   -- the checkpoints that are kept count the actions that led there
   pub past_counted : (first : Checkpoint G) (done : List Accepted) (past : List (Checkpoint G)) → first.count ≡ 0 → CameBy (walked rules) first done past → past ≡ counted_back (length done) (map (λ w. reached_at w) past)

@@ -3,6 +3,7 @@ use Rattle.std.specs.Prelude.{◌≡◌, ◌+◌, ◌<◌, ℕ, true, length, So
 use Rattle.game_sheet.specs.declared.act.Act.{Act}
 use Rattle.game_sheet.specs.declared.refusal.GameNo.{GameNo}
 use Rattle.game_sheet.specs.declared.refusal.GameNo.TheVariants.{Broken, NoMemory}
+use Rattle.game_sheet.specs.declared.ids.TheConstants.{MOST_ACTIONS}
 use Rattle.game_trait.specs.InSheet.{ActInSheet}
 use Rattle.game_trait.specs.Rules.{Rules}
 use Rattle.phase_flow.specs.Reached.{Reached}
@@ -28,7 +29,7 @@ pub record LeadsOn {G : Type 0} (rules : Rules G) (s : Standing G) (p : Coming G
   pub fits : Fits rules (checkpoint p.count p.table)
 
 pub record IsReady {G : Type 0} (rules : Rules G) (s : Standing G) (p : Coming G) : Type 0 where
-  pub room : s.number < 4096
+  pub room : s.number < MOST_ACTIONS
   pub active : may s.table.ctx p.action.seat ≡ true
   pub act : ActInSheet rules.sheet p.action.act
   pub accepted : answer_on rules s p.action.seat p.action.act ≡ None

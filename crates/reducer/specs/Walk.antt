@@ -2,6 +2,7 @@
 -- the actions of seats. It refuses an action after 4,096 others, one of a seat that the match doesn't have, and one that breaks a rule.
 use Rattle.std.specs.Prelude.{◌+◌, ◌*◌, ◌≤◌, ℕ, ◌&&◌, nat_lt, if◌then◌else◌, Option, Some, None, Result, Ok, Err}
 use Rattle.game_sheet.specs.declared.refusal.GameRule.{GameRule}
+use Rattle.game_sheet.specs.declared.ids.TheConstants.{MOST_ACTIONS}
 use Rattle.game_trait.specs.InSheet.{ActInSheet}
 use Rattle.game_trait.specs.Rules.{Rules}
 use Rattle.phase_flow.specs.Action.{once}
@@ -25,11 +26,11 @@ next_checkpoint count (Err rule) = None
 -- where an action leads from a checkpoint, unless it is refused
 unfoldable pub walked : {G : Type 0} → Rules G → Checkpoint G → Accepted → Option (Checkpoint G)
 walked rules w a =
-    if nat_lt w.count 4096 && nat_lt a.seat w.table.ctx.seats then next_checkpoint (w.count + 1) (once rules (reached_at w) a.seat a.act) else None
+    if nat_lt w.count MOST_ACTIONS && nat_lt a.seat w.table.ctx.seats then next_checkpoint (w.count + 1) (once rules (reached_at w) a.seat a.act) else None
 
 -- a checkpoint fits a game where its table is sound with counts of at most so many moves as actions led there
 pub record Fits {G : Type 0} (rules : Rules G) (w : Checkpoint G) : Type 0 where
-  pub count : w.count ≤ 4096
+  pub count : w.count ≤ MOST_ACTIONS
   pub table : TableIsSound rules.sheet w.count w.table.ctx w.table.active
   pub turn : w.table.ctx.turn ≤ 65 + 64 * w.count
 

@@ -6,9 +6,11 @@ ghost use Rattle.game_trait.specs.InSheet.{ActInSheet, EventInSheet};
 ghost use Rattle.phase_flow.specs.Action.{acted, counts, has_no_limit, is_invalid, played, asked};
 ghost use Rattle.phase_flow.specs.IsSound.{IsSound};
 ghost use Rattle.reducer.specs.Acts.{Acts, flow_answer, move_answer};
+ghost use Rattle.game_sheet.specs.declared.ids.TheConstants.{MOST_ACTIONS};
+ghost use Rattle.phase_flow.specs.declared.table.TheConstants.{MOST_COUNT};
 
 use dice_words::Tape;
-use game_sheet::{Act, Args, Event, EventQueue, GameNo, GameRule, MoveId, Seat, Sheet};
+use game_sheet::{Act, Args, Event, EventQueue, GameNo, GameRule, MoveId, NoMemory, Seat, Sheet};
 use game_trait::{Game, Halt};
 use phase_flow::{FlowNo, Table, bounds_grow, moved, run_event};
 use std::alloc::Global;
@@ -22,8 +24,8 @@ pub(crate) fn act_on<X: Game>(
     act: &Act,
     tape: &mut Tape,
 ) -> Result<Table<X::G>, GameNo>
-    requires sound { IsSound (X.rules game.now).sheet 4096 table.now.ctx table.now.active }
-    requires turn { table.now.ctx.turn ≤ 4000000000 }
+    requires sound { IsSound (X.rules game.now).sheet MOST_ACTIONS table.now.ctx table.now.active }
+    requires turn { table.now.ctx.turn ≤ MOST_COUNT }
     requires seat { seat < table.now.ctx.seats }
     requires act { ActInSheet (X.rules game.now).sheet act.now }
     ensures answer { Acts result tape.new.left (acted (X.rules game.now) table.now seat act.now tape.old.left) }
@@ -51,8 +53,8 @@ fn play<X: Game>(
     tape: &mut Tape,
 ) -> Result<Table<X::G>, GameNo>
     requires known { id < length (X.rules game.now).sheet.moves }
-    requires sound { IsSound (X.rules game.now).sheet 4096 table.now.ctx table.now.active }
-    requires turn { table.now.ctx.turn ≤ 4000000000 }
+    requires sound { IsSound (X.rules game.now).sheet MOST_ACTIONS table.now.ctx table.now.active }
+    requires turn { table.now.ctx.turn ≤ MOST_COUNT }
     requires seat { seat < table.now.ctx.seats }
     ensures answer { Acts result tape.new.left (played (X.rules game.now) table.now seat (counts (X.rules game.now).sheet id) ((X.rules game.now).play table.now.g table.now.ctx seat id args.now tape.old.left)) }
     ensures sound { (most : ℕ) → IsSound (X.rules game.now).sheet most table.now.ctx table.now.active
@@ -62,7 +64,7 @@ fn play<X: Game>(
 {
     bounds_grow();
     let mut events = EventQueue::new();
-    let g = match game.play(
+    match game.play(
         alloc,
         &table.g,
         &table.ctx,
@@ -72,27 +74,17 @@ fn play<X: Game>(
         tape,
         &mut events,
     ) {
-        Ok(g) => g,
-        Err(halt) => return Err(move_answer(halt)),
-    };
-    let Ok(ctx) = table.ctx.copy(alloc) else {
-        return Err(GameNo::NoMemory);
-    };
-    let Ok(active) = table.active.copy() else {
-        return Err(GameNo::NoMemory);
-    };
-    let counted = counts(game.sheet(), id);
-    match moved(
-        alloc,
-        game,
-        Table { g, ctx, active },
-        seat,
-        counted,
-        events,
-        tape,
-    ) {
-        Ok(after) => Ok(after),
-        Err(why) => Err(flow_answer(why)),
+        Ok(g) => match with_state(alloc, table, g) {
+            Ok(played) => {
+                let counted = counts(game.sheet(), id);
+                match moved(alloc, game, played, seat, counted, events, tape) {
+                    Ok(after) => Ok(after),
+                    Err(why) => Err(flow_answer(why)),
+                }
+            }
+            Err(_) => Err(GameNo::NoMemory),
+        },
+        Err(halt) => Err(move_answer(halt)),
     }
 }
 
@@ -106,8 +98,8 @@ fn ask<X: Game>(
     tape: &mut Tape,
 ) -> Result<Table<X::G>, GameNo>
     requires known { EventInSheet (X.rules game.now).sheet event }
-    requires sound { IsSound (X.rules game.now).sheet 4096 table.now.ctx table.now.active }
-    requires turn { table.now.ctx.turn ≤ 4000000000 }
+    requires sound { IsSound (X.rules game.now).sheet MOST_ACTIONS table.now.ctx table.now.active }
+    requires turn { table.now.ctx.turn ≤ MOST_COUNT }
     requires seat { seat < table.now.ctx.seats }
     ensures answer { Acts result tape.new.left (asked (X.rules game.now) table.now seat event tape.old.left) }
     ensures sound { (most : ℕ) → IsSound (X.rules game.now).sheet most table.now.ctx table.now.active
@@ -119,19 +111,39 @@ fn ask<X: Game>(
     if is_invalid(seat, &event, table) {
         return Err(GameNo::Broken(GameRule::InvalidMove));
     }
-    let Ok(g) = game.copy(alloc, &table.g) else {
-        return Err(GameNo::NoMemory);
-    };
+    match copied(alloc, game, table) {
+        Ok(copied) => match run_event(alloc, game, copied, seat, event, tape) {
+            Ok(after) => Ok(after),
+            Err(why) => Err(flow_answer(why)),
+        },
+        Err(_) => Err(GameNo::NoMemory),
+    }
+}
+
+/// An equal table.
+fn copied<X: Game>(alloc: Global, game: &X, table: &Table<X::G>) -> Result<Table<X::G>, NoMemory>
+    ensures { IfOk result (λ copied. copied ≡ table.now) }
+{
+    match game.copy(alloc, &table.g) {
+        Ok(g) => with_state(alloc, table, g),
+        Err(failed) => Err(failed),
+    }
+}
+
+/// The table with another state of the game.
+fn with_state<G: Drop>(alloc: Global, table: &Table<G>, g: G) -> Result<Table<G>, NoMemory>
+    ensures { IfOk result (λ t. t ≡ record table.now { g = g }) }
+{
     let Ok(ctx) = table.ctx.copy(alloc) else {
-        return Err(GameNo::NoMemory);
+        drop(g);
+        return Err(NoMemory);
     };
     let Ok(active) = table.active.copy() else {
-        return Err(GameNo::NoMemory);
+        drop(g);
+        drop(ctx);
+        return Err(NoMemory);
     };
-    match run_event(alloc, game, Table { g, ctx, active }, seat, event, tape) {
-        Ok(after) => Ok(after),
-        Err(why) => Err(flow_answer(why)),
-    }
+    Ok(Table { g, ctx, active })
 }
 
 /// Whether there is no phase to end, no place of that seat in the play order, or no stage of the player's to end.

@@ -12,6 +12,7 @@ ghost use Rattle.reducer.specs.Acts.{flow_answer};
 ghost use Rattle.reducer.specs.Starts.{Starts, start_answer};
 ghost use Rattle.reducer.specs.Steps.{Steps, state_after};
 ghost use Rattle.stage_map.specs.Moves.{may};
+ghost use Rattle.game_sheet.specs.declared.ids.TheConstants.{MOST_ACTIONS};
 
 use crate::act::flow_answer;
 use crate::checkpoint::Checkpoint;
@@ -83,7 +84,7 @@ pub fn step<X: Game>(
     seat: Seat,
     act: &Act,
 ) -> Result<State<X::G>, GameNo>
-    requires room { state.now.number < 4096 }
+    requires room { state.now.number < MOST_ACTIONS }
     requires sound { IsSound (X.rules game.now) state.now }
     requires active { may state.now.table.ctx seat ≡ true }
     requires act { ActInSheet (X.rules game.now).sheet act.now }

@@ -14,7 +14,6 @@ mod way;
 
 pub use fold::{StartNo, start, step};
 pub use laws::matches_stay_sound;
-pub use machine::MOST_ACTIONS;
 pub use prepared::Prepared;
 pub use preparing::prepare;
 pub use state::State;

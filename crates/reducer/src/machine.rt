@@ -4,18 +4,16 @@ ghost use Rattle.std.specs.Prelude.{◌≡◌, ◌<◌, ℕ, IfOk, IfSome};
 ghost use Rattle.game_trait.specs.InSheet.{ActInSheet};
 ghost use Rattle.reducer.specs.Performs.{Performs};
 ghost use Rattle.reducer.specs.Walk.{Fits, InSheet, walked};
+ghost use Rattle.game_sheet.specs.declared.ids.TheConstants.{MOST_ACTIONS};
 
 use crate::act::act_on;
 use crate::checkpoint::{Checkpoint, Deed};
 use dice_words::Tape;
-use game_sheet::{Act, GameNo, NoMemory, Seat};
+use game_sheet::{Act, GameNo, MOST_ACTIONS, NoMemory, Seat};
 use game_trait::Game;
 use phase_flow::bounds_grow;
 use std::alloc::Global;
 use undo_redo::Machine;
-
-/// How many actions a match accepts at most.
-pub const MOST_ACTIONS: u32 = 4096;
 
 /// The machine of a game: an action of a seat leads from one checkpoint of a match to the next.
 ///
@@ -81,7 +79,7 @@ pub(crate) fn perform<X: Game>(
     seat: Seat,
     act: &Act,
 ) -> Result<Checkpoint<X::G>, GameNo>
-    requires room { from.now.count < 4096 }
+    requires room { from.now.count < MOST_ACTIONS }
     requires fits { Fits (X.rules game.now) from.now }
     requires seat { seat < from.now.table.ctx.seats }
     requires act { ActInSheet (X.rules game.now).sheet act.now }

@@ -10,6 +10,7 @@ ghost use Rattle.reducer.specs.Sound.{IsSound};
 ghost use Rattle.reducer.specs.Struck.{IsDeed};
 ghost use Rattle.reducer.specs.Walk.{InSheet, reached_at};
 ghost use Rattle.stage_map.specs.Moves.{may};
+ghost use Rattle.game_sheet.specs.declared.ids.TheConstants.{MOST_ACTIONS};
 
 use crate::checkpoint::{Checkpoint, Deed};
 use crate::machine::perform;
@@ -32,7 +33,7 @@ pub fn prepare<X: Game>(
     seat: Seat,
     act: &Act,
 ) -> Result<Prepared<X::G>, GameNo>
-    requires room { state.now.number < 4096 }
+    requires room { state.now.number < MOST_ACTIONS }
     requires sound { IsSound (X.rules game.now) state.now }
     requires active { may state.now.table.ctx seat ≡ true }
     requires act { ActInSheet (X.rules game.now).sheet act.now }
@@ -53,7 +54,7 @@ fn apply<X: Game>(
     seat: Seat,
     act: &Act,
 ) -> Result<Prepared<X::G>, GameNo>
-    requires room { state.now.number < 4096 }
+    requires room { state.now.number < MOST_ACTIONS }
     requires sound { IsSound (X.rules game.now) state.now }
     requires active { may state.now.table.ctx seat ≡ true }
     requires act { ActInSheet (X.rules game.now).sheet act.now }
@@ -76,7 +77,7 @@ fn undo<X: Game>(
     state: &State<X::G>,
     seat: Seat,
 ) -> Result<Prepared<X::G>, GameNo>
-    requires room { state.now.number < 4096 }
+    requires room { state.now.number < MOST_ACTIONS }
     requires sound { IsSound (X.rules game.now) state.now }
     requires active { may state.now.table.ctx seat ≡ true }
     ensures answer { Prepares (X.rules game.now) state.now seat Undo result }
@@ -103,7 +104,7 @@ fn redo<X: Game>(
     state: &State<X::G>,
     seat: Seat,
 ) -> Result<Prepared<X::G>, GameNo>
-    requires room { state.now.number < 4096 }
+    requires room { state.now.number < MOST_ACTIONS }
     requires sound { IsSound (X.rules game.now) state.now }
     requires active { may state.now.table.ctx seat ≡ true }
     ensures answer { Prepares (X.rules game.now) state.now seat Redo result }

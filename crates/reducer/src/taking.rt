@@ -6,6 +6,7 @@ ghost use Rattle.reducer.specs.Prepared.{IsReady};
 ghost use Rattle.reducer.specs.Sound.{IsSound};
 ghost use Rattle.reducer.specs.Steps.{state_after};
 ghost use Rattle.reducer.specs.Struck.{IsDeed};
+ghost use Rattle.game_sheet.specs.declared.ids.TheConstants.{MOST_ACTIONS};
 
 use crate::machine::Reducer;
 use crate::prepared::Prepared;
@@ -51,7 +52,7 @@ fn apply<X: Game>(game: &X, state: &mut State<X::G>, prepared: Prepared<X::G>)
 /// Takes in an undo.
 fn undo<X: Game>(game: &X, state: &mut State<X::G>)
     requires sound { IsSound (X.rules game.now) state.old }
-    requires room { state.old.number < 4096 }
+    requires room { state.old.number < MOST_ACTIONS }
     ensures after { (seat : ℕ) → state.new ≡ state_after (X.rules game.now) state.old (record { seat = seat; act = Undo }) }
     ensures sound { IsSound (X.rules game.now) state.new }
 {
@@ -63,7 +64,7 @@ fn undo<X: Game>(game: &X, state: &mut State<X::G>)
 /// Takes in a redo.
 fn redo<X: Game>(game: &X, state: &mut State<X::G>)
     requires sound { IsSound (X.rules game.now) state.old }
-    requires room { state.old.number < 4096 }
+    requires room { state.old.number < MOST_ACTIONS }
     ensures after { (seat : ℕ) → state.new ≡ state_after (X.rules game.now) state.old (record { seat = seat; act = Redo }) }
     ensures sound { IsSound (X.rules game.now) state.new }
 {

@@ -1,11 +1,12 @@
 use Rattle.std.proofs.Common.{ap}
 use Rattle.dice_words.specs.Strip.{Strip}
+use Rattle.game_sheet.specs.declared.ids.TheConstants.{MOST_ACTIONS}
 use Rattle.reducer.proofs.Performing.{breaks}
 use Rattle.reducer.proofs.machine.perform.Goals as goal
 
 pub act_on-requires-clause-sound : goal.act_on-requires-clause-sound
 act_on-requires-clause-sound g c =
-    c.bounds_grow.ensures (g.X.Game.rules c.args.game.now).sheet c.args.from.now.count 4096 c.args.from.now.table.ctx c.args.from.now.table.active c.requires.fits.count c.requires.fits.table
+    c.bounds_grow.ensures (g.X.Game.rules c.args.game.now).sheet c.args.from.now.count MOST_ACTIONS c.args.from.now.table.ctx c.args.from.now.table.active c.requires.fits.count c.requires.fits.table
 
 pub returns-in-Err-clause-answer : goal.returns-in-Err-clause-answer
 returns-in-Err-clause-answer g c =
