@@ -1,4 +1,4 @@
-// Reads the members of an object by name, each in one of a few forms. Nothing here takes memory.
+//! Reads the members of an object by name, each in one of a few forms. Nothing here takes memory.
 ghost use Rattle.std.specs.Prelude.{◌≡◌, map};
 ghost use Rattle.std.specs.Result.{result_map_both};
 ghost use Rattle.serde_json.specs.Find.{get};

@@ -1,4 +1,4 @@
-// Whether a value holds a float anywhere in it.
+//! Whether a value holds a float anywhere in it.
 ghost use Rattle.std.specs.Prelude.{◌≡◌};
 ghost use Rattle.serde_json.specs.View.{view, items_view, members_view};
 ghost use Rattle.serde_json.specs.Written.{has_float, items_have_float, members_have_float};

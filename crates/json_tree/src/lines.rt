@@ -1,4 +1,4 @@
-// Reads and writes lines: compact JSON objects without floats.
+//! Reads and writes lines: compact JSON objects without floats.
 ghost use Rattle.std.specs.Prelude.{◌≡◌, ◌<◌, ◌≤◌, ◌++◌, false, length, Some, Err, IfOk, IsUtf8};
 ghost use Rattle.serde_json.specs.Data.{depth};
 ghost use Rattle.serde_json.specs.Read.{read, max_depth};

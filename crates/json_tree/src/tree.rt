@@ -1,4 +1,4 @@
-// A JSON value without floats, which contracts see as its data.
+//! A JSON value without floats, which contracts see as its data.
 use crate::lines::LineNoMemory;
 use serde_json::Value;
 use std::marker::Model;
