@@ -38,22 +38,6 @@ an_object old (string s) ms e = absurd (cc)
 an_object old (array ds) ms e = absurd (cc)
 an_object old (object es) ms e = let same : es ≡ ms = cc in ap (λ x. object (changed_members old x)) same
 
-pub of_object : (d : Data) (ms : Members) → as_object d ≡ Some ms → d ≡ object ms
-of_object null ms e = absurd (cc)
-of_object (boolean b) ms e = absurd (cc)
-of_object (number n) ms e = absurd (cc)
-of_object (string s) ms e = absurd (cc)
-of_object (array ds) ms e = absurd (cc)
-of_object (object es) ms e = let same : es ≡ ms = cc in ap object same
-
-pub of_no_object : (d : Data) → as_object d ≡ None → members_in d ≡ no_members
-of_no_object null e = refl
-of_no_object (boolean b) e = refl
-of_no_object (number n) e = refl
-of_no_object (string s) e = refl
-of_no_object (array ds) e = refl
-of_no_object (object es) e = absurd (cc)
-
 -- ---- no floats
 
 pub float_free_in : (name : List ℕ) (d found : Data) → has_float d ≡ false → get name d ≡ Some found → has_float found ≡ false
@@ -115,7 +99,7 @@ in_order (e ∷ es) h = (above e es h.0, in_order es h.1)
     above e [] h = tt
     above e (x ∷ es) h = (h.0, above e es h.1)
 
-above_changed : (low : List ℕ) (old : Data) (ms : Members) → AreAbove low ms → AreAbove low (changed_members old ms)
+pub above_changed : (low : List ℕ) (old : Data) (ms : Members) → AreAbove low ms → AreAbove low (changed_members old ms)
 above_changed low old no_members h = tt
 above_changed low old (member k d ms) h = either (has_text_of d (get k old)) (above_changed low old ms h.1)
   where

@@ -7,3 +7,5 @@ pub mod RowLaws
 pub mod NumberLaws
 pub mod Readers
 pub mod SnapshotLaws
+pub mod Patching
+pub mod Patches
