@@ -1,5 +1,5 @@
 -- The first line of some bytes, and bytes that are made of lines.
-use Rattle.std.proofs.Common.{◌≡◌, ◌==◌, ◌++◌, ◌+◌, ◌<◌, ◌≤◌, ℕ, zero, suc, Bool, true, false, cond, List, [], ◌∷◌, length, map, take, drop, Option, Some, arith, refl, sym, ap, subst, ◌∙◌, eqb-true, length-drop, drop-drop}
+use Rattle.std.proofs.Common.{◌≡◌, ◌==◌, ◌++◌, ◌+◌, ◌<◌, ◌≤◌, ℕ, zero, suc, Bool, true, false, cond, List, [], ◌∷◌, length, map, take, drop, Some, arith, refl, sym, ap, subst, ◌∙◌, eqb-true, length-drop, drop-drop}
 use Rattle.std.specs.Prelude.{slice_get}
 use Rattle.std.specs.List.{concat, list_all, onto_first}
 use Rattle.std.proofs.lemmas.Bool.{true≢false}

@@ -1,5 +1,5 @@
 -- A sheet that breaks no rule fits, fact by fact.
-use Rattle.std.proofs.Common.{◌≡◌, ◌≢◌, ◌==◌, ◌&&◌, ℕ, ◌+◌, ◌<◌, ◌≤◌, Bool, true, false, not, nat_le, nat_lt, Option, Some, List, length, All, arith, refl, sym, ap, subst, zero-add, ◌∙◌}
+use Rattle.std.proofs.Common.{◌≡◌, ◌≢◌, ◌==◌, ◌&&◌, ℕ, ◌<◌, Bool, true, not, nat_lt, Option, Some, List, length, All, arith, refl, sym, ap, subst, zero-add, ◌∙◌}
 use Rattle.std.specs.Prelude.{slice_get, count_by}
 use Rattle.std.specs.List.{list_all, enumerate_from}
 use Rattle.std.specs.Char.{is_ascii_alphanumeric}
@@ -8,10 +8,10 @@ use Rattle.std.proofs.lemmas.Bool.{eqb-true, leb-true, ltb-true, true≢false}
 use Rattle.std.proofs.lemmas.Slice.Eq.{bytes_eq-Decides}
 use Rattle.game_sheet.proofs.Passing.{all_at, all_kept, both, each_of, enumerated, given_at, one_place}
 use Rattle.game_sheet.specs.SheetFits.{AreMoves, IsName, LimitsFit, NamesFit, PhaseFits, PlaceFits, SeatsFit, SheetFits, SpecFits, StageFits, TurnFits}
-use Rattle.game_sheet.specs.SheetRules.{are_distinct, are_named, broken, is_limit, is_name, is_once, is_there, kept, list_fits, lists_fit, moves_fit, name_fits, nexts_fit, order_fits, orders_fit, phases_fit, place_fits, seats_fit, spec_fits, specs_fit, stages_fit, turn_fits, turns_fit, where_given}
+use Rattle.game_sheet.specs.SheetRules.{are_distinct, are_named, broken, is_limit, is_name, is_once, is_there, kept, list_fits, lists_fit, moves_fit, nexts_fit, order_fits, orders_fit, phases_fit, place_fits, seats_fit, spec_fits, specs_fit, stages_fit, turn_fits, turns_fit, where_given}
 use Rattle.game_sheet.specs.declared.sheet.MoveRow.{MoveRow}
 use Rattle.game_sheet.specs.declared.sheet.Order.{Order}
-use Rattle.game_sheet.specs.declared.sheet.Order.TheVariants.{Once, Custom}
+use Rattle.game_sheet.specs.declared.sheet.Order.TheVariants.{Once}
 use Rattle.game_sheet.specs.declared.sheet.PhaseRow.{PhaseRow}
 use Rattle.game_sheet.specs.declared.sheet.Place.{Place}
 use Rattle.game_sheet.specs.declared.sheet.Sheet.{Sheet}

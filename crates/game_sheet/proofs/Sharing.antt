@@ -1,9 +1,9 @@
 -- The lines of bytes that stand in shared lines are these.
-use Rattle.std.proofs.Common.{◌≡◌, ◌<◌, ℕ, Bool, true, List, length, map, get_or, Option, Some, option_map, sym, ap, ◌∙◌}
+use Rattle.std.proofs.Common.{◌≡◌, ◌<◌, ℕ, true, List, length, map, get_or, Some, option_map, sym, ap, ◌∙◌}
 use Rattle.std.specs.Prelude.{slice_get}
 use Rattle.std.proofs.lemmas.Option.{slice_get-map, slice_get-get_or}
 use Rattle.game_sheet.specs.Held.{are_lines, bytes_held}
-use Rattle.game_sheet.specs.Lines.{is_line, lines}
+use Rattle.game_sheet.specs.Lines.{lines}
 use Rattle.game_sheet.specs.declared.bytes.Held.{Held}
 use Rattle.game_sheet.specs.declared.bytes.Held.TheVariants.{Owned, Fixed, Shared, InPlace}
 use Rattle.game_sheet.proofs.Cut.{lines_of}

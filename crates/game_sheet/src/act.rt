@@ -75,7 +75,7 @@ pub enum Event {
 }
 
 /// The kinds of event that a sheet may allow its players.
-#[derive(Clone, Copy, PartialEq, Eq, Debug)]
+#[derive(Clone, Copy, PartialEq, Eq)]
 pub enum EventKind {
     /// Ends the turn.
     EndTurn,

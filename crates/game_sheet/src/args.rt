@@ -6,7 +6,7 @@ use crate::short::Short;
 use std::marker::Model;
 
 /// One argument: a whole number of 32 bits with sign, or a short text.
-#[derive(Clone, Copy, PartialEq, Eq, Debug)]
+#[derive(Clone, Copy, PartialEq, Eq)]
 pub enum Arg {
     /// A whole number.
     Whole(i32),

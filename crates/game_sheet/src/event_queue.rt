@@ -13,7 +13,7 @@ pub struct EventQueue {
 }
 
 /// A seventeenth event was queued.
-#[derive(Clone, Copy, PartialEq, Eq, Debug)]
+#[derive(Clone, Copy, PartialEq, Eq)]
 pub struct Crowded;
 
 impl Model for EventQueue {

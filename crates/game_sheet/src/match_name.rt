@@ -6,7 +6,7 @@ ghost use Rattle.game_sheet.specs.MatchName.{Name};
 use std::marker::Model;
 
 /// A room from 0 to 63 and a serial from 1, which the type keeps.
-#[derive(Clone, Copy, PartialEq, Eq, Debug)]
+#[derive(Clone, Copy, PartialEq, Eq)]
 pub struct MatchName {
     room: u8,
     serial: u64,

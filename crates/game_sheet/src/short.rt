@@ -8,7 +8,7 @@ use std::marker::Model;
 use std::str;
 
 /// A text of at most 64 bytes of UTF-8, none of them below 32. Contracts see its bytes.
-#[derive(Clone, Copy, PartialEq, Eq, Debug)]
+#[derive(Clone, Copy, PartialEq, Eq)]
 pub struct Short {
     bytes: [u8; 64],
     len: usize,

@@ -1,4 +1,4 @@
-use Rattle.std.proofs.Common.{arith, ap, subst, length, map, sym, ◌<◌, Some, ◌∙◌}
+use Rattle.std.proofs.Common.{arith, ap, subst, length, sym, ◌<◌, Some, ◌∙◌}
 use Rattle.std.proofs.lemmas.List.{length-map}
 use Rattle.std.specs.Prelude.{slice_get}
 use Rattle.game_sheet.specs.Lines.{lines}
