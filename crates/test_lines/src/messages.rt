@@ -13,7 +13,7 @@ use std::alloc::Global;
 use std::process::Abort;
 use std::test::Fail;
 use wire_json::{
-    Asked, AskedTo, ClientMsg, Reason, ServerMsg, Submission, WireNo, key_of, match_of,
+    Asked, AskedTo, ClientMsg, Protocol, Reason, ServerMsg, Submission, WireNo, key_of, match_of,
     read_client, read_server, resolve, write_client, write_server,
 };
 
@@ -246,6 +246,7 @@ fn sync_line(alloc: Global) -> Result<Vec<u8>, NoMemory> {
     let message = ClientMsg::Sync {
         name: MatchName::new(0, 1),
         viewer: Some((1, ten())),
+        protocol: Protocol::One,
     };
     let line = write_client(alloc, &message);
     drop(message);

@@ -10,70 +10,157 @@ use Rattle.json_tree.specs.Steps.{◌>>=◌}
 use Rattle.json_tree.specs.declared.fields.FieldFault.{FieldFault}
 use Rattle.json_tree.specs.declared.lines.LineFault.{LineFault}
 use Rattle.game_sheet.specs.MatchName.{Name}
-use Rattle.wire_json.specs.Acts.{act_in}
 use Rattle.sheet_json.specs.Seats.{or_null}
-use Rattle.wire_json.specs.ClientReading.{match_in, key_in, key_of_seat_in, viewer_of, sync_in, client_act_in, client_as, client_in, client_read}
+use Rattle.wire_json.specs.Acts.{act_in, text_within}
+use Rattle.wire_json.specs.ClientReading.{match_in, key_in, key_of_seat_in, protocol_in, place_in, player_in, stamp_in, sync_in, client_act_in, takeover_in, games_in, matches_in, look_in, create_in, join_in, rename_in, leave_in, lobby_as, client_as, client_in, client_read}
 use Rattle.wire_json.specs.Refusals.{Refusal, Field, UnknownMessage, ExtraField, Gives, Refuses, at_field, of_line}
 use Rattle.wire_json.specs.RefusalText.{member_from, IsAnswerable}
-use Rattle.wire_json.specs.declared.asked.Asked.{Asked}
 use Rattle.wire_json.specs.declared.client.ClientMsg.{ClientMsg}
-use Rattle.wire_json.specs.declared.client.ClientMsg.TheVariants.{Sync, Act}
 use Rattle.wire_json.specs.declared.wire_no.WireNo.{WireNo}
 use Rattle.wire_json.specs.declared.wire_no.WireNo.TheVariants as no
 
+-- a refusal points at the member
+abbrev Named : List ℕ → Type 0
+Named name = IsSome (member_from name)
+
 -- a fault in a member is in one that a refusal points at
-abbrev IsNamed : Result ClientMsg Refusal → Type 0
-IsNamed read = (name : List ℕ) (fault : FieldFault) → read ≡ Err (Field name fault) → IsSome (member_from name)
+abbrev IsNamed : {A : Type 0} → Result A Refusal → Type 0
+IsNamed read = (n : List ℕ) (f : FieldFault) → read ≡ Err (Field n f) → Named n
 
-read_named : (m : ClientMsg) → IsNamed (Ok m)
-read_named m n f e = absurd (cc)
+-- ---- steps
 
-field_named : (name : List ℕ) (fault : FieldFault) → IsSome (member_from name) → IsNamed (Err (Field name fault))
-field_named name fault h n f e = let same : name ≡ n = cc in subst (λ s. IsSome (member_from s)) same h
+never : {A : Type 0} (x : A) (n : List ℕ) (f : FieldFault) → Ok x ≡ Err (Field n f) → Named n
+never x n f e = absurd (cc)
 
-past_named : (b : Bool) (rest : Result ClientMsg Refusal) → IsNamed rest → IsNamed (cond b (Err ExtraField) rest)
-past_named true rest h n f e = absurd (cc)
-past_named false rest h n f e = h n f e
+member_step : {A B : Type 0} (name : List ℕ) (read : Result A FieldFault) (next : A → Result B Refusal) (n : List ℕ) (f : FieldFault) → (at_field name read >>= next) ≡ Err (Field n f) → Named name
+    → ((x : A) → next x ≡ Err (Field n f) → Named n) → Named n
+member_step name (Ok x) next n f e h later = later x e
+member_step name (Err fault) next n f e h later = let same : name ≡ n = cc in subst Named same h
 
-sync_by : (key : Result (Option (List ℕ)) FieldFault) (name : Result Name FieldFault) (seat : Result (Option ℕ) FieldFault)
-    → IsNamed (at_field (codes "key") key >>= λ k. at_field (codes "match") name >>= λ m. at_field (codes "seat") seat >>= λ s. Ok (Sync m (viewer_of k s)))
-sync_by (Err fault) name seat = field_named (codes "key") fault refl
-sync_by (Ok k) (Err fault) seat = field_named (codes "match") fault refl
-sync_by (Ok k) (Ok m) (Err fault) = field_named (codes "seat") fault refl
-sync_by (Ok k) (Ok m) (Ok s) = read_named (Sync m (viewer_of k s))
+then_step : {A B : Type 0} (read : Result A Refusal) (next : A → Result B Refusal) (n : List ℕ) (f : FieldFault) → (read >>= next) ≡ Err (Field n f) → IsNamed read
+    → ((x : A) → next x ≡ Err (Field n f) → Named n) → Named n
+then_step (Ok x) next n f e h later = later x e
+then_step (Err refusal) next n f e h later = h n f (cc (e))
 
-sync_named : (d : Data) → IsNamed (sync_in d)
-unfolding sync_in
-sync_named d =
-    past_named (extra_in (codes "key" ∷ codes "match" ∷ codes "seat" ∷ codes "type" ∷ []) d) _
-    (sync_by (key_of_seat_in (or_null (natural_in 255) (get (codes "seat") d)) (get (codes "key") d)) (match_in (get (codes "match") d)) (or_null (natural_in 255) (get (codes "seat") d)))
+past_step : {A : Type 0} (b : Bool) (rest : Result A Refusal) (n : List ℕ) (f : FieldFault) → cond b (Err ExtraField) rest ≡ Err (Field n f) → (rest ≡ Err (Field n f) → Named n) → Named n
+past_step true rest n f e later = absurd (cc)
+past_step false rest n f e later = later e
 
-act_by : (act : Result Asked FieldFault) (key : Result (List ℕ) FieldFault) (name : Result Name FieldFault) (at ticket : Result ℕ FieldFault)
-    → IsNamed (at_field (codes "act") act >>= λ a. at_field (codes "key") key >>= λ k. at_field (codes "match") name >>= λ m. at_field (codes "number") at >>= λ n. at_field (codes "ticket") ticket >>= λ t. Ok (Act (record { name = m; key = k; number = n; ticket = t; asked = a })))
-act_by (Err fault) key name at ticket = field_named (codes "act") fault refl
-act_by (Ok a) (Err fault) name at ticket = field_named (codes "key") fault refl
-act_by (Ok a) (Ok k) (Err fault) at ticket = field_named (codes "match") fault refl
-act_by (Ok a) (Ok k) (Ok m) (Err fault) ticket = field_named (codes "number") fault refl
-act_by (Ok a) (Ok k) (Ok m) (Ok n) (Err fault) = field_named (codes "ticket") fault refl
-act_by (Ok a) (Ok k) (Ok m) (Ok n) (Ok t) = read_named (Act (record { name = m; key = k; number = n; ticket = t; asked = a }))
-
-act_named : (d : Data) → IsNamed (client_act_in d)
-unfolding client_act_in
-act_named d =
-    past_named (extra_in (codes "act" ∷ codes "key" ∷ codes "match" ∷ codes "number" ∷ codes "ticket" ∷ codes "type" ∷ []) d) _
-    (act_by (act_in (get (codes "act") d)) (key_in (get (codes "key") d)) (match_in (get (codes "match") d)) (natural_in 4294967295 (get (codes "number") d)) (natural_in 4294967295 (get (codes "ticket") d)))
-
-either_named : (b : Bool) (x y : Result ClientMsg Refusal) → IsNamed x → IsNamed y → IsNamed (cond b x y)
+either_named : {A : Type 0} (b : Bool) (x y : Result A Refusal) → IsNamed x → IsNamed y → IsNamed (cond b x y)
 either_named true x y h k = h
 either_named false x y h k = k
 
-unknown_named : IsNamed (Err UnknownMessage)
-unknown_named n f e = absurd (cc)
+-- ---- rows
+
+place_named : (d : Data) → IsNamed (place_in d)
+place_named d n f e = member_step (codes "match") (match_in (get (codes "match") d)) _ n f e refl λ name e1. member_step (codes "seat") (natural_in 255 (get (codes "seat") d)) _ n f e1 refl λ seat e2. never _ n f e2
+
+player_named : (d : Data) → IsNamed (player_in d)
+player_named d n f e =
+    member_step (codes "match") (match_in (get (codes "match") d)) _ n f e refl λ name e1.
+    member_step (codes "name") (text_within 0 255 (get (codes "name") d)) _ n f e1 refl λ player e2.
+    member_step (codes "seat") (natural_in 255 (get (codes "seat") d)) _ n f e2 refl λ seat e3.
+    never _ n f e3
+
+stamp_named : (d : Data) → IsNamed (stamp_in d)
+stamp_named d n f e =
+    member_step (codes "key") (key_in (get (codes "key") d)) _ n f e refl λ key e1.
+    member_step (codes "match") (match_in (get (codes "match") d)) _ n f e1 refl λ name e2.
+    member_step (codes "number") (natural_in 4294967295 (get (codes "number") d)) _ n f e2 refl λ at e3.
+    member_step (codes "ticket") (natural_in 4294967295 (get (codes "ticket") d)) _ n f e3 refl λ ticket e4.
+    never _ n f e4
+
+sync_named : (d : Data) → IsNamed (sync_in d)
+unfolding sync_in
+sync_named d n f e =
+    past_step (extra_in (codes "key" ∷ codes "match" ∷ codes "protocol" ∷ codes "seat" ∷ codes "type" ∷ []) d) _ n f e λ e0.
+    member_step (codes "key") (key_of_seat_in (or_null (natural_in 255) (get (codes "seat") d)) (get (codes "key") d)) _ n f e0 refl λ key e1.
+    member_step (codes "match") (match_in (get (codes "match") d)) _ n f e1 refl λ name e2.
+    member_step (codes "protocol") (protocol_in (get (codes "protocol") d)) _ n f e2 refl λ protocol e3.
+    member_step (codes "seat") (or_null (natural_in 255) (get (codes "seat") d)) _ n f e3 refl λ seat e4.
+    never _ n f e4
+
+act_named : (d : Data) → IsNamed (client_act_in d)
+unfolding client_act_in
+act_named d n f e =
+    past_step (extra_in (codes "act" ∷ codes "key" ∷ codes "match" ∷ codes "number" ∷ codes "ticket" ∷ codes "type" ∷ []) d) _ n f e λ e0.
+    member_step (codes "act") (act_in (get (codes "act") d)) _ n f e0 refl λ asked e1.
+    then_step (stamp_in d) _ n f e1 (stamp_named d) λ stamp e2.
+    never _ n f e2
+
+takeover_named : (d : Data) → IsNamed (takeover_in d)
+unfolding takeover_in
+takeover_named d n f e =
+    past_step (extra_in (codes "match" ∷ codes "seat" ∷ codes "type" ∷ []) d) _ n f e λ e0.
+    then_step (place_in d) _ n f e0 (place_named d) λ place e1.
+    never _ n f e1
+
+games_named : (d : Data) → IsNamed (games_in d)
+unfolding games_in
+games_named d n f e =
+    past_step (extra_in (codes "type" ∷ []) d) _ n f e λ e0.
+    never _ n f e0
+
+matches_named : (d : Data) → IsNamed (matches_in d)
+unfolding matches_in
+matches_named d n f e =
+    past_step (extra_in (codes "game" ∷ codes "type" ∷ []) d) _ n f e λ e0.
+    member_step (codes "game") (text_within 1 32 (get (codes "game") d)) _ n f e0 refl λ game e1.
+    never _ n f e1
+
+look_named : (d : Data) → IsNamed (look_in d)
+unfolding look_in
+look_named d n f e =
+    past_step (extra_in (codes "match" ∷ codes "type" ∷ []) d) _ n f e λ e0.
+    member_step (codes "match") (match_in (get (codes "match") d)) _ n f e0 refl λ name e1.
+    never _ n f e1
+
+create_named : (d : Data) → IsNamed (create_in d)
+unfolding create_in
+create_named d n f e =
+    past_step (extra_in (codes "game" ∷ codes "seats" ∷ codes "type" ∷ []) d) _ n f e λ e0.
+    member_step (codes "game") (text_within 1 32 (get (codes "game") d)) _ n f e0 refl λ game e1.
+    member_step (codes "seats") (natural_in 255 (get (codes "seats") d)) _ n f e1 refl λ seats e2.
+    never _ n f e2
+
+join_named : (d : Data) → IsNamed (join_in d)
+unfolding join_in
+join_named d n f e =
+    past_step (extra_in (codes "match" ∷ codes "name" ∷ codes "seat" ∷ codes "type" ∷ []) d) _ n f e λ e0.
+    then_step (player_in d) _ n f e0 (player_named d) λ player e1.
+    never _ n f e1
+
+rename_named : (d : Data) → IsNamed (rename_in d)
+unfolding rename_in
+rename_named d n f e =
+    past_step (extra_in (codes "key" ∷ codes "match" ∷ codes "name" ∷ codes "seat" ∷ codes "type" ∷ []) d) _ n f e λ e0.
+    member_step (codes "key") (key_in (get (codes "key") d)) _ n f e0 refl λ key e1.
+    then_step (player_in d) _ n f e1 (player_named d) λ player e2.
+    never _ n f e2
+
+leave_named : (d : Data) → IsNamed (leave_in d)
+unfolding leave_in
+leave_named d n f e =
+    past_step (extra_in (codes "key" ∷ codes "match" ∷ codes "seat" ∷ codes "type" ∷ []) d) _ n f e λ e0.
+    member_step (codes "key") (key_in (get (codes "key") d)) _ n f e0 refl λ key e1.
+    then_step (place_in d) _ n f e1 (place_named d) λ place e2.
+    never _ n f e2
+
+-- ---- any message
+
+unknown_named : {A : Type 0} (read : Result A Refusal) → read ≡ Err UnknownMessage → IsNamed read
+unknown_named read is n f e = absurd (cc)
+
+lobby_named : (kind : List ℕ) (d : Data) → IsNamed (lobby_as kind d)
+lobby_named kind d =
+    either_named (bytes_eq kind (codes "create")) _ _ (create_named d) (either_named (bytes_eq kind (codes "games")) _ _ (games_named d) (either_named (bytes_eq kind (codes "join")) _ _ (join_named d)
+    (either_named (bytes_eq kind (codes "leave")) _ _ (leave_named d) (either_named (bytes_eq kind (codes "look")) _ _ (look_named d) (either_named (bytes_eq kind (codes "matches")) _ _ (matches_named d)
+    (either_named (bytes_eq kind (codes "rename")) _ _ (rename_named d) (unknown_named (Err UnknownMessage) refl)))))))
 
 as_named : (kind : Result (List ℕ) FieldFault) (d : Data) → IsNamed (client_as kind d)
-as_named (Err fault) d = unknown_named
+as_named (Err fault) d = unknown_named (Err UnknownMessage) refl
 as_named (Ok kind) d =
-    either_named (bytes_eq kind (codes "act")) _ _ (act_named d) (either_named (bytes_eq kind (codes "sync")) _ _ (sync_named d) unknown_named)
+    either_named (bytes_eq kind (codes "act")) _ _ (act_named d) (either_named (bytes_eq kind (codes "sync")) _ _ (sync_named d) (either_named (bytes_eq kind (codes "takeover")) _ _ (takeover_named d) (lobby_named kind d)))
 
 in_named : (d : Data) → IsNamed (client_in d)
 unfolding client_in

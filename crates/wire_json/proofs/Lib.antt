@@ -1,5 +1,7 @@
 pub mod MatchTexts
 pub mod KeyTexts
+pub mod Texts
+pub mod Appending
 pub mod FieldLaws
 pub mod ActLaws
 pub mod ClientLaws

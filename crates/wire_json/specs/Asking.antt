@@ -1,5 +1,5 @@
 -- The member `act` of a client's line: a move, an event, an undo or a redo, by names.
-use Rattle.std.specs.Prelude.{◌≤◌, ℕ, List, length, codes}
+use Rattle.std.specs.Prelude.{◌≤◌, ℕ, List, length, codes, IsUtf8}
 use Rattle.serde_json.specs.Data.{Data, null, number, string, array, unsigned, Members, no_members, member}
 use Rattle.game_sheet.specs.EventNames.{event_text}
 use Rattle.sheet_json.specs.Arguments.{arguments, AreArguments}
@@ -15,8 +15,11 @@ aim Nothing = null
 aim (Seat seat) = number (unsigned seat)
 aim (Name name) = string name
 
+abbrev pub from_kind : List ℕ → Members
+from_kind name = member (codes "kind") (string (codes "move")) (member (codes "move") (string name) no_members)
+
 abbrev pub asked_members : Asked → Members
-asked_members (Move name args) = member (codes "args") (array (arguments args)) (member (codes "kind") (string (codes "move")) (member (codes "move") (string name) no_members))
+asked_members (Move name args) = member (codes "args") (array (arguments args)) (from_kind name)
 asked_members (Event kind to) = member (codes "event") (string (event_text kind)) (member (codes "kind") (string (codes "event")) (member (codes "to") (aim to) no_members))
 asked_members Undo = member (codes "kind") (string (codes "undo")) no_members
 asked_members Redo = member (codes "kind") (string (codes "redo")) no_members
@@ -57,3 +60,15 @@ IsAskable (Move name args) = IsWord name
 IsAskable (Event kind to) = MayAim kind to
 IsAskable Undo = Unit {0}
 IsAskable Redo = Unit {0}
+
+-- what every name is, since the types hold texts
+abbrev pub AimIsUtf8 : AskedTo → Type 0
+AimIsUtf8 Nothing = Unit {0}
+AimIsUtf8 (Seat seat) = Unit {0}
+AimIsUtf8 (Name name) = IsUtf8 name
+
+abbrev pub AskedIsUtf8 : Asked → Type 0
+AskedIsUtf8 (Move name args) = IsUtf8 name
+AskedIsUtf8 (Event kind to) = AimIsUtf8 to
+AskedIsUtf8 Undo = Unit {0}
+AskedIsUtf8 Redo = Unit {0}

@@ -26,8 +26,8 @@ pub fn match_of(text: &str) -> Option<MatchName>
     let Some((room, serial)) = text.split_once('-') else {
         return None;
     };
-    let room = number_of(room)?;
-    let serial = number_of(serial)?;
+    let room = decimal_of(room)?;
+    let serial = decimal_of(serial)?;
     if room <= 63 && 1 <= serial {
         Some(MatchName::new(room as u8, serial))
     } else {
@@ -35,9 +35,9 @@ pub fn match_of(text: &str) -> Option<MatchName>
     }
 }
 
-// The number that the text writes in decimal, without a sign or a leading zero.
+/// The number below 2^64 that a text writes in decimal, without a sign or a leading zero.
 #[tactic(auto, using(crate::proofs::MatchTexts::number_parsed), unfolding(crate::specs::MatchText::number_from))]
-fn number_of(text: &str) -> Option<u64>
+pub fn decimal_of(text: &str) -> Option<u64>
     ensures { result ≡ number_from text.now }
 {
     if is_decimal(text.as_bytes()) {

@@ -13,10 +13,11 @@ ghost use Rattle.wire_json.specs.Refusals.{Gives, at_field};
 use crate::key_text::key_of;
 use crate::match_text::match_of;
 use crate::wire_no::WireNo;
-use game_sheet::{Key, MatchName};
+use game_sheet::{Key, MatchName, Text};
 use json_tree::{FieldFault, natural_of, text_of};
 use serde_json::Value;
 use sheet_json::is_null;
+use std::alloc::Global;
 
 /// The text of the member, of `lo` to `hi` bytes.
 pub fn short_text_of<'v>(
@@ -32,6 +33,25 @@ pub fn short_text_of<'v>(
         Ok(text)
     } else {
         Err(FieldFault::OutOfRange)
+    }
+}
+
+/// The text of the member, of `lo` to `hi` bytes, or the member's fault.
+pub fn text_at(
+    alloc: Global,
+    value: &Value,
+    name: &'static str,
+    lo: usize,
+    hi: usize,
+) -> Result<Text, WireNo>
+    ensures { Gives result (at_field name.now (text_within lo hi (get name.now (view value.now)))) }
+{
+    match short_text_of(value, name, lo, hi) {
+        Ok(text) => match Text::from_str(alloc, text) {
+            Ok(text) => Ok(text),
+            Err(_) => Err(WireNo::NoMemory),
+        },
+        Err(fault) => Err(WireNo::Field { name, fault }),
     }
 }
 
@@ -84,6 +104,14 @@ pub fn key_or_null_of(value: &Value, name: &str) -> Result<Option<Key>, FieldFau
     }
     let key = key_member_of(value, name)?;
     Ok(Some(key))
+}
+
+/// The number from 0 to 255 that the member holds.
+pub fn small_number_of(value: &Value, name: &str) -> Result<u8, FieldFault>
+    ensures { result ≡ natural_in 255 (get name.now (view value.now)) }
+{
+    let number = natural_of(value, name, 255)?;
+    Ok(number as u8)
 }
 
 /// The number of 32 bits that the member holds.

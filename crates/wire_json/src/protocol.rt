@@ -3,8 +3,8 @@
 /// How a session is told of each accepted action.
 #[derive(Clone, Copy, PartialEq, Eq, Debug)]
 pub enum Protocol {
-    /// By an update with the whole context and state.
+    /// By an update with the whole context and state. A sync that names no protocol asks for it.
     One,
-    /// By the members alone that have changed. No client's line asks for it yet.
+    /// By a change line, which has the members alone that have changed.
     Two,
 }

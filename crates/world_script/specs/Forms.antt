@@ -9,17 +9,19 @@ use Rattle.wire_json.specs.ClientReading.{client_read}
 use Rattle.wire_json.specs.Refusals.{Refusal}
 use Rattle.wire_json.specs.declared.client.ClientMsg.{ClientMsg}
 use Rattle.wire_json.specs.declared.client.ClientMsg.TheVariants as message
+use Rattle.wire_json.specs.declared.protocol.Protocol.TheVariants.{One}
 use Rattle.world_script.specs.Commands.{Said, Passed, Open, Say, Take, Detach, Seed, command}
 use Rattle.world_script.specs.MatchSeed.{match_seed}
 use Rattle.world_script.specs.declared.stage.Stage.{Stage}
 use Rattle.world_script.specs.declared.stage.Step.{Step}
 use Rattle.world_script.specs.declared.stage.Step.TheVariants.{Nothing, Seeds, Opens, Unread, Syncs, Acts, Takes, Detaches}
 
--- a session's line is in form where it is a message
+-- a session's line is in form where it asks for a stream of protocol 1 or for an action
 abbrev pub step_of_message : ℕ → Result ClientMsg Refusal → Option Step
 step_of_message session (Err refusal) = None
-step_of_message session (Ok (message.Sync name viewer)) = Some (Syncs session name viewer)
+step_of_message session (Ok (message.Sync name viewer One)) = Some (Syncs session name viewer)
 step_of_message session (Ok (message.Act s)) = Some (Acts session s)
+step_of_message session (Ok other) = None
 
 -- `was_read` says whether there was memory to read the line; where there was none, whatever it holds is in form
 abbrev pub step_of_line : Bool → ℕ → List ℕ → Option Step

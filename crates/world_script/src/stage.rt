@@ -12,7 +12,7 @@ use any_game::{AnyGame, by_name};
 use game_sheet::{MatchName, NoMemory, Viewer};
 use game_trait::Game;
 use std::alloc::Global;
-use wire_json::{ClientMsg, Submission, WireNo, read_client};
+use wire_json::{ClientMsg, Protocol, Submission, WireNo, read_client};
 
 /// What the lines so far have come to.
 #[derive(Clone, Copy)]
@@ -165,27 +165,35 @@ fn says(alloc: Global, stage: Stage, session: u8, line: &[u8]) -> Option<Step>
         return None;
     }
     match read_client(alloc, line) {
-        Ok(message) => Some(asks(session, message)),
+        Ok(message) => asks(session, message),
         Err(WireNo::NoMemory) => Some(Step::Unread { session }),
         Err(_) => None,
     }
 }
 
-/// What a session's message asks for.
-fn asks(session: u8, message: ClientMsg) -> Step
-    ensures form { Some result ≡ step_of_message session (Ok message) }
-    ensures read { may_be_read (Some result) ≡ true }
+/// What a session's message asks for; none where it is neither a sync of protocol 1 nor an act.
+fn asks(session: u8, message: ClientMsg) -> Option<Step>
+    ensures form { result ≡ step_of_message session (Ok message) }
+    ensures read { may_be_read result ≡ true }
 {
     match message {
-        ClientMsg::Sync { name, viewer } => Step::Syncs {
+        ClientMsg::Sync {
+            name,
+            viewer,
+            protocol: Protocol::One,
+        } => Some(Step::Syncs {
             session,
             name,
             viewer,
-        },
-        ClientMsg::Act(submission) => Step::Acts {
+        }),
+        ClientMsg::Act(submission) => Some(Step::Acts {
             session,
             submission,
-        },
+        }),
+        other => {
+            drop(other);
+            None
+        }
     }
 }
 
