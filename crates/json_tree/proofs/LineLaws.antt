@@ -1,6 +1,6 @@
 -- What `line_read` is in each case, and what it says of the line.
-use Rattle.std.proofs.Common.{◌≡◌, ℕ, ◌<◌, ◌≤◌, List, [], ◌∷◌, ◌++◌, length, lit<, Bool, true, false, cond, Option, Some, None, Ok, Err, is_some, refl, ap, ◌∙◌, subst}
-use Rattle.std.proofs.lemmas.Bool.{ltb-false, lt-ltb, le-ltb, true≢false, false≢true}
+use Rattle.std.proofs.Common.{◌≡◌, ℕ, ◌≤◌, List, [], ◌∷◌, ◌++◌, length, lit<, Bool, true, false, cond, Option, Some, None, Ok, Err, is_some, refl, ap, ◌∙◌, subst}
+use Rattle.std.proofs.lemmas.Bool.{ltb-false, le-ltb, true≢false, false≢true}
 use Rattle.std.proofs.lemmas.Str.{encode_ascii, IsUtf8-from_is_utf8, is_utf8-from_IsUtf8}
 use Rattle.std.specs.Prelude.{nat_lt, IsUtf8, Result}
 use Rattle.std.specs.Str.{is_utf8}
