@@ -20,9 +20,9 @@ use Rattle.sheet_json.specs.Arguments.{arguments}
 use Rattle.sheet_json.specs.Seats.{natural, natural_or_null}
 use Rattle.sheet_json.proofs.ArgumentLaws.{flat}
 use Rattle.player_sight.specs.Parts.{text_or_null, move_name, phase_or_null, stage_or_null}
-use Rattle.player_sight.specs.EntryData.{event_data, act_data, entry_data, log_data}
+use Rattle.player_sight.specs.EntryData.{event_aim, event_data, act_data, entry_data, log_data}
 use Rattle.player_sight.specs.CtxData.{with_row, active_data, over_data, ctx_data}
-use Rattle.player_sight.specs.SnapshotData.{snapshot_object}
+use Rattle.player_sight.specs.SnapshotData.{Snap, snapshot_data}
 
 above_zero : (m : ℕ) → 0 ≤ m
 above_zero m = omega arith
@@ -59,14 +59,17 @@ of_naturals (n ∷ ns) = max-le (above_zero 0) (of_naturals ns)
 of_arguments : (args : List Arg) → items_depth (arguments args) ≤ 0
 of_arguments args = subst (λ n. n ≤ 0) (sym (flat args)) (above_zero 0)
 
+of_aim : (sheet : Sheet) (e : event.Event) (m : ℕ) → depth (event_aim sheet e) ≤ m
+of_aim sheet (EndTurn to) m = of_natural to m
+of_aim sheet EndPhase m = above_zero m
+of_aim sheet (SetPhase to) m = of_phase sheet (Some to) m
+of_aim sheet EndStage m = above_zero m
+of_aim sheet (SetStage to) m = of_stage sheet (Some to) m
+of_aim sheet (SetActive spec) m = above_zero m
+of_aim sheet (EndGame outcome) m = above_zero m
+
 of_event : (sheet : Sheet) (e : event.Event) → depth (event_data sheet e) ≤ 1
-of_event sheet (EndTurn to) = one_more _ _ (max-le (above_zero 0) (max-le (above_zero 0) (max-le (of_natural to 0) (above_zero 0))))
-of_event sheet EndPhase = one_more _ _ (max-le (above_zero 0) (max-le (above_zero 0) (max-le (above_zero 0) (above_zero 0))))
-of_event sheet (SetPhase to) = one_more _ _ (max-le (above_zero 0) (max-le (above_zero 0) (max-le (of_phase sheet (Some to) 0) (above_zero 0))))
-of_event sheet EndStage = one_more _ _ (max-le (above_zero 0) (max-le (above_zero 0) (max-le (above_zero 0) (above_zero 0))))
-of_event sheet (SetStage to) = one_more _ _ (max-le (above_zero 0) (max-le (above_zero 0) (max-le (of_stage sheet (Some to) 0) (above_zero 0))))
-of_event sheet (SetActive spec) = one_more _ _ (max-le (above_zero 0) (max-le (above_zero 0) (max-le (above_zero 0) (above_zero 0))))
-of_event sheet (EndGame outcome) = one_more _ _ (max-le (above_zero 0) (max-le (above_zero 0) (max-le (above_zero 0) (above_zero 0))))
+of_event sheet e = one_more _ _ (max-le (above_zero 0) (max-le (above_zero 0) (max-le (of_aim sheet e 0) (above_zero 0))))
 
 of_move : (sheet : Sheet) (id : ℕ) (m : ℕ) → depth (move_name sheet id) ≤ m
 of_move sheet id m = of_text (option_map (λ row. row.name) (slice_get sheet.moves id)) m
@@ -131,10 +134,12 @@ ctx_is_shallow sheet ctx d is = subst (λ x. depth x ≤ 2) (sym is) (of_ctx she
 one_above : (n m : ℕ) → n ≤ m → suc n ≤ m + 1
 one_above n m h = omega arith
 
-pub snapshot_is_shallow : (ctx g log v : Data) (number : ℕ) → v ≡ snapshot_object ctx g log number → depth ctx ≤ 2 → depth log ≤ 4 → depth v ≤ max 4 (depth g) + 1
-snapshot_is_shallow ctx g log v number e hc hl =
-    let of_ctx : depth ctx ≤ max 4 (depth g) = omega (arith, hc) in
-    let of_g : depth g ≤ max 4 (depth g) = omega arith in
-    let of_log : depth log ≤ max 4 (depth g) = omega (arith, hl) in
-    subst (λ x. depth x ≤ max 4 (depth g) + 1) (sym e)
-    (one_above _ (max 4 (depth g)) (max-le of_ctx (max-le of_g (max-le of_log (max-le (above_zero (max 4 (depth g))) (above_zero (max 4 (depth g))))))))
+pub snapshot_is_shallow : (sheet : Sheet) (s : Snap) (v : Data) → v ≡ snapshot_data sheet s → depth v ≤ max 4 (depth s.g) + 1
+snapshot_is_shallow sheet s v e =
+    let hc = of_ctx sheet s.ctx in
+    let hl = one_more _ _ (of_entries sheet s.log) in
+    let in_ctx : depth (ctx_data sheet s.ctx) ≤ max 4 (depth s.g) = omega (arith, hc) in
+    let in_g : depth s.g ≤ max 4 (depth s.g) = omega arith in
+    let in_log : depth (log_data sheet s.log) ≤ max 4 (depth s.g) = omega (arith, hl) in
+    subst (λ x. depth x ≤ max 4 (depth s.g) + 1) (sym e)
+    (one_above _ (max 4 (depth s.g)) (max-le in_ctx (max-le in_g (max-le in_log (max-le (above_zero (max 4 (depth s.g))) (above_zero (max 4 (depth s.g))))))))

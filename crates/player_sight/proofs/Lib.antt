@@ -1,6 +1,6 @@
 pub mod NoFloat
 pub mod Depths
-pub mod CtxPut
+pub mod MemberPut
 pub mod Changes
 pub mod ShownPlain
 pub mod RisingRows

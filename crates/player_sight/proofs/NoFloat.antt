@@ -18,8 +18,8 @@ use Rattle.move_log.specs.declared.entry.Entry.{Entry}
 use Rattle.sheet_json.specs.Seats.{natural, natural_or_null}
 use Rattle.sheet_json.proofs.ArgumentLaws.{no_float_in}
 use Rattle.player_sight.specs.Parts.{text_or_null, phase_or_null, stage_or_null}
-use Rattle.player_sight.specs.EntryData.{event_data, act_data, entry_data, log_data}
-use Rattle.player_sight.specs.SnapshotData.{snapshot_object}
+use Rattle.player_sight.specs.EntryData.{event_aim, event_data, act_data, entry_data, log_data}
+use Rattle.player_sight.specs.SnapshotData.{Snap, snapshot_data}
 use Rattle.player_sight.specs.CtxData.{with_row, rows_members, active_data, over_data, ctx_data}
 
 of_text : (o : Option (List ℕ)) → has_float (text_or_null o) ≡ false
@@ -42,14 +42,17 @@ of_naturals : (ns : List ℕ) → items_have_float (items_of (map natural ns)) �
 of_naturals [] = refl
 of_naturals (n ∷ ns) = of_naturals ns
 
+of_aim : (sheet : Sheet) (e : event.Event) → has_float (event_aim sheet e) ≡ false
+of_aim sheet (EndTurn to) = of_natural to
+of_aim sheet EndPhase = refl
+of_aim sheet (SetPhase to) = of_text (option_map (λ row. row.name) (slice_get sheet.phases to))
+of_aim sheet EndStage = refl
+of_aim sheet (SetStage to) = of_text (option_map (λ row. row.name) (slice_get sheet.stages to))
+of_aim sheet (SetActive spec) = refl
+of_aim sheet (EndGame outcome) = refl
+
 of_event : (sheet : Sheet) (e : event.Event) → has_float (event_data sheet e) ≡ false
-of_event sheet (EndTurn to) = rw of_natural refl
-of_event sheet EndPhase = refl
-of_event sheet (SetPhase to) = rw (of_text (option_map (λ row. row.name) (slice_get sheet.phases to))) refl
-of_event sheet EndStage = refl
-of_event sheet (SetStage to) = rw (of_text (option_map (λ row. row.name) (slice_get sheet.stages to))) refl
-of_event sheet (SetActive spec) = refl
-of_event sheet (EndGame outcome) = refl
+of_event sheet e = rw (of_aim sheet e) refl
 
 of_act : (sheet : Sheet) (hidden : Bool) (act : Act) → has_float (act_data sheet hidden act) ≡ false
 of_act sheet true (Move id args) = rw (of_text (option_map (λ row. row.name) (slice_get sheet.moves id))) refl
@@ -110,8 +113,8 @@ of_ctx sheet ctx =
 pub ctx_has_none : (sheet : Sheet) (ctx : Ctx) (d : Data) → d ≡ ctx_data sheet ctx → has_float d ≡ false
 ctx_has_none sheet ctx d is = ap has_float is ∙ of_ctx sheet ctx
 
-pub snapshot_has_none : (ctx g log v : Data) (number : ℕ) → v ≡ snapshot_object ctx g log number → has_float ctx ≡ false → has_float g ≡ false → has_float log ≡ false → has_float v ≡ false
-snapshot_has_none ctx g log v number e hc hg hl = rw (e, hc, hg, hl) refl
+pub snapshot_has_none : (sheet : Sheet) (s : Snap) (d : Data) → d ≡ snapshot_data sheet s → has_float s.g ≡ false → has_float d ≡ false
+snapshot_has_none sheet s d e hg = rw (e, of_ctx sheet s.ctx, hg, of_entries sheet s.log) refl
 
 pub rows_have_none : (sheet : Sheet) (rows : List (ℕ × Option ℕ)) (d : Data) → d ≡ object (rows_members sheet rows) → has_float d ≡ false
 rows_have_none sheet rows d is = ap has_float is ∙ of_rows sheet no_members rows refl

@@ -15,19 +15,31 @@ use Rattle.sheet_json.specs.Arguments.{arguments}
 use Rattle.sheet_json.specs.Seats.{natural, natural_or_null}
 use Rattle.player_sight.specs.Parts.{move_name, phase_name, stage_name, phase_or_null}
 
--- an event by its name, with what it goes to
-abbrev pub event_to : List ℕ → Data → Data
-event_to name to =
-    object (member (codes "event") (string name) (member (codes "kind") (string (codes "event")) (member (codes "to") to no_members)))
+-- an event's name
+abbrev pub event_name : event.Event → List ℕ
+event_name (EndTurn to) = event_text asks.EndTurn
+event_name EndPhase = event_text asks.EndPhase
+event_name (SetPhase to) = event_text asks.SetPhase
+event_name EndStage = event_text asks.EndStage
+event_name (SetStage to) = event_text asks.SetStage
+event_name (SetActive spec) = codes "setActive"
+event_name (EndGame outcome) = event_text asks.EndGame
+
+-- what it goes to
+abbrev pub event_aim : Sheet → event.Event → Data
+event_aim sheet (EndTurn to) = natural_or_null to
+event_aim sheet EndPhase = null
+event_aim sheet (SetPhase to) = phase_name sheet to
+event_aim sheet EndStage = null
+event_aim sheet (SetStage to) = stage_name sheet to
+event_aim sheet (SetActive spec) = null
+event_aim sheet (EndGame outcome) = null
 
 abbrev pub event_data : Sheet → event.Event → Data
-event_data sheet (EndTurn to) = event_to (event_text asks.EndTurn) (natural_or_null to)
-event_data sheet EndPhase = event_to (event_text asks.EndPhase) null
-event_data sheet (SetPhase to) = event_to (event_text asks.SetPhase) (phase_name sheet to)
-event_data sheet EndStage = event_to (event_text asks.EndStage) null
-event_data sheet (SetStage to) = event_to (event_text asks.SetStage) (stage_name sheet to)
-event_data sheet (SetActive spec) = event_to (codes "setActive") null
-event_data sheet (EndGame outcome) = event_to (event_text asks.EndGame) null
+event_data sheet e = object
+    (member (codes "event") (string (event_name e))
+    (member (codes "kind") (string (codes "event"))
+    (member (codes "to") (event_aim sheet e) no_members)))
 
 abbrev pub move_data : Data → Data → Data
 move_data name args =

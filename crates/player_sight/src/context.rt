@@ -1,14 +1,16 @@
 //! The value of a match's context.
 
-ghost use Rattle.std.specs.Prelude.{◌≡◌, ◌≤◌, IfOk, OnOk, false, codes};
-ghost use Rattle.serde_json.specs.Data.{object, no_members, put, depth};
+ghost use Rattle.std.specs.Prelude.{◌≡◌, ◌≤◌, IfOk, OnOk, true, false, codes};
+ghost use Rattle.serde_json.specs.Data.{boolean, object, member, no_members, put, depth};
 ghost use Rattle.serde_json.specs.View.{view, members_view};
 ghost use Rattle.serde_json.specs.Written.{has_float};
 ghost use Rattle.sheet_json.specs.Seats.{natural};
 ghost use Rattle.player_sight.specs.Parts.{naturals, phase_or_null};
 ghost use Rattle.player_sight.specs.CtxData.{with_row, rows_members, active_data, over_data, ctx_data};
+ghost use Rattle.player_sight.specs.Tails.{with_last_members};
 
-use crate::parts::{phase_value, seats_value, stage_value};
+use crate::members::{put_number, put_phase};
+use crate::parts::{seats_value, stage_value};
 use game_sheet::{Ctx, List, NoMemory, Outcome, Seat, Sheet, StageId};
 use serde_json::{Map, Value, json};
 use std::alloc::Global;
@@ -39,7 +41,7 @@ fn ctx_object(alloc: Global, sheet: &Sheet, ctx: &Ctx) -> Result<Value, NoMemory
 }
 
 // Puts the members of a context into an empty map.
-#[tactic(auto, using(crate::proofs::CtxPut::all_put))]
+#[tactic(auto, using(crate::proofs::MemberPut::ctx_put))]
 fn fill_ctx(
     alloc: Global,
     sheet: &Sheet,
@@ -53,23 +55,23 @@ fn fill_ctx(
     put_number(alloc, map, "currentPlayer", ctx.current as u32)?;
     put_over(alloc, map, ctx)?;
     put_number(alloc, map, "numMoves", ctx.moves)?;
+    fill_from_seats(alloc, sheet, ctx, map)
+}
+
+fn fill_from_seats(
+    alloc: Global,
+    sheet: &Sheet,
+    ctx: &Ctx,
+    map: &mut Map<String, Value>,
+) -> Result<(), NoMemory>
+    ensures { OnOk result (members_view map.new.entries ≡ with_last_members (phase_or_null sheet.now ctx.now.phase) (naturals ctx.now.order)
+        ctx.now (members_view map.old.entries)) }
+{
     put_number(alloc, map, "numPlayers", ctx.seats as u32)?;
-    put_phase(alloc, sheet, map, ctx)?;
+    put_phase(alloc, sheet, map, ctx.phase)?;
     put_order(alloc, map, ctx)?;
     put_number(alloc, map, "playOrderPos", ctx.pos as u32)?;
     put_number(alloc, map, "turn", ctx.turn)
-}
-
-fn put_number(
-    alloc: Global,
-    map: &mut Map<String, Value>,
-    name: &str,
-    number: u32,
-) -> Result<(), NoMemory>
-    ensures { OnOk result (members_view map.new.entries ≡ put name.now (natural number) (members_view map.old.entries)) }
-{
-    serde_json::put(map, alloc, name, Value::from(number))?;
-    Ok(())
 }
 
 fn put_active(
@@ -92,20 +94,6 @@ fn put_over(alloc: Global, map: &mut Map<String, Value>, ctx: &Ctx) -> Result<()
 {
     let over = over_value(alloc, ctx.over)?;
     serde_json::put(map, alloc, "gameover", over)?;
-    Ok(())
-}
-
-fn put_phase(
-    alloc: Global,
-    sheet: &Sheet,
-    map: &mut Map<String, Value>,
-    ctx: &Ctx,
-) -> Result<(), NoMemory>
-    ensures { OnOk result (members_view map.new.entries
-        ≡ put (codes "phase") (phase_or_null sheet.now ctx.now.phase) (members_view map.old.entries)) }
-{
-    let phase = phase_value(alloc, sheet, ctx.phase)?;
-    serde_json::put(map, alloc, "phase", phase)?;
     Ok(())
 }
 
@@ -175,12 +163,24 @@ fn put_row(
 fn over_value(alloc: Global, over: Option<Outcome>) -> Result<Value, NoMemory>
     ensures { IfOk result (λ v. view v ≡ over_data over) }
 {
-    let Some(outcome) = over else {
-        return Ok(Value::Null);
-    };
-    match outcome {
-        Outcome::Winner(seat) => Ok(json!(in alloc; {"winner": seat})?),
-        Outcome::Draw => Ok(json!(in alloc; {"draw": true})?),
-        Outcome::Ended => Ok(json!(in alloc; {"ended": true})?),
+    match over {
+        None => Ok(Value::Null),
+        Some(Outcome::Winner(seat)) => winner_value(alloc, seat),
+        Some(Outcome::Draw) => flag_value(alloc, "draw"),
+        Some(Outcome::Ended) => flag_value(alloc, "ended"),
     }
+}
+
+fn winner_value(alloc: Global, seat: Seat) -> Result<Value, NoMemory>
+    ensures { IfOk result (λ v. view v ≡ object (member (codes "winner") (natural seat) no_members)) }
+{
+    Ok(json!(in alloc; {"winner": seat})?)
+}
+
+fn flag_value(alloc: Global, name: &str) -> Result<Value, NoMemory>
+    ensures { IfOk result (λ v. view v ≡ object (member name.now (boolean true) no_members)) }
+{
+    let mut map = Map::new(alloc);
+    serde_json::put(&mut map, alloc, name, Value::Bool(true))?;
+    Ok(Value::Object(map))
 }

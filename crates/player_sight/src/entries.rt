@@ -1,19 +1,17 @@
-//! The values of actions, of entries of the log, and of the log.
+//! The values of entries of the log, and of the log.
 
-ghost use Rattle.std.specs.Prelude.{◌≡◌, ◌≤◌, IfOk, false, if◌then◌else◌};
-ghost use Rattle.serde_json.specs.Data.{null, array, depth};
-ghost use Rattle.sheet_json.specs.Arguments.{arguments};
-ghost use Rattle.player_sight.specs.Parts.{move_name};
-ghost use Rattle.serde_json.specs.View.{view};
+ghost use Rattle.std.specs.Prelude.{◌≡◌, ◌≤◌, IfOk, OnOk, false, codes};
+ghost use Rattle.serde_json.specs.Data.{object, no_members, put, depth};
+ghost use Rattle.serde_json.specs.View.{view, members_view};
 ghost use Rattle.serde_json.specs.Written.{has_float};
-ghost use Rattle.player_sight.specs.EntryData.{event_to, event_data, move_data, act_data, entry_object, entry_data, log_data};
+ghost use Rattle.player_sight.specs.EntryData.{act_data, entry_data, log_data};
 
-use crate::parts::{move_value, phase_value, stage_value};
-use game_sheet::{Act, Args, Event, EventKind, MoveId, NoMemory, Sheet};
+use crate::acts::act_value;
+use crate::members::{put_number, put_phase};
+use game_sheet::{NoMemory, Sheet};
 use move_log::Entry;
-use serde_json::{Value, json};
-use sheet_json::{args_value, seat_value};
-use std::alloc::{AllocError, Global};
+use serde_json::{Map, Value};
+use std::alloc::Global;
 
 /// The value of an entry of the log; hidden arguments are null.
 ///
@@ -23,22 +21,53 @@ pub fn entry_value(alloc: Global, sheet: &Sheet, entry: &Entry) -> Result<Value,
     ensures no_float { IfOk result (λ v. has_float (view v) ≡ false) }
     ensures shallow { IfOk result (λ v. depth (view v) ≤ 3) }
 {
-    let act = act_value(alloc, sheet, &entry.act, entry.hidden)?;
-    let phase = phase_value(alloc, sheet, entry.phase)?;
-    let value = entry_object(alloc, entry, act, phase)?;
+    let value = entry_object(alloc, sheet, entry)?;
     Ok(value)
 }
 
-fn entry_object(alloc: Global, entry: &Entry, act: Value, phase: Value) -> Result<Value, AllocError>
-    ensures { IfOk result (λ v. view v ≡ entry_object (view act) (view phase) entry.now) }
+fn entry_object(alloc: Global, sheet: &Sheet, entry: &Entry) -> Result<Value, NoMemory>
+    ensures { IfOk result (λ v. view v ≡ entry_data sheet.now entry.now) }
 {
-    json!(in alloc; {
-        "act": act,
-        "number": entry.number,
-        "phase": phase,
-        "seat": entry.seat,
-        "turn": entry.turn
-    })
+    let mut map = Map::new(alloc);
+    match fill_entry(alloc, sheet, entry, &mut map) {
+        Ok(()) => Ok(Value::Object(map)),
+        Err(no) => {
+            drop(map);
+            Err(no)
+        }
+    }
+}
+
+// Puts the members of an entry into an empty map.
+#[tactic(auto, using(crate::proofs::MemberPut::entry_put))]
+fn fill_entry(
+    alloc: Global,
+    sheet: &Sheet,
+    entry: &Entry,
+    map: &mut Map<String, Value>,
+) -> Result<(), NoMemory>
+    requires { members_view map.old.entries ≡ no_members }
+    ensures { OnOk result (object (members_view map.new.entries) ≡ entry_data sheet.now entry.now) }
+{
+    put_act(alloc, sheet, map, entry)?;
+    put_number(alloc, map, "number", entry.number)?;
+    put_phase(alloc, sheet, map, entry.phase)?;
+    put_number(alloc, map, "seat", entry.seat as u32)?;
+    put_number(alloc, map, "turn", entry.turn)
+}
+
+fn put_act(
+    alloc: Global,
+    sheet: &Sheet,
+    map: &mut Map<String, Value>,
+    entry: &Entry,
+) -> Result<(), NoMemory>
+    ensures { OnOk result (members_view map.new.entries
+        ≡ put (codes "act") (act_data sheet.now entry.now.hidden entry.now.act) (members_view map.old.entries)) }
+{
+    let act = act_value(alloc, sheet, &entry.act, entry.hidden)?;
+    serde_json::put(map, alloc, "act", act)?;
+    Ok(())
 }
 
 /// The values of a log's entries, in order.
@@ -59,59 +88,4 @@ fn list_value(alloc: Global, sheet: &Sheet, log: &[Entry]) -> Result<Value, NoMe
         list.push(entry_value(alloc, sheet, entry)?)?;
     }
     Ok(Value::Array(list))
-}
-
-fn act_value(alloc: Global, sheet: &Sheet, act: &Act, hidden: bool) -> Result<Value, NoMemory>
-    ensures { IfOk result (λ v. view v ≡ act_data sheet.now hidden act.now) }
-{
-    match act {
-        Act::Move { id, args } => move_act(alloc, sheet, *id, args, hidden),
-        Act::Event(event) => event_value(alloc, sheet, *event),
-        Act::Undo => Ok(json!(in alloc; {"kind": "undo"})?),
-        Act::Redo => Ok(json!(in alloc; {"kind": "redo"})?),
-    }
-}
-
-fn move_act(
-    alloc: Global,
-    sheet: &Sheet,
-    id: MoveId,
-    args: &Args,
-    hidden: bool,
-) -> Result<Value, NoMemory>
-    ensures { IfOk result (λ v. view v ≡ move_data (move_name sheet.now id) (if hidden then null else array (arguments args.now))) }
-{
-    let name = move_value(alloc, sheet, id)?;
-    let args = if hidden {
-        Value::Null
-    } else {
-        args_value(alloc, args)?
-    };
-    Ok(json!(in alloc; {"args": args, "kind": "move", "move": name})?)
-}
-
-fn event_value(alloc: Global, sheet: &Sheet, event: Event) -> Result<Value, NoMemory>
-    ensures { IfOk result (λ v. view v ≡ event_data sheet.now event) }
-{
-    match event {
-        Event::EndTurn { to } => named(alloc, EventKind::EndTurn.name(), seat_value(to)),
-        Event::EndPhase => named(alloc, EventKind::EndPhase.name(), Value::Null),
-        Event::SetPhase { to } => {
-            let phase = phase_value(alloc, sheet, Some(to))?;
-            named(alloc, EventKind::SetPhase.name(), phase)
-        }
-        Event::EndStage => named(alloc, EventKind::EndStage.name(), Value::Null),
-        Event::SetStage { to } => {
-            let stage = stage_value(alloc, sheet, Some(to))?;
-            named(alloc, EventKind::SetStage.name(), stage)
-        }
-        Event::SetActive { .. } => named(alloc, "setActive", Value::Null),
-        Event::EndGame { .. } => named(alloc, EventKind::EndGame.name(), Value::Null),
-    }
-}
-
-fn named(alloc: Global, name: &str, to: Value) -> Result<Value, NoMemory>
-    ensures { IfOk result (λ v. view v ≡ event_to name.now (view to)) }
-{
-    Ok(json!(in alloc; {"event": name, "kind": "event", "to": to})?)
 }

@@ -1,9 +1,11 @@
 //! What a player is shown of a match, and the JSON that shows it: as values, and as text appended to bytes.
 #![tactic(auto)]
 
+mod acts;
 mod change;
 mod context;
 mod entries;
+mod members;
 mod parts;
 mod shown;
 mod snapshots;

@@ -73,8 +73,7 @@ fn put_in_order(
     out.push(b'{')?;
     let mut later = false;
     for row in rows {
-        put_comma(out, later)?;
-        put_row(alloc, out, sheet, *row)?;
+        put_row(alloc, out, sheet, *row, later)?;
         later = true;
     }
     out.push(b'}')?;
@@ -86,10 +85,12 @@ fn put_row(
     out: &mut Vec<u8>,
     sheet: &Sheet,
     row: (Seat, Option<StageId>),
+    later: bool,
 ) -> Result<(), NoMemory>
     ensures { OnOk result (out.new.items ≡ out.old.items
-        ++ (quoted (decimal row.0) ++ 58 ∷ compact_text (stage_or_null sheet.now row.1))) }
+        ++ (comma_if later ++ (quoted (decimal row.0) ++ 58 ∷ compact_text (stage_or_null sheet.now row.1)))) }
 {
+    put_comma(out, later)?;
     let mut buffer = Buffer::new();
     put_string(alloc, out, buffer.format(row.0))?;
     out.push(b':')?;

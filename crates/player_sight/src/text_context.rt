@@ -1,13 +1,15 @@
 //! The text of a match's context, appended to bytes.
 
-ghost use Rattle.std.specs.Prelude.{◌≡◌, ◌++◌, OnOk, true};
+ghost use Rattle.std.specs.Prelude.{◌≡◌, ◌++◌, OnOk, true, codes};
+ghost use Rattle.serde_json.specs.Data.{object, member, no_members};
 ghost use Rattle.serde_json.specs.Written.{compact_text, members_text};
+ghost use Rattle.sheet_json.specs.Seats.{natural};
 ghost use Rattle.player_sight.specs.CtxData.{over_data, ctx_data};
-ghost use Rattle.player_sight.specs.Tails.{from_over, from_phase, from_pos};
+ghost use Rattle.player_sight.specs.Tails.{from_over, from_moves, from_phase, from_pos};
 
 use crate::text_active::put_active;
 use crate::text_parts::put_phase;
-use game_sheet::{Ctx, NoMemory, Outcome, Sheet};
+use game_sheet::{Ctx, NoMemory, Outcome, Seat, Sheet};
 use json_text::{put_natural, put_naturals, put_null};
 use std::alloc::Global;
 
@@ -29,6 +31,18 @@ fn put_from_over(alloc: Global, out: &mut Vec<u8>, sheet: &Sheet, ctx: &Ctx) -> 
 {
     out.extend_from_slice(b",\"gameover\":")?;
     put_over(out, ctx.over)?;
+    put_from_moves(alloc, out, sheet, ctx)
+}
+
+#[tactic(auto, unfolding(json::specs::Print::escape_byte))]
+fn put_from_moves(
+    alloc: Global,
+    out: &mut Vec<u8>,
+    sheet: &Sheet,
+    ctx: &Ctx,
+) -> Result<(), NoMemory>
+    ensures { OnOk result (out.new.items ≡ out.old.items ++ members_text true (from_moves sheet.now ctx.now)) }
+{
     out.extend_from_slice(b",\"numMoves\":")?;
     put_natural(out, ctx.moves as u64)?;
     out.extend_from_slice(b",\"numPlayers\":")?;
@@ -68,17 +82,20 @@ fn put_from_pos(out: &mut Vec<u8>, ctx: &Ctx) -> Result<(), NoMemory>
 fn put_over(out: &mut Vec<u8>, over: Option<Outcome>) -> Result<(), NoMemory>
     ensures { OnOk result (out.new.items ≡ out.old.items ++ compact_text (over_data over)) }
 {
-    let Some(outcome) = over else {
-        return Ok(put_null(out)?);
-    };
-    match outcome {
-        Outcome::Winner(seat) => {
-            out.extend_from_slice(b"{\"winner\":")?;
-            put_natural(out, seat as u64)?;
-            out.extend_from_slice(b"}")?;
-            Ok(())
-        }
-        Outcome::Draw => Ok(out.extend_from_slice(b"{\"draw\":true}")?),
-        Outcome::Ended => Ok(out.extend_from_slice(b"{\"ended\":true}")?),
+    match over {
+        None => Ok(put_null(out)?),
+        Some(Outcome::Winner(seat)) => put_winner(out, seat),
+        Some(Outcome::Draw) => Ok(out.extend_from_slice(b"{\"draw\":true}")?),
+        Some(Outcome::Ended) => Ok(out.extend_from_slice(b"{\"ended\":true}")?),
     }
+}
+
+#[tactic(auto, unfolding(json::specs::Print::escape_byte))]
+fn put_winner(out: &mut Vec<u8>, seat: Seat) -> Result<(), NoMemory>
+    ensures { OnOk result (out.new.items ≡ out.old.items ++ compact_text (object (member (codes "winner") (natural seat) no_members))) }
+{
+    out.extend_from_slice(b"{\"winner\":")?;
+    put_natural(out, seat as u64)?;
+    out.extend_from_slice(b"}")?;
+    Ok(())
 }

@@ -1,17 +1,17 @@
 //! The text of an entry of the log, appended to bytes.
 
-ghost use Rattle.std.specs.Prelude.{◌≡◌, ◌++◌, OnOk, true, codes, if◌then◌else◌};
+ghost use Rattle.std.specs.Prelude.{◌≡◌, ◌++◌, OnOk, true, if◌then◌else◌};
 ghost use Rattle.serde_json.specs.Data.{null, array};
 ghost use Rattle.serde_json.specs.Written.{compact_text, members_text};
 ghost use Rattle.sheet_json.specs.Arguments.{arguments};
-ghost use Rattle.sheet_json.specs.Seats.{natural_or_null};
-ghost use Rattle.player_sight.specs.EntryData.{event_to, event_data, move_data, act_data, entry_data};
+ghost use Rattle.player_sight.specs.EntryData.{event_aim, event_data, move_data, act_data, entry_data};
 ghost use Rattle.player_sight.specs.Parts.{move_name};
-ghost use Rattle.player_sight.specs.Tails.{from_seat, from_kind};
+ghost use Rattle.player_sight.specs.Tails.{from_seat, from_number, from_kind};
 
+use crate::acts::event_word;
 use crate::text_parts::{put_move, put_phase, put_stage};
-use game_sheet::{Act, Args, Event, MoveId, NoMemory, Seat, Sheet};
-use json_text::{put_natural, put_null};
+use game_sheet::{Act, Args, Event, MoveId, NoMemory, Sheet};
+use json_text::{put_natural, put_null, put_string};
 use move_log::Entry;
 use sheet_json::{put_args, put_seat};
 use std::alloc::Global;
@@ -29,6 +29,18 @@ pub fn put_entry(
 {
     out.extend_from_slice(b"{\"act\":")?;
     put_act(alloc, out, sheet, &entry.act, entry.hidden)?;
+    put_from_number(alloc, out, sheet, entry)
+}
+
+#[tactic(auto, unfolding(json::specs::Print::escape_byte))]
+fn put_from_number(
+    alloc: Global,
+    out: &mut Vec<u8>,
+    sheet: &Sheet,
+    entry: &Entry,
+) -> Result<(), NoMemory>
+    ensures { OnOk result (out.new.items ≡ out.old.items ++ members_text true (from_number sheet.now entry.now)) }
+{
     out.extend_from_slice(b",\"number\":")?;
     put_natural(out, entry.number as u64)?;
     out.extend_from_slice(b",\"phase\":")?;
@@ -60,7 +72,7 @@ fn put_act(
 {
     match act {
         Act::Move { id, args } => put_move_act(alloc, out, sheet, *id, args, hidden),
-        Act::Event(event) => put_event(alloc, out, sheet, *event),
+        Act::Event(event) => put_event(alloc, out, sheet, event),
         Act::Undo => Ok(out.extend_from_slice(b"{\"kind\":\"undo\"}")?),
         Act::Redo => Ok(out.extend_from_slice(b"{\"kind\":\"redo\"}")?),
     }
@@ -114,44 +126,25 @@ fn put_shown_args(
 }
 
 #[tactic(auto, unfolding(json::specs::Print::escape_byte))]
-fn put_event(alloc: Global, out: &mut Vec<u8>, sheet: &Sheet, event: Event) -> Result<(), NoMemory>
-    ensures { OnOk result (out.new.items ≡ out.old.items ++ compact_text (event_data sheet.now event)) }
+fn put_event(alloc: Global, out: &mut Vec<u8>, sheet: &Sheet, event: &Event) -> Result<(), NoMemory>
+    ensures { OnOk result (out.new.items ≡ out.old.items ++ compact_text (event_data sheet.now event.now)) }
 {
-    match event {
-        Event::EndTurn { to } => put_end_turn(out, to),
-        Event::EndPhase => {
-            Ok(out.extend_from_slice(b"{\"event\":\"endPhase\",\"kind\":\"event\",\"to\":null}")?)
-        }
-        Event::SetPhase { to } => {
-            out.extend_from_slice(b"{\"event\":\"setPhase\",\"kind\":\"event\",\"to\":")?;
-            put_phase(alloc, out, sheet, Some(to))?;
-            out.extend_from_slice(b"}")?;
-            Ok(())
-        }
-        Event::EndStage => {
-            Ok(out.extend_from_slice(b"{\"event\":\"endStage\",\"kind\":\"event\",\"to\":null}")?)
-        }
-        Event::SetStage { to } => {
-            out.extend_from_slice(b"{\"event\":\"setStage\",\"kind\":\"event\",\"to\":")?;
-            put_stage(alloc, out, sheet, Some(to))?;
-            out.extend_from_slice(b"}")?;
-            Ok(())
-        }
-        Event::SetActive { .. } => {
-            Ok(out.extend_from_slice(b"{\"event\":\"setActive\",\"kind\":\"event\",\"to\":null}")?)
-        }
-        Event::EndGame { .. } => {
-            Ok(out.extend_from_slice(b"{\"event\":\"endGame\",\"kind\":\"event\",\"to\":null}")?)
-        }
-    }
-}
-
-#[tactic(auto, unfolding(json::specs::Print::escape_byte))]
-fn put_end_turn(out: &mut Vec<u8>, to: Option<Seat>) -> Result<(), NoMemory>
-    ensures { OnOk result (out.new.items ≡ out.old.items ++ compact_text (event_to (codes "endTurn") (natural_or_null to))) }
-{
-    out.extend_from_slice(b"{\"event\":\"endTurn\",\"kind\":\"event\",\"to\":")?;
-    put_seat(out, to)?;
+    out.extend_from_slice(b"{\"event\":")?;
+    put_string(alloc, out, event_word(event))?;
+    out.extend_from_slice(b",\"kind\":\"event\",\"to\":")?;
+    put_aim(alloc, out, sheet, event)?;
     out.extend_from_slice(b"}")?;
     Ok(())
+}
+
+fn put_aim(alloc: Global, out: &mut Vec<u8>, sheet: &Sheet, event: &Event) -> Result<(), NoMemory>
+    ensures { OnOk result (out.new.items ≡ out.old.items ++ compact_text (event_aim sheet.now event.now)) }
+{
+    match event {
+        Event::EndTurn { to } => put_seat(out, *to),
+        Event::SetPhase { to } => put_phase(alloc, out, sheet, Some(*to)),
+        Event::SetStage { to } => put_stage(alloc, out, sheet, Some(*to)),
+        Event::EndPhase | Event::EndStage => Ok(put_null(out)?),
+        Event::SetActive { .. } | Event::EndGame { .. } => Ok(put_null(out)?),
+    }
 }

@@ -1,6 +1,7 @@
 pub mod ActiveRows
 pub mod PartLaws
 pub mod RowsAre
+pub mod ActLaws
 pub mod EntryLaws
 pub mod CtxLaws
 pub mod RowLaws
