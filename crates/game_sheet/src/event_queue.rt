@@ -13,7 +13,7 @@ pub struct EventQueue {
 }
 
 /// A seventeenth event was queued.
-#[derive(Clone, Copy, PartialEq, Eq)]
+#[derive(Clone, Copy, PartialEq, Eq, Debug)]
 pub struct Crowded;
 
 impl Model for EventQueue {
