@@ -1,9 +1,7 @@
 -- The member `act` reads as the act that it is a form of, and as no other.
-use Rattle.std.proofs.Common.{◌≡◌, ℕ, suc, ◌≤◌, ◌^◌, List, [], ◌∷◌, length, ℤ, pos, negsuc, Bool, true, false, cond, ◌⊎◌, inl, inr, Option, Some, None, option_map, option_and_then, Ok, Err, bytes_eq, codes, refl, sym, ap, ◌∙◌, subst, arith}
-use Rattle.std.proofs.lemmas.Bool.{and_parts, le-leb, leb-true, lt-ltb}
+use Rattle.std.proofs.Common.{◌≡◌, ℕ, List, [], ◌∷◌, Bool, true, false, cond, ◌⊎◌, inl, inr, Option, Some, None, option_map, option_and_then, Ok, Err, bytes_eq, codes, refl, ap, ◌∙◌, subst}
 use Rattle.std.proofs.lemmas.Slice.Eq.{bytes_eq-Decides}
-use Rattle.std.specs.List.{AllByRecursion}
-use Rattle.std.specs.Prelude.{nat_le, nat_lt, int_le, Result}
+use Rattle.std.specs.Prelude.{Result}
 use Rattle.std.specs.Result.{result_ok}
 use Rattle.serde_json.specs.Data.{Data, null, boolean, number, string, array, object, Members}
 use Rattle.serde_json.specs.Find.{get_member}
@@ -13,9 +11,9 @@ use Rattle.json_tree.specs.Names.{has_extra}
 use Rattle.json_tree.proofs.Rows.{row_is, canonical_member}
 use Rattle.game_sheet.specs.declared.act.EventKind.{EventKind}
 use Rattle.game_sheet.specs.declared.act.EventKind.TheVariants.{EndTurn, EndPhase, SetPhase, EndStage, SetStage, EndGame}
-use Rattle.game_sheet.specs.EventNames.{event_text, kind_from}
+use Rattle.game_sheet.specs.EventNames.{kind_from}
 use Rattle.game_sheet.specs.declared.args.Arg.{Arg}
-use Rattle.sheet_json.specs.Arguments.{arguments, AreArguments, arguments_in}
+use Rattle.sheet_json.specs.Arguments.{AreArguments, arguments_in}
 use Rattle.sheet_json.specs.Seats.{is_null_in}
 use Rattle.sheet_json.proofs.ArgumentLaws.{arguments_are, arguments_again}
 use Rattle.sheet_json.proofs.EventLaws.{kind_is, kind_again}

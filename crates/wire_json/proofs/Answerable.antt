@@ -9,10 +9,9 @@ use Rattle.json_tree.specs.Names.{extra_in}
 use Rattle.json_tree.specs.Steps.{◌>>=◌}
 use Rattle.json_tree.specs.declared.fields.FieldFault.{FieldFault}
 use Rattle.json_tree.specs.declared.lines.LineFault.{LineFault}
-use Rattle.game_sheet.specs.MatchName.{Name}
 use Rattle.sheet_json.specs.Seats.{or_null}
 use Rattle.wire_json.specs.Acts.{act_in, text_within}
-use Rattle.wire_json.specs.ClientReading.{match_in, key_in, key_of_seat_in, protocol_in, place_in, player_in, stamp_in, sync_in, client_act_in, takeover_in, games_in, matches_in, look_in, create_in, join_in, rename_in, leave_in, lobby_as, client_as, client_in, client_read}
+use Rattle.wire_json.specs.ClientReading.{match_in, key_in, key_of_seat_in, claim_in, protocol_in, place_in, player_in, count_in, stamp_in, sync_in, client_act_in, takeover_in, games_in, matches_in, look_in, create_in, join_in, rename_in, leave_in, lobby_as, client_as, client_in, client_read}
 use Rattle.wire_json.specs.Refusals.{Refusal, Field, UnknownMessage, ExtraField, Gives, Refuses, at_field, of_line}
 use Rattle.wire_json.specs.RefusalText.{member_from, IsAnswerable}
 use Rattle.wire_json.specs.declared.client.ClientMsg.{ClientMsg}
@@ -62,23 +61,33 @@ player_named d n f e =
     member_step (codes "seat") (natural_in 255 (get (codes "seat") d)) _ n f e2 refl λ seat e3.
     never _ n f e3
 
+count_named : (d : Data) → IsNamed (count_in d)
+count_named d n f e =
+    member_step (codes "number") (natural_in 4294967295 (get (codes "number") d)) _ n f e refl λ at e1.
+    member_step (codes "ticket") (natural_in 4294967295 (get (codes "ticket") d)) _ n f e1 refl λ ticket e2.
+    never _ n f e2
+
 stamp_named : (d : Data) → IsNamed (stamp_in d)
 stamp_named d n f e =
     member_step (codes "key") (key_in (get (codes "key") d)) _ n f e refl λ key e1.
     member_step (codes "match") (match_in (get (codes "match") d)) _ n f e1 refl λ name e2.
-    member_step (codes "number") (natural_in 4294967295 (get (codes "number") d)) _ n f e2 refl λ at e3.
-    member_step (codes "ticket") (natural_in 4294967295 (get (codes "ticket") d)) _ n f e3 refl λ ticket e4.
-    never _ n f e4
+    then_step (count_in d) _ n f e2 (count_named d) λ count e3.
+    never _ n f e3
+
+claim_named : (seat : Result (Option ℕ) FieldFault) (d : Data) → IsNamed (claim_in seat d)
+claim_named seat d n f e =
+    member_step (codes "key") (key_of_seat_in seat (get (codes "key") d)) _ n f e refl λ key e1.
+    member_step (codes "match") (match_in (get (codes "match") d)) _ n f e1 refl λ name e2.
+    never _ n f e2
 
 sync_named : (d : Data) → IsNamed (sync_in d)
 unfolding sync_in
 sync_named d n f e =
     past_step (extra_in (codes "key" ∷ codes "match" ∷ codes "protocol" ∷ codes "seat" ∷ codes "type" ∷ []) d) _ n f e λ e0.
-    member_step (codes "key") (key_of_seat_in (or_null (natural_in 255) (get (codes "seat") d)) (get (codes "key") d)) _ n f e0 refl λ key e1.
-    member_step (codes "match") (match_in (get (codes "match") d)) _ n f e1 refl λ name e2.
-    member_step (codes "protocol") (protocol_in (get (codes "protocol") d)) _ n f e2 refl λ protocol e3.
-    member_step (codes "seat") (or_null (natural_in 255) (get (codes "seat") d)) _ n f e3 refl λ seat e4.
-    never _ n f e4
+    then_step (claim_in (or_null (natural_in 255) (get (codes "seat") d)) d) _ n f e0 (claim_named (or_null (natural_in 255) (get (codes "seat") d)) d) λ claim e1.
+    member_step (codes "protocol") (protocol_in (get (codes "protocol") d)) _ n f e1 refl λ protocol e2.
+    member_step (codes "seat") (or_null (natural_in 255) (get (codes "seat") d)) _ n f e2 refl λ seat e3.
+    never _ n f e3
 
 act_named : (d : Data) → IsNamed (client_act_in d)
 unfolding client_act_in

@@ -1,5 +1,5 @@
 -- A line from a client reads as the message that it is a form of, and as no other.
-use Rattle.std.proofs.Common.{◌≡◌, ◌≤◌, ◌==◌, ℕ, List, [], ◌∷◌, length, Bool, true, false, cond, ◌⊎◌, inl, inr, Option, Some, None, Ok, Err, bytes_eq, codes, refl, sym, ap, ◌∙◌, subst, arith}
+use Rattle.std.proofs.Common.{◌≡◌, ◌≤◌, ◌==◌, ℕ, List, [], ◌∷◌, length, Bool, true, false, cond, ◌⊎◌, inl, inr, Option, Some, None, Ok, Err, bytes_eq, codes, refl, ap, ◌∙◌, subst, arith}
 use Rattle.std.proofs.lemmas.Bool.{eqb-true}
 use Rattle.std.proofs.lemmas.Slice.Eq.{bytes_eq-Decides}
 use Rattle.std.specs.Prelude.{Result}
@@ -17,12 +17,12 @@ use Rattle.json_tree.proofs.LineLaws.{line_is, line_again, canonical_line}
 use Rattle.json_tree.proofs.Rows.{row_is}
 use Rattle.game_sheet.specs.MatchName.{Name}
 use Rattle.game_sheet.specs.Viewer.{Viewer, seat_of}
-use Rattle.sheet_json.specs.Seats.{natural, natural_or_null}
+use Rattle.sheet_json.specs.Seats.{natural, natural_or_null, or_null}
 use Rattle.sheet_json.proofs.SeatLaws.{bound, natural_is, natural_again, Holds, or_null_is}
 use Rattle.wire_json.specs.KeyText.{IsKey}
 use Rattle.wire_json.specs.MatchText.{match_text, IsName}
 use Rattle.wire_json.specs.ClientText.{key_or_null, protocol_number, client_members, said_members, ViewerFits, ClientFits, IsForm}
-use Rattle.wire_json.specs.ClientReading.{key_in, both_or_neither, viewer_of, protocol_from, protocol_in, place_in, player_in, stamp_in, sync_in, client_act_in, takeover_in, games_in, matches_in, look_in, create_in, join_in, rename_in, leave_in, lobby_as, client_as, client_in, client_read}
+use Rattle.wire_json.specs.ClientReading.{key_in, both_or_neither, viewer_of, claim_in, protocol_from, protocol_in, place_in, player_in, count_in, stamp_in, sync_in, client_act_in, takeover_in, games_in, matches_in, look_in, create_in, join_in, rename_in, leave_in, lobby_as, client_as, client_in, client_read}
 use Rattle.wire_json.specs.Refusals.{Refusal, ExtraField, UnknownMessage, of_line}
 use Rattle.wire_json.specs.declared.asked.Asked.{Asked}
 use Rattle.wire_json.specs.declared.client.ClientMsg.{ClientMsg}
@@ -262,19 +262,28 @@ sync_row ms name viewer protocol c known key match (inl unsaid) seat kind =
 sync_row ms name viewer protocol c known key match (inr said) seat kind =
     inr (row_is sync_names ms (said_members (Sync name viewer protocol)) c ((refl, (refl, (refl, (refl, tt)))), ((refl, (refl, (refl, tt))), ((refl, (refl, tt)), ((refl, tt), (tt, tt))))) known refl (key, (match, (said, (seat, (kind, tt))))))
 
+-- the key stands beside the seat, and the match is named
+claim_is : (ms : Members) (seat : Result (Option ℕ) FieldFault) (claim : Option (List ℕ) × Name) (s : Option ℕ) → claim_in seat (object ms) ≡ Ok claim → seat ≡ Ok s
+    → Holds key_in (get_member (codes "key") ms) claim.0 × (both_or_neither claim.0 s ≡ true) × HasText ms (codes "match") (match_text claim.1) × IsName claim.1
+claim_is ms seat claim s e is =
+    let key = step _ _ _ claim e in
+    let name = step _ _ _ claim key.2 in
+    let both = seat_key_is _ _ key.0 s key.1 is in
+    let match = match_member_is _ name.0 name.1 in
+    subst (λ p. Holds key_in (get_member (codes "key") ms) p.0 × (both_or_neither p.0 s ≡ true) × HasText ms (codes "match") (match_text p.1) × IsName p.1) (last (key.0, name.0) claim name.2)
+    (both.0, both.1, match.0, match.1)
+
 sync_is : (ms : Members) (m : ClientMsg) → MembersAreCanonical ms → IsOfType ms (codes "sync") → sync_in (object ms) ≡ Ok m → Reads ms m
 unfolding sync_in sync_names
 sync_is ms m c kind e =
     let known = past (has_extra sync_names ms) ExtraField _ m e in
-    let key = step _ _ _ m known.1 in
-    let name = step _ _ _ m key.2 in
-    let protocol = step _ _ _ m name.2 in
+    let claim = bound (claim_in (or_null (natural_in 255) (get_member (codes "seat") ms)) (object ms)) _ m known.1 in
+    let protocol = step _ _ _ m claim.2 in
     let seat = step _ _ _ m protocol.2 in
-    let both = seat_key_is _ _ key.0 seat.0 key.1 seat.1 in
-    let viewer = viewer_is _ _ key.0 seat.0 both.0 (or_null_is (natural_in 255) _ seat.0 seat.1) both.1 in
-    let match = match_member_is _ name.0 name.1 in
-    let row = sync_row ms name.0 (viewer_of key.0 seat.0) protocol.0 c known.0 viewer.0 match.0 (protocol_is _ protocol.0 protocol.1) viewer.1 (text_is _ _ kind) in
-    subst (Reads ms) (last (Sync name.0 (viewer_of key.0 seat.0) protocol.0) m seat.2) (row, (match.1, viewer.2))
+    let is = claim_is ms _ claim.0 seat.0 claim.1 seat.1 in
+    let viewer = viewer_is _ _ claim.0.0 seat.0 is.0 (or_null_is (natural_in 255) _ seat.0 seat.1) is.1 in
+    let row = sync_row ms claim.0.1 (viewer_of claim.0.0 seat.0) protocol.0 c known.0 viewer.0 is.2 (protocol_is _ protocol.0 protocol.1) viewer.1 (text_is _ _ kind) in
+    subst (Reads ms) (last (Sync claim.0.1 (viewer_of claim.0.0 seat.0) protocol.0) m seat.2) (row, (is.3, viewer.2))
 
 sync_again : (name : Name) (viewer : Viewer) (protocol : Protocol) → IsName name → ViewerFits viewer → sync_in (object (client_members (Sync name viewer protocol))) ≡ Ok (Sync name viewer protocol)
 unfolding sync_in
@@ -306,25 +315,33 @@ record IsStamp (ms : Members) (key : List ℕ) (name : Name) (at ticket : ℕ) :
   at_fits : at ≤ 4294967295
   ticket_fits : ticket ≤ 4294967295
 
+count_is : (ms : Members) (count : ℕ × ℕ) → count_in (object ms) ≡ Ok count
+    → (get_member (codes "number") ms ≡ Some (natural count.0)) × (get_member (codes "ticket") ms ≡ Some (natural count.1)) × (count.0 ≤ 4294967295) × (count.1 ≤ 4294967295)
+count_is ms count e =
+    let at = step _ _ _ count e in
+    let ticket = step _ _ _ count at.2 in
+    let number = natural_is 4294967295 _ at.0 at.1 in
+    let tickets = natural_is 4294967295 _ ticket.0 ticket.1 in
+    subst (λ p. (get_member (codes "number") ms ≡ Some (natural p.0)) × (get_member (codes "ticket") ms ≡ Some (natural p.1)) × (p.0 ≤ 4294967295) × (p.1 ≤ 4294967295)) (last (at.0, ticket.0) count ticket.2)
+    (number.0, tickets.0, number.1, tickets.1)
+
 stamp_is : (ms : Members) (stamp : List ℕ × Name × ℕ × ℕ) → stamp_in (object ms) ≡ Ok stamp → IsStamp ms stamp.0 stamp.1 stamp.2 stamp.3
 stamp_is ms stamp e =
     let key = step _ _ _ stamp e in
     let name = step _ _ _ stamp key.2 in
-    let at = step _ _ _ stamp name.2 in
-    let ticket = step _ _ _ stamp at.2 in
+    let count = bound (count_in (object ms)) _ stamp name.2 in
     let owner = key_member_is _ key.0 key.1 in
     let match = match_member_is _ name.0 name.1 in
-    let number = natural_is 4294967295 _ at.0 at.1 in
-    let count = natural_is 4294967295 _ ticket.0 ticket.1 in
-    subst (λ s. IsStamp ms s.0 s.1 s.2 s.3) (last (key.0, name.0, at.0, ticket.0) stamp ticket.2) (record {
+    let is = count_is ms count.0 count.1 in
+    subst (λ s. IsStamp ms s.0 s.1 s.2 s.3) (last (key.0, name.0, count.0.0, count.0.1) stamp count.2) (record {
       owned = owner.0;
       named = match.0;
-      numbers = number.0;
-      counts = count.0;
+      numbers = is.0;
+      counts = is.1;
       key_fits = owner.1;
       name_fits = match.1;
-      at_fits = number.1;
-      ticket_fits = count.1;
+      at_fits = is.2;
+      ticket_fits = is.3;
     })
 
 abbrev submitted : Asked → List ℕ × Name × ℕ × ℕ → Submission

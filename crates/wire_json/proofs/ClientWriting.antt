@@ -1,10 +1,9 @@
 -- What is written for a message from a client reads back as it: its object is writable, and nests a few levels deep.
-use Rattle.std.proofs.Common.{◌≡◌, ℕ, ◌≤◌, ◌++◌, ◌∷◌, [], List, length, lit≤, false, true, inl, Some, None, IsUtf8, refl, ◌∙◌, arith}
+use Rattle.std.proofs.Common.{◌≡◌, ◌≤◌, ◌++◌, length, lit≤, inl, Some, None, IsUtf8, refl, ◌∙◌, arith}
 use Rattle.std.proofs.lemmas.Str.{IsUtf8-append}
-use Rattle.serde_json.specs.Data.{Members, member, string, object, depth}
-use Rattle.serde_json.specs.Read.{read, max_depth}
+use Rattle.serde_json.specs.Data.{object, depth}
+use Rattle.serde_json.specs.Read.{max_depth}
 use Rattle.serde_json.specs.Written.{compact_text}
-use Rattle.hex.specs.Hex.{encode_lower}
 use Rattle.json_tree.specs.Lines.{IsTextOf, newline}
 use Rattle.json_tree.specs.Writable.{IsWritable, MembersAreWritable}
 use Rattle.json_tree.proofs.LineLaws.{newline_utf8}

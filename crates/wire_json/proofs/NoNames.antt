@@ -1,5 +1,5 @@
 -- What is asked for by a name that isn't on the sheet is no action.
-use Rattle.std.proofs.Common.{◌≡◌, ℕ, List, Option, Some, None, option_map, sym, ap, ◌∙◌}
+use Rattle.std.proofs.Common.{◌≡◌, ℕ, List, Option, None, option_map, sym, ap, ◌∙◌}
 use Rattle.game_sheet.specs.SheetNames.{move_of, phase_of, stage_of}
 use Rattle.game_sheet.specs.declared.act.Act.TheVariants as act
 use Rattle.game_sheet.specs.declared.act.Event.TheVariants as event

@@ -18,9 +18,12 @@ aim (Name name) = string name
 abbrev pub from_kind : List ℕ → Members
 from_kind name = member (codes "kind") (string (codes "move")) (member (codes "move") (string name) no_members)
 
+abbrev pub from_to : AskedTo → Members
+from_to to = member (codes "kind") (string (codes "event")) (member (codes "to") (aim to) no_members)
+
 abbrev pub asked_members : Asked → Members
 asked_members (Move name args) = member (codes "args") (array (arguments args)) (from_kind name)
-asked_members (Event kind to) = member (codes "event") (string (event_text kind)) (member (codes "kind") (string (codes "event")) (member (codes "to") (aim to) no_members))
+asked_members (Event kind to) = member (codes "event") (string (event_text kind)) (from_to to)
 asked_members Undo = member (codes "kind") (string (codes "undo")) no_members
 asked_members Redo = member (codes "kind") (string (codes "redo")) no_members
 

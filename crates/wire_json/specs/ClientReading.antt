@@ -54,24 +54,36 @@ abbrev pub protocol_in : Option Data → Result Protocol FieldFault
 protocol_in None = Ok One
 protocol_in (Some d) = natural_in 2 (Some d) >>= λ n. in_form (protocol_from n)
 
+-- the key of a sync, which stands beside this seat, and its match
+abbrev pub claim_in : Result (Option ℕ) FieldFault → Data → Result (Option (List ℕ) × Name) Refusal
+claim_in seat d =
+    at_field (codes "key") (key_of_seat_in seat (get (codes "key") d)) >>= λ key.
+    at_field (codes "match") (match_in (get (codes "match") d)) >>= λ name.
+    Ok (key, name)
+
 unfoldable pub sync_in : Data → Result ClientMsg Refusal
 sync_in d =
     if extra_in (codes "key" ∷ codes "match" ∷ codes "protocol" ∷ codes "seat" ∷ codes "type" ∷ []) d then Err ExtraField
     else
-    (at_field (codes "key") (key_of_seat_in (or_null (natural_in 255) (get (codes "seat") d)) (get (codes "key") d)) >>= λ key.
-    at_field (codes "match") (match_in (get (codes "match") d)) >>= λ name.
+    (claim_in (or_null (natural_in 255) (get (codes "seat") d)) d >>= λ claim.
     at_field (codes "protocol") (protocol_in (get (codes "protocol") d)) >>= λ protocol.
     at_field (codes "seat") (or_null (natural_in 255) (get (codes "seat") d)) >>= λ seat.
-    Ok (Sync name (viewer_of key seat) protocol))
+    Ok (Sync claim.1 (viewer_of claim.0 seat) protocol))
+
+-- an act's state number and ticket
+abbrev pub count_in : Data → Result (ℕ × ℕ) Refusal
+count_in d =
+    at_field (codes "number") (natural_in 4294967295 (get (codes "number") d)) >>= λ at.
+    at_field (codes "ticket") (natural_in 4294967295 (get (codes "ticket") d)) >>= λ ticket.
+    Ok (at, ticket)
 
 -- the members of an act but for `act` itself
 abbrev pub stamp_in : Data → Result (List ℕ × Name × ℕ × ℕ) Refusal
 stamp_in d =
     at_field (codes "key") (key_in (get (codes "key") d)) >>= λ key.
     at_field (codes "match") (match_in (get (codes "match") d)) >>= λ name.
-    at_field (codes "number") (natural_in 4294967295 (get (codes "number") d)) >>= λ at.
-    at_field (codes "ticket") (natural_in 4294967295 (get (codes "ticket") d)) >>= λ ticket.
-    Ok (key, name, at, ticket)
+    count_in d >>= λ count.
+    Ok (key, name, count.0, count.1)
 
 unfoldable pub client_act_in : Data → Result ClientMsg Refusal
 client_act_in d =

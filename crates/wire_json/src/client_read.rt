@@ -3,7 +3,7 @@
 ghost use Rattle.std.specs.Prelude.{◌≡◌, codes, IfOk, IfErr, Ok};
 ghost use Rattle.serde_json.specs.Find.{get};
 ghost use Rattle.serde_json.specs.View.{view};
-ghost use Rattle.wire_json.specs.ClientReading.{key_of_seat_in, protocol_in, stamp_in, sync_in, client_act_in, takeover_in, client_in, client_read, viewer_of as viewer_from};
+ghost use Rattle.wire_json.specs.ClientReading.{key_of_seat_in, claim_in, protocol_in, count_in, stamp_in, sync_in, client_act_in, takeover_in, client_in, client_read, viewer_of as viewer_from};
 ghost use Rattle.wire_json.specs.ClientText.{IsForm};
 ghost use Rattle.wire_json.specs.RefusalText.{IsAnswerable};
 ghost use Rattle.wire_json.specs.Refusals.{Gives};
@@ -101,9 +101,17 @@ fn stamp_of(value: &Value) -> Result<(Key, MatchName, Number, u32), WireNo>
         Ok(name) => name,
         Err(no) => return Err(no),
     };
+    let (number, ticket) = count_of(value)?;
+    Ok((key, name, number, ticket))
+}
+
+// The state number and the ticket that the object holds, or the first fault of the two members.
+fn count_of(value: &Value) -> Result<(Number, u32), WireNo>
+    ensures { Gives result (count_in (view value.now)) }
+{
     let number = at("number", number_member_of(value, "number"))?;
     let ticket = at("ticket", number_member_of(value, "ticket"))?;
-    Ok((key, name, number, ticket))
+    Ok((number, ticket))
 }
 
 #[tactic(auto, unfolding(crate::specs::ClientReading::sync_in))]
@@ -114,12 +122,8 @@ fn sync(value: &Value) -> Result<ClientMsg, WireNo>
         return Err(WireNo::ExtraField);
     }
     let seat = seat_or_null_of(value, "seat");
-    let key = match key_of_seat(value, seat) {
-        Ok(key) => key,
-        Err(fault) => return Err(WireNo::Field { name: "key", fault }),
-    };
-    let name = match match_at(value, "match") {
-        Ok(name) => name,
+    let (key, name) = match claim_of(value, seat) {
+        Ok(claim) => claim,
         Err(no) => return Err(no),
     };
     let protocol = at("protocol", protocol_of(value, "protocol"))?;
@@ -155,6 +159,23 @@ fn protocol_of(value: &Value, name: &str) -> Result<Protocol, FieldFault>
         1 => Ok(Protocol::One),
         2 => Ok(Protocol::Two),
         _ => Err(FieldFault::OutOfRange),
+    }
+}
+
+// The key, which has to fit the seat, and the match, or the first fault of the two members.
+fn claim_of(
+    value: &Value,
+    seat: Result<Option<Seat>, FieldFault>,
+) -> Result<(Option<Key>, MatchName), WireNo>
+    ensures { Gives result (claim_in seat (view value.now)) }
+{
+    let key = match key_of_seat(value, seat) {
+        Ok(key) => key,
+        Err(fault) => return Err(WireNo::Field { name: "key", fault }),
+    };
+    match match_at(value, "match") {
+        Ok(name) => Ok((key, name)),
+        Err(no) => Err(no),
     }
 }
 

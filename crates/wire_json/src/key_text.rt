@@ -1,29 +1,36 @@
-//! The texts of keys.
+//! Bytes in hexadecimal digits, and the texts of keys.
 
-ghost use Rattle.std.specs.Prelude.{◌≡◌, IfOk, OnOk, string_bytes};
+ghost use Rattle.std.specs.Prelude.{◌≡◌, ◌*◌, IfOk, OnOk, string_bytes};
 ghost use Rattle.hex.specs.Hex.{encode_lower, IsBytes};
-ghost use Rattle.wire_json.specs.KeyText.{key_from, IsKey};
+ghost use Rattle.wire_json.specs.KeyText.{lower_hex, key_from, IsKey};
 
 use game_sheet::{Key, NoMemory};
 use hex::FromHex;
 use std::alloc::Global;
 
-/// The key that a text writes in 32 hexadecimal digits of lower case.
-#[tactic(auto, unfolding(crate::specs::KeyText::key_from))]
-pub fn key_of(text: &str) -> Option<Key>
-    ensures { result ≡ key_from text.now }
+/// The `N` bytes that a text writes in `DIGITS`, twice as many, hexadecimal digits of lower case.
+#[tactic(auto, unfolding(crate::specs::KeyText::lower_hex))]
+pub fn lower_hex_of<const N: usize, const DIGITS: usize>(text: &[u8]) -> Option<[u8; N]>
+    requires { DIGITS ≡ 2 * N }
+    ensures { result ≡ lower_hex N text.now }
 {
-    let Ok(bytes) = <[u8; 16] as FromHex>::from_hex(text) else {
+    let Ok(bytes) = <[u8; N] as FromHex>::from_hex(text) else {
         return None;
     };
-    let mut back = [0u8; 32];
+    let mut back = [0u8; DIGITS];
     let Ok(()) = hex::encode_to_slice(&bytes, &mut back) else {
         unreachable!();
     };
-    if &back[..] == text.as_bytes() {
-        Some(Key::new(bytes))
-    } else {
-        None
+    if &back[..] == text { Some(bytes) } else { None }
+}
+
+/// The key that a text writes in 32 hexadecimal digits of lower case.
+pub fn key_of(text: &str) -> Option<Key>
+    ensures { result ≡ key_from text.now }
+{
+    match lower_hex_of::<16, 32>(text.as_bytes()) {
+        Some(bytes) => Some(Key::new(bytes)),
+        None => None,
     }
 }
 

@@ -30,7 +30,7 @@ pub use bye::{bye_of, text_of_bye};
 pub use client::ClientMsg;
 pub use client_read::{CLIENT_LINE, read_client};
 pub use client_write::write_client;
-pub use key_text::{key_of, text_of_key};
+pub use key_text::{key_of, lower_hex_of, text_of_key};
 pub use match_row::MatchRow;
 pub use match_text::{decimal_of, match_of, text_of_match};
 pub use names::resolve;

@@ -4,7 +4,7 @@ ghost use Rattle.std.specs.Prelude.{◌≡◌, ◌++◌, true, OnOk, IsUtf8};
 ghost use Rattle.serde_json.specs.Data.{object};
 ghost use Rattle.serde_json.specs.Written.{compact_text, members_text};
 ghost use Rattle.sheet_json.specs.Arguments.{AreArguments};
-ghost use Rattle.wire_json.specs.Asking.{aim, from_kind, asked_members, AskedFits, IsAskable, AimIsUtf8, AskedIsUtf8};
+ghost use Rattle.wire_json.specs.Asking.{aim, from_kind, from_to, asked_members, AskedFits, IsAskable, AimIsUtf8, AskedIsUtf8};
 ghost use Rattle.wire_json.specs.declared.asked.Asked.TheVariants as asked;
 
 use crate::asked::{Asked, AskedTo};
@@ -63,6 +63,14 @@ fn put_event(
 {
     out.extend_from_slice(b"{\"event\":")?;
     put_text(alloc, out, kind.name())?;
+    put_from_to(alloc, out, to)
+}
+
+#[tactic(auto, unfolding(json::specs::Print::escape_byte))]
+fn put_from_to(alloc: Global, out: &mut Vec<u8>, to: &AskedTo) -> Result<(), NoMemory>
+    ensures text { OnOk result (out.new.items ≡ out.old.items ++ members_text true (from_to to.now)) }
+    ensures utf8 { OnOk result (AimIsUtf8 to.now) }
+{
     out.extend_from_slice(b",\"kind\":\"event\",\"to\":")?;
     put_aim(alloc, out, to)?;
     Ok(out.push(b'}')?)

@@ -1,4 +1,4 @@
-use Rattle.std.proofs.Common.{rules, sym}
+use Rattle.std.proofs.Common.{rules}
 use Rattle.wire_json.proofs.NoNames.{no_phase, no_stage}
 use Rattle.wire_json.proofs.names.event_named.Goals as goal
 

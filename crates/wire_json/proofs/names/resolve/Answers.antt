@@ -1,4 +1,4 @@
-use Rattle.std.proofs.Common.{rules, sym}
+use Rattle.std.proofs.Common.{rules}
 use Rattle.wire_json.proofs.NoNames.{no_move}
 use Rattle.wire_json.proofs.names.resolve.Goals as goal
 
