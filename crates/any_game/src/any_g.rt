@@ -1,11 +1,11 @@
 //! The states of the six games as one type.
 
-ghost use Rattle.std.specs.Prelude.{◌≡◌, ◌↔◌, false, IfOk, IfSome, IsTrue, Option, Some, option_copied, refl};
+ghost use Rattle.std.specs.Prelude.{◌≡◌, ◌++◌, ◌↔◌, false, IfOk, IfSome, IsTrue, OnOk, Option, Some, option_copied, refl};
 ghost use Rattle.any_game.specs.Values.{any_value, are_bids, are_cards, are_points, as_bids, as_board, as_cards, as_heap, as_points, as_texts, are_texts, is_board, is_heap};
 ghost use Rattle.any_game.specs.declared.any_g.AnyG.{AnyG};
 ghost use Rattle.any_game.specs.declared.any_g.AnyG.TheVariants.{TicTacToe as OfTicTacToe, Countdown as OfCountdown, Pig as OfPig, HighHand as OfHighHand, BlindBid as OfBlindBid, Captions as OfCaptions};
 ghost use Rattle.serde_json.specs.View.{view};
-ghost use Rattle.serde_json.specs.Written.{has_float};
+ghost use Rattle.serde_json.specs.Written.{compact_text, has_float};
 
 use card_games::{Bids, Cards, Part, Texts, copied_split};
 use game_sheet::NoMemory;
@@ -37,12 +37,12 @@ impl AnyG {
         ensures { IfOk result (λ copied. copied ≡ self.now) }
     {
         match self {
-            AnyG::TicTacToe(board) => Ok(AnyG::TicTacToe(board.copy(alloc)?)),
-            AnyG::Countdown(heap) => Ok(AnyG::Countdown(heap.copy(alloc)?)),
-            AnyG::Pig(scores) => Ok(AnyG::Pig(scores.copy(alloc)?)),
-            AnyG::HighHand(cards) => Ok(AnyG::HighHand(copied_split(alloc, cards)?)),
-            AnyG::BlindBid(bids) => Ok(AnyG::BlindBid(copied_split(alloc, bids)?)),
-            AnyG::Captions(texts) => Ok(AnyG::Captions(copied_split(alloc, texts)?)),
+            AnyG::TicTacToe(board) => in_any(board.copy(alloc)),
+            AnyG::Countdown(heap) => in_any(heap.copy(alloc)),
+            AnyG::Pig(scores) => in_any(scores.copy(alloc)),
+            AnyG::HighHand(cards) => in_any(copied_split(alloc, cards)),
+            AnyG::BlindBid(bids) => in_any(copied_split(alloc, bids)),
+            AnyG::Captions(texts) => in_any(copied_split(alloc, texts)),
         }
     }
 
@@ -75,6 +75,20 @@ impl AnyG {
             AnyG::Captions(texts) => Ok(texts.to_json(alloc)?),
         }
     }
+
+    /// Appends the state's text, as its own game writes it.
+    pub(crate) fn write(&self, alloc: Global, out: &mut Vec<u8>) -> Result<(), NoMemory>
+        ensures { OnOk result (out.new.items ≡ out.old.items ++ compact_text (any_value self.now)) }
+    {
+        match self {
+            AnyG::TicTacToe(board) => board.write(alloc, out),
+            AnyG::Countdown(heap) => heap.write(alloc, out),
+            AnyG::Pig(scores) => scores.write(alloc, out),
+            AnyG::HighHand(cards) => Ok(cards.write(alloc, out)?),
+            AnyG::BlindBid(bids) => Ok(bids.write(alloc, out)?),
+            AnyG::Captions(texts) => Ok(texts.write(alloc, out)?),
+        }
+    }
 }
 
 /// A game's own states, which are among the states of all games.
@@ -96,6 +110,16 @@ pub(crate) trait OwnState: Drop {
     ghost finds: { (own : Self) → project (inject own) ≡ Some own };
 
     ghost tells: { (g : AnyG) → IfSome (project g) (λ own. g ≡ inject own) };
+}
+
+/// A copy of an own state, among the states of all games.
+fn in_any<H: OwnState>(copied: Result<H, NoMemory>) -> Result<AnyG, NoMemory>
+    ensures { (own : H) → IfOk copied (λ copy. copy ≡ own) → IfOk result (λ any. any ≡ H.inject own) }
+{
+    match copied {
+        Ok(own) => Ok(own.into_any()),
+        Err(error) => Err(error),
+    }
 }
 
 impl OwnState for Board {

@@ -301,6 +301,10 @@ impl Game for AnyGame {
         picked!(self, to_value(alloc, g))
     }
 
+    fn write(&self, alloc: Global, out: &mut Vec<u8>, g: &AnyG) -> Result<(), NoMemory> {
+        picked!(self, write(alloc, out, g))
+    }
+
     fn from_value(&self, alloc: Global, v: &Value) -> Result<Option<AnyG>, NoMemory> {
         picked!(self, from_value(alloc, v))
     }

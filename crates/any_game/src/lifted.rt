@@ -241,6 +241,13 @@ where
         }
     }
 
+    fn write(&self, alloc: Global, out: &mut Vec<u8>, g: &AnyG) -> Result<(), NoMemory> {
+        match X::G::of_any(g) {
+            Some(own) => self.game.write(alloc, out, own),
+            None => g.write(alloc, out),
+        }
+    }
+
     fn from_value(&self, alloc: Global, v: &Value) -> Result<Option<AnyG>, NoMemory> {
         match self.game.from_value(alloc, v)? {
             Some(own) => Ok(Some(own.into_any())),

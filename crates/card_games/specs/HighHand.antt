@@ -20,7 +20,7 @@ use Rattle.game_trait.specs.Offers.{offered}
 use Rattle.game_trait.specs.Rules.{Rules, plain}
 use Rattle.secret_strip.specs.Strip.{strip}
 use Rattle.secret_strip.specs.declared.split.Split.{Split}
-use Rattle.serde_json.specs.Data.{Data, object, member, no_members}
+use Rattle.serde_json.specs.Data.{Data, object, Members, member, no_members}
 
 -- everybody sees the table, each seat its own hand, and nobody the deck
 abbrev pub Cards : Type 0
@@ -188,14 +188,22 @@ card_offers g seat (Some phase) = if nat_eq phase 0 then (0, []) ∷ [] else (if
 abbrev pub table_names : List (List ℕ)
 table_names = codes "hands" ∷ codes "left" ∷ codes "scores" ∷ codes "table" ∷ []
 
+-- the members of a table from its scores on
+abbrev pub from_scores : List ℕ → List (Option ℕ) → Members
+from_scores scores places = member (codes "scores") (list_value number_value scores) (member (codes "table") (list_value (option_value number_value) places) no_members)
+
 abbrev pub table_value : CardTable → Data
-table_value t = object (member (codes "hands") (list_value number_value t.hands) (member (codes "left") (number_value t.left) (member (codes "scores") (list_value number_value t.scores) (member (codes "table") (list_value (option_value number_value) t.places) no_members))))
+table_value t = object (member (codes "hands") (list_value number_value t.hands) (member (codes "left") (number_value t.left) (from_scores t.scores t.places)))
 
 abbrev pub table_of : List ℕ → ℕ → List ℕ → List (Option ℕ) → CardTable
 table_of hands left scores places = record { hands = hands; left = left; scores = scores; places = places }
 
 abbrev pub read_card : Data → Option ℕ
 read_card d = read_number 51 d
+
+-- the table of these counts whose scores and places an object holds
+abbrev pub rest_of_table : List ℕ → ℕ → Data → Option CardTable
+rest_of_table hands left d = apply (apply (Some (table_of hands left)) (read_member (codes "scores") (read_list read_count) d)) (read_member (codes "table") (read_list (read_option read_card)) d)
 
 abbrev pub read_table : Data → Option CardTable
 read_table v = read_object table_names (λ d. apply (apply (apply (apply (Some table_of) (read_member (codes "hands") (read_list read_count) d)) (read_member (codes "left") read_count d)) (read_member (codes "scores") (read_list read_count) d)) (read_member (codes "table") (read_list (read_option read_card)) d)) v

@@ -4,7 +4,7 @@ use Rattle.std.specs.List.{list_all}
 use Rattle.game_sheet.specs.Short.{is_short}
 use Rattle.json_tree.specs.Names.{extra_in}
 use Rattle.secret_strip.specs.declared.split.Split.{Split}
-use Rattle.serde_json.specs.Data.{Data, null, number, unsigned, string, array, object, Items, no_items, item, member, no_members}
+use Rattle.serde_json.specs.Data.{Data, null, number, unsigned, string, array, object, Items, no_items, item, Members, member, no_members}
 use Rattle.serde_json.specs.Find.{as_array, as_null, as_number, as_u64, get}
 use Rattle.serde_json.specs.View.{items_of}
 
@@ -80,9 +80,13 @@ lone_value name value x = object (member name (value x) no_members)
 abbrev pub read_lone : {A : Type 0} → List ℕ → (Data → Option A) → Data → Option A
 read_lone name read v = read_object (name ∷ []) (read_member name read) v
 
+-- the members of a split state from its players on
+abbrev pub from_players : {S P : Type 0} → (S → Data) → (P → Data) → List (Option P) → Option S → Members
+from_players secret player players held = member (codes "players") (list_value (option_value player) players) (member (codes "secret") (option_value secret held) no_members)
+
 -- a split state: what is common, an entry for each player, and what is secret
 abbrev pub split_value : {C S P : Type 0} → (C → Data) → (S → Data) → (P → Data) → Split C S P → Data
-split_value common secret player g = object (member (codes "common") (common g.common) (member (codes "players") (list_value (option_value player) g.players) (member (codes "secret") (option_value secret g.secret) no_members)))
+split_value common secret player g = object (member (codes "common") (common g.common) (from_players secret player g.players g.secret))
 
 abbrev pub split_of : {C S P : Type 0} → C → List (Option P) → Option S → Split C S P
 split_of common players secret = record { common = common; secret = secret; players = players }

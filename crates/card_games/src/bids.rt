@@ -1,13 +1,16 @@
 //! The state of Blind Bid.
 
+ghost use Rattle.std.specs.Prelude.{◌≡◌, OnOk};
 ghost use Rattle.card_games.specs.BlindBid.{bidding_value, read_bidding, read_sealed_bid, sealed_bid_value};
+ghost use Rattle.serde_json.specs.Data.{no_members, object};
+ghost use Rattle.serde_json.specs.View.{members_view};
 
-use crate::json::{Part, lone_member, member};
+use crate::parts::{Part, lone_member, lone_to_json, member, put_part};
 use crate::sealed::Sealed;
 use game_sheet::{List, NoMemory};
 use json_tree::extra_field;
 use secret_strip::CopyPart;
-use serde_json::{Value, json};
+use serde_json::{Map, Value};
 use std::alloc::{AllocError, Global};
 
 /// What everybody sees.
@@ -40,9 +43,24 @@ impl Part for Bidding {
     ghost float_free = { bidding_float_free };
 
     fn to_json(&self, alloc: Global) -> Result<Value, AllocError> {
-        let boasts = self.boasts.to_json(alloc)?;
-        let revealed = self.revealed.to_json(alloc)?;
-        json!(in alloc; {"boasts": boasts, "revealed": revealed})
+        let mut map = Map::new(alloc);
+        match put_bidding(alloc, &mut map, self) {
+            Ok(()) => Ok(Value::Object(map)),
+            Err(error) => {
+                drop(map);
+                Err(error)
+            }
+        }
+    }
+
+    #[tactic(auto, unfolding(json::specs::Print::escape_byte))]
+    fn write(&self, alloc: Global, out: &mut Vec<u8>) -> Result<(), AllocError> {
+        out.extend_from_slice(b"{\"boasts\":")?;
+        self.boasts.write(alloc, out)?;
+        out.extend_from_slice(b",\"revealed\":")?;
+        self.revealed.write(alloc, out)?;
+        out.push(b'}')?;
+        Ok(())
     }
 
     fn from_json(alloc: Global, v: &Value) -> Result<Option<Self>, NoMemory> {
@@ -63,6 +81,19 @@ impl Part for Bidding {
     }
 }
 
+/// Puts the members of what everybody sees into an empty object.
+fn put_bidding(
+    alloc: Global,
+    map: &mut Map<String, Value>,
+    bidding: &Bidding,
+) -> Result<(), AllocError>
+    requires { members_view map.old.entries ≡ no_members }
+    ensures { OnOk result (object (members_view map.new.entries) ≡ bidding_value bidding.now) }
+{
+    put_part(alloc, map, "boasts", &bidding.boasts)?;
+    put_part(alloc, map, "revealed", &bidding.revealed)
+}
+
 /// A seat's bid.
 impl Part for Sealed<u32> {
     ghost use Rattle.card_games.specs.FloatFree.{sealed_bid_float_free};
@@ -74,8 +105,15 @@ impl Part for Sealed<u32> {
     ghost float_free = { sealed_bid_float_free };
 
     fn to_json(&self, alloc: Global) -> Result<Value, AllocError> {
-        let bid = self.item.to_json(alloc)?;
-        json!(in alloc; {"bid": bid})
+        lone_to_json(alloc, "bid", &self.item)
+    }
+
+    #[tactic(auto, unfolding(json::specs::Print::escape_byte))]
+    fn write(&self, alloc: Global, out: &mut Vec<u8>) -> Result<(), AllocError> {
+        out.extend_from_slice(b"{\"bid\":")?;
+        self.item.write(alloc, out)?;
+        out.push(b'}')?;
+        Ok(())
     }
 
     fn from_json(alloc: Global, v: &Value) -> Result<Option<Self>, NoMemory> {

@@ -1,15 +1,15 @@
 //! Blind Bid for two to eight seats.
 
-ghost use Rattle.std.specs.Prelude.{◌≡◌, ◌<◌, ℕ, List as Items, [], length, slice_get, unwrap_or, IfOk};
-ghost use Rattle.card_games.specs.BlindBid.{Bids, bid, bid_end, bid_offers, bid_sheet, boast, have_bidders, is_bid, no_bids, read_bids, revealed};
+ghost use Rattle.std.specs.Prelude.{◌≡◌, ◌<◌, ◌++◌, ℕ, List as Items, [], length, slice_get, unwrap_or, IfOk, OnOk, Some};
+ghost use Rattle.card_games.specs.BlindBid.{Bids, bid, bid_end, bid_offers, bid_sheet, boast, have_bidders, is_bid, no_bids, read_bids, revealed, with_bids};
 ghost use Rattle.card_games.specs.Sealed.{seal};
 ghost use Rattle.game_trait.specs.Gives.{Gives};
 ghost use Rattle.serde_json.specs.View.{view};
 
 use crate::bids::Bidding;
-use crate::json::Part;
 use crate::lists::{changed, copied_split};
 use crate::offers::offer;
+use crate::parts::Part;
 use crate::sealed::{
     NoSecret, Sealed, are_seats, may_seal, seal, sealed_end, sealing_specs, sealing_stages,
     sealing_turn, shown_items, unsealed,
@@ -20,6 +20,7 @@ use game_sheet::{
     Text, unbroken,
 };
 use game_trait::{Game, Halt, HookHalt, may_be_offered};
+use open_game::{blank_sheet, kept_if};
 use secret_strip::{CopyPart, Split};
 use serde_json::Value;
 use std::alloc::Global;
@@ -55,24 +56,31 @@ impl BlindBid {
 fn make_sheet(alloc: Global) -> Result<Sheet, NoMemory>
     ensures { IfOk result (λ made. made ≡ bid_sheet) }
 {
-    Ok(Sheet {
-        name: Text::from_str(alloc, "blind-bid")?,
-        min_seats: 2,
-        max_seats: 8,
-        moves: make_moves(alloc)?,
-        base: List::from_slice(alloc, &[MoveId::at(0), MoveId::at(1)])?,
-        turn: sealing_turn(),
-        phases: List::new(alloc),
-        stages: sealing_stages(alloc, "bid")?,
-        specs: sealing_specs(alloc)?,
-        events: List::new(alloc),
-    })
+    let mut sheet = blank_sheet(alloc, "blind-bid", 2, 8, sealing_turn())?;
+    match fill_sheet(alloc, &mut sheet) {
+        Ok(()) => Ok(sheet),
+        Err(NoMemory) => {
+            drop(sheet);
+            Err(NoMemory)
+        }
+    }
 }
 
-fn make_moves(alloc: Global) -> Result<List<MoveRow>, NoMemory>
-    ensures { IfOk result (λ rows. rows ≡ bid_sheet.moves) }
+/// Gives a sheet the game's rows.
+fn fill_sheet(alloc: Global, sheet: &mut Sheet) -> Result<(), NoMemory>
+    ensures { OnOk result (sheet.new ≡ record sheet.old { moves = sheet.old.moves ++ bid_sheet.moves; base = bid_sheet.base; stages = bid_sheet.stages; specs = bid_sheet.specs }) }
 {
-    let mut rows = List::new(alloc);
+    add_moves(alloc, &mut sheet.moves)?;
+    sheet.base = List::from_slice(alloc, &[MoveId::at(0), MoveId::at(1)])?;
+    sheet.stages = sealing_stages(alloc, "bid")?;
+    sheet.specs = sealing_specs(alloc)?;
+    Ok(())
+}
+
+/// Adds the game's moves.
+fn add_moves(alloc: Global, rows: &mut List<MoveRow>) -> Result<(), NoMemory>
+    ensures { OnOk result (rows.new ≡ rows.old ++ bid_sheet.moves) }
+{
     rows.push(MoveRow {
         name: Text::from_str(alloc, "bid")?,
         redact: true,
@@ -87,7 +95,7 @@ fn make_moves(alloc: Global) -> Result<List<MoveRow>, NoMemory>
         no_limit: true,
         ignore_stale: false,
     })?;
-    Ok(rows)
+    Ok(())
 }
 
 /// No boast and no bid yet.
@@ -134,33 +142,40 @@ fn boast(alloc: Global, g: &Bids, seat: Seat, args: &[Arg]) -> Result<Bids, Halt
 {
     let boasts = g.common.boasts.as_slice();
     match args {
-        [Arg::Whole(n)] if *n >= 0 && *n <= 9 && (seat as usize) < boasts.len() => Ok(Split {
-            common: Bidding {
-                boasts: changed(alloc, boasts, seat as usize, *n as u32)?,
-                revealed: g.common.copy(alloc)?.revealed,
-            },
-            secret: g.secret,
-            players: g.players.copy(alloc)?,
-        }),
+        [Arg::Whole(n)] if *n >= 0 && *n <= 9 && (seat as usize) < boasts.len() => {
+            let boasts = changed(alloc, boasts, seat as usize, *n as u32)?;
+            Ok(with_boasts(alloc, g, boasts)?)
+        }
         _ => Err(Halt::Invalid),
     }
+}
+
+/// The state with these boasts.
+fn with_boasts(alloc: Global, g: &Bids, boasts: List<u32>) -> Result<Bids, NoMemory>
+    ensures { IfOk result (λ h. h ≡ record g.now { common = record g.now.common { boasts = boasts } }) }
+{
+    let mut after = copied_split(alloc, g)?;
+    after.common.boasts = boasts;
+    Ok(after)
 }
 
 /// The state with all bids shown; none where not all have bid.
 fn reveal(alloc: Global, g: &Bids) -> Result<Option<Bids>, NoMemory>
     ensures { IfOk result (λ o. unwrap_or o g.now ≡ revealed g.now) }
 {
-    let Some(bids) = shown_items(alloc, g.players.as_slice())? else {
-        return Ok(None);
-    };
-    Ok(Some(Split {
-        common: Bidding {
-            boasts: g.common.boasts.copy(alloc)?,
-            revealed: Some(bids),
-        },
-        secret: g.secret,
-        players: g.players.copy(alloc)?,
-    }))
+    match shown_items(alloc, g.players.as_slice())? {
+        Some(bids) => Ok(Some(with_bids(alloc, g, bids)?)),
+        None => Ok(None),
+    }
+}
+
+/// The state in which these bids are shown.
+fn with_bids(alloc: Global, g: &Bids, bids: List<u32>) -> Result<Bids, NoMemory>
+    ensures { IfOk result (λ h. h ≡ with_bids g.now (Some bids)) }
+{
+    let mut after = copied_split(alloc, g)?;
+    after.common.revealed = Some(bids);
+    Ok(after)
 }
 
 /// The bids that are offered.
@@ -208,8 +223,8 @@ fn from_value(alloc: Global, v: &Value) -> Result<Option<Bids>, NoMemory>
     ensures { IfOk result (λ g. g ≡ read_bids (view v.now)) }
 {
     match Bids::from_json(alloc, v)? {
-        Some(g) if have_bidders(&g) => Ok(Some(g)),
-        _ => Ok(None),
+        Some(g) => Ok(kept_if(have_bidders(&g), g)),
+        None => Ok(None),
     }
 }
 
@@ -377,6 +392,10 @@ impl Game for BlindBid {
 
     fn to_value(&self, alloc: Global, g: &Bids) -> Result<Value, NoMemory> {
         Ok(g.to_json(alloc)?)
+    }
+
+    fn write(&self, alloc: Global, out: &mut Vec<u8>, g: &Bids) -> Result<(), NoMemory> {
+        Ok(g.write(alloc, out)?)
     }
 
     fn from_value(&self, alloc: Global, v: &Value) -> Result<Option<Bids>, NoMemory> {

@@ -8,9 +8,9 @@ ghost use Rattle.game_sheet.specs.declared.args.Arg.TheVariants.{Text as IsText}
 ghost use Rattle.game_trait.specs.Gives.{Gives};
 ghost use Rattle.serde_json.specs.View.{view};
 
-use crate::json::Part;
 use crate::lists::copied_split;
 use crate::offers::offer;
+use crate::parts::Part;
 use crate::sealed::{
     NoSecret, Sealed, are_seats, may_seal, seal, sealed_end, sealing_specs, sealing_stages,
     sealing_turn, shown_items, unsealed,
@@ -22,6 +22,7 @@ use game_sheet::{
     Short, Text, unbroken,
 };
 use game_trait::{Game, Halt, HookHalt, may_be_offered};
+use open_game::{blank_sheet, kept_if};
 use secret_strip::{CopyPart, Split};
 use serde_json::Value;
 use std::alloc::Global;
@@ -57,24 +58,31 @@ impl Captions {
 fn make_sheet(alloc: Global) -> Result<Sheet, NoMemory>
     ensures { IfOk result (λ made. made ≡ caption_sheet) }
 {
-    Ok(Sheet {
-        name: Text::from_str(alloc, "captions")?,
-        min_seats: 2,
-        max_seats: 16,
-        moves: make_moves(alloc)?,
-        base: List::from_slice(alloc, &[MoveId::at(0)])?,
-        turn: sealing_turn(),
-        phases: List::new(alloc),
-        stages: sealing_stages(alloc, "write")?,
-        specs: sealing_specs(alloc)?,
-        events: List::new(alloc),
-    })
+    let mut sheet = blank_sheet(alloc, "captions", 2, 16, sealing_turn())?;
+    match fill_sheet(alloc, &mut sheet) {
+        Ok(()) => Ok(sheet),
+        Err(NoMemory) => {
+            drop(sheet);
+            Err(NoMemory)
+        }
+    }
 }
 
-fn make_moves(alloc: Global) -> Result<List<MoveRow>, NoMemory>
-    ensures { IfOk result (λ rows. rows ≡ caption_sheet.moves) }
+/// Gives a sheet the game's rows.
+fn fill_sheet(alloc: Global, sheet: &mut Sheet) -> Result<(), NoMemory>
+    ensures { OnOk result (sheet.new ≡ record sheet.old { moves = sheet.old.moves ++ caption_sheet.moves; base = caption_sheet.base; stages = caption_sheet.stages; specs = caption_sheet.specs }) }
 {
-    let mut rows = List::new(alloc);
+    add_moves(alloc, &mut sheet.moves)?;
+    sheet.base = List::from_slice(alloc, &[MoveId::at(0)])?;
+    sheet.stages = sealing_stages(alloc, "write")?;
+    sheet.specs = sealing_specs(alloc)?;
+    Ok(())
+}
+
+/// Adds the game's moves.
+fn add_moves(alloc: Global, rows: &mut List<MoveRow>) -> Result<(), NoMemory>
+    ensures { OnOk result (rows.new ≡ rows.old ++ caption_sheet.moves) }
+{
     rows.push(MoveRow {
         name: Text::from_str(alloc, "write")?,
         redact: true,
@@ -82,7 +90,7 @@ fn make_moves(alloc: Global) -> Result<List<MoveRow>, NoMemory>
         no_limit: false,
         ignore_stale: true,
     })?;
-    Ok(rows)
+    Ok(())
 }
 
 /// No text yet.
@@ -156,8 +164,8 @@ fn from_value(alloc: Global, v: &Value) -> Result<Option<Texts>, NoMemory>
     ensures { IfOk result (λ g. g ≡ read_texts (view v.now)) }
 {
     match Texts::from_json(alloc, v)? {
-        Some(g) if have_writers(&g) => Ok(Some(g)),
-        _ => Ok(None),
+        Some(g) => Ok(kept_if(have_writers(&g), g)),
+        None => Ok(None),
     }
 }
 
@@ -319,6 +327,10 @@ impl Game for Captions {
 
     fn to_value(&self, alloc: Global, g: &Texts) -> Result<Value, NoMemory> {
         Ok(g.to_json(alloc)?)
+    }
+
+    fn write(&self, alloc: Global, out: &mut Vec<u8>, g: &Texts) -> Result<(), NoMemory> {
+        Ok(g.write(alloc, out)?)
     }
 
     fn from_value(&self, alloc: Global, v: &Value) -> Result<Option<Texts>, NoMemory> {

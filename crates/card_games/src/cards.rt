@@ -1,16 +1,19 @@
 //! The state of High Hand.
 
-ghost use Rattle.std.specs.Prelude.{◌≡◌, IfOk};
+ghost use Rattle.std.specs.Prelude.{◌≡◌, ◌++◌, true, IfOk, OnOk};
 ghost use Rattle.card_games.specs.Json.{read_lone};
-ghost use Rattle.serde_json.specs.View.{view};
-ghost use Rattle.card_games.specs.HighHand.{deck_value, hand_value, height, read_cards, read_deck, read_hand, read_table, table_value};
+ghost use Rattle.serde_json.specs.Data.{no_members, object};
+ghost use Rattle.serde_json.specs.View.{members_view, view};
+ghost use Rattle.serde_json.specs.Written.{members_text};
+ghost use Rattle.card_games.specs.HighHand.{deck_value, from_scores, hand_value, height, read_cards, read_deck, read_hand, read_table, rest_of_table, table_value};
 
 use crate::greatest::Worth;
-use crate::json::{Part, lone_member, member};
+use crate::parts::{Part, lone_member, lone_to_json, member, put_part};
 use game_sheet::{List, NoMemory};
 use json_tree::extra_field;
+use open_game::kept_if;
 use secret_strip::CopyPart;
-use serde_json::{Value, json};
+use serde_json::{Map, Value};
 use std::alloc::{AllocError, Global};
 
 /// What everybody sees.
@@ -75,10 +78,23 @@ impl Part for CardTable {
     ghost float_free = { table_float_free };
 
     fn to_json(&self, alloc: Global) -> Result<Value, AllocError> {
-        let hands = self.hands.to_json(alloc)?;
-        let scores = self.scores.to_json(alloc)?;
-        let places = self.places.to_json(alloc)?;
-        json!(in alloc; {"hands": hands, "left": self.left, "scores": scores, "table": places})
+        let mut map = Map::new(alloc);
+        match put_table(alloc, &mut map, self) {
+            Ok(()) => Ok(Value::Object(map)),
+            Err(error) => {
+                drop(map);
+                Err(error)
+            }
+        }
+    }
+
+    #[tactic(auto, unfolding(json::specs::Print::escape_byte))]
+    fn write(&self, alloc: Global, out: &mut Vec<u8>) -> Result<(), AllocError> {
+        out.extend_from_slice(b"{\"hands\":")?;
+        self.hands.write(alloc, out)?;
+        out.extend_from_slice(b",\"left\":")?;
+        self.left.write(alloc, out)?;
+        write_from_scores(alloc, out, &self.scores, &self.places)
     }
 
     fn from_json(alloc: Global, v: &Value) -> Result<Option<Self>, NoMemory> {
@@ -88,21 +104,10 @@ impl Part for CardTable {
         let Some(hands) = member(alloc, v, "hands")? else {
             return Ok(None);
         };
-        let Some(left) = member(alloc, v, "left")? else {
-            return Ok(None);
-        };
-        let Some(scores) = member(alloc, v, "scores")? else {
-            return Ok(None);
-        };
-        let Some(places) = member(alloc, v, "table")? else {
-            return Ok(None);
-        };
-        Ok(Some(CardTable {
-            hands,
-            left,
-            scores,
-            places,
-        }))
+        match member(alloc, v, "left")? {
+            Some(left) => rest_of_table(alloc, v, hands, left),
+            None => Ok(None),
+        }
     }
 
     fn same(&self, other: &Self) -> bool {
@@ -111,6 +116,62 @@ impl Part for CardTable {
             && self.scores.same(&other.scores)
             && self.places.same(&other.places)
     }
+}
+
+/// Puts the members of a table into an empty object.
+fn put_table(
+    alloc: Global,
+    map: &mut Map<String, Value>,
+    table: &CardTable,
+) -> Result<(), AllocError>
+    requires { members_view map.old.entries ≡ no_members }
+    ensures { OnOk result (object (members_view map.new.entries) ≡ table_value table.now) }
+{
+    put_part(alloc, map, "hands", &table.hands)?;
+    put_part(alloc, map, "left", &table.left)?;
+    put_part(alloc, map, "scores", &table.scores)?;
+    put_part(alloc, map, "table", &table.places)
+}
+
+/// Appends the text of a table's members from the scores on.
+#[tactic(auto, unfolding(json::specs::Print::escape_byte))]
+fn write_from_scores(
+    alloc: Global,
+    out: &mut Vec<u8>,
+    scores: &List<u32>,
+    places: &List<Option<u8>>,
+) -> Result<(), AllocError>
+    ensures { OnOk result (out.new.items ≡ out.old.items ++ members_text true (from_scores scores.now places.now)) }
+{
+    out.extend_from_slice(b",\"scores\":")?;
+    scores.write(alloc, out)?;
+    out.extend_from_slice(b",\"table\":")?;
+    places.write(alloc, out)?;
+    out.push(b'}')?;
+    Ok(())
+}
+
+/// The table of these counts of cards whose scores and places an object holds; none where it holds none.
+fn rest_of_table(
+    alloc: Global,
+    v: &Value,
+    hands: List<u32>,
+    left: u32,
+) -> Result<Option<CardTable>, NoMemory>
+    ensures { IfOk result (λ table. table ≡ rest_of_table hands left (view v.now)) }
+{
+    let Some(scores) = member(alloc, v, "scores")? else {
+        return Ok(None);
+    };
+    let Some(places) = member(alloc, v, "table")? else {
+        return Ok(None);
+    };
+    Ok(Some(CardTable {
+        hands,
+        left,
+        scores,
+        places,
+    }))
 }
 
 impl Part for Hand {
@@ -123,8 +184,15 @@ impl Part for Hand {
     ghost float_free = { hand_float_free };
 
     fn to_json(&self, alloc: Global) -> Result<Value, AllocError> {
-        let cards = self.cards.to_json(alloc)?;
-        json!(in alloc; {"hand": cards})
+        lone_to_json(alloc, "hand", &self.cards)
+    }
+
+    #[tactic(auto, unfolding(json::specs::Print::escape_byte))]
+    fn write(&self, alloc: Global, out: &mut Vec<u8>) -> Result<(), AllocError> {
+        out.extend_from_slice(b"{\"hand\":")?;
+        self.cards.write(alloc, out)?;
+        out.push(b'}')?;
+        Ok(())
     }
 
     fn from_json(alloc: Global, v: &Value) -> Result<Option<Self>, NoMemory> {
@@ -149,8 +217,15 @@ impl Part for Deck {
     ghost float_free = { deck_float_free };
 
     fn to_json(&self, alloc: Global) -> Result<Value, AllocError> {
-        let cards = self.cards.to_json(alloc)?;
-        json!(in alloc; {"deck": cards})
+        lone_to_json(alloc, "deck", &self.cards)
+    }
+
+    #[tactic(auto, unfolding(json::specs::Print::escape_byte))]
+    fn write(&self, alloc: Global, out: &mut Vec<u8>) -> Result<(), AllocError> {
+        out.extend_from_slice(b"{\"deck\":")?;
+        self.cards.write(alloc, out)?;
+        out.push(b'}')?;
+        Ok(())
     }
 
     fn from_json(alloc: Global, v: &Value) -> Result<Option<Self>, NoMemory> {
@@ -182,7 +257,7 @@ fn lone_cards(alloc: Global, v: &Value, name: &str) -> Result<Option<List<u8>>, 
     ensures { IfOk result (λ cards. cards ≡ read_lone name.now read_cards (view v.now)) }
 {
     match lone_member::<List<u8>>(alloc, v, name)? {
-        Some(cards) if cards.len() <= 52 => Ok(Some(cards)),
-        _ => Ok(None),
+        Some(cards) => Ok(kept_if(cards.len() <= 52, cards)),
+        None => Ok(None),
     }
 }

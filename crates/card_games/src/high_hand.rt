@@ -1,6 +1,6 @@
 //! High Hand for two to four seats.
 
-ghost use Rattle.std.specs.Prelude.{◌≡◌, ◌<◌, ◌≤◌, ◌∷◌, ◌++◌, ℕ, List as Items, [], length, remove, slice_get, unwrap_or, option_map, IfOk, IsPermutation, None, Some};
+ghost use Rattle.std.specs.Prelude.{◌≡◌, ◌<◌, ◌≤◌, ◌∷◌, ◌++◌, ℕ, List as Items, [], length, remove, slice_get, unwrap_or, option_map, IfOk, IsPermutation, None, OnOk, Some};
 ghost use Rattle.card_games.specs.HighHand.{after_turn, are_empty, before_draws, card_end, card_offers, draw, draw_to, hand_of, have_places, high_hand_sheet, is_clear, is_free, is_full, is_played, laid, lay, lay_card, lay_down, lay_from, lay_offers, lays, opened, read_state, point_at, scored, with_deck, with_hand};
 ghost use Rattle.card_games.specs.Pack.{pack};
 ghost use Rattle.dice_words.specs.Dice.{shuffled};
@@ -11,14 +11,15 @@ ghost use Rattle.serde_json.specs.View.{view};
 use crate::cards::{CardTable, Deck, Hand};
 use crate::dealt::Dealt;
 use crate::greatest::{first_greatest, one_greatest};
-use crate::json::Part;
 use crate::lists::{changed, copied_split, with_entry};
+use crate::parts::Part;
 use dice_words::Tape;
 use game_sheet::{
     Arg, Args, Ctx, EventKind, EventQueue, List, MoveId, MoveRow, NoMemory, Order, Outcome,
     PhaseId, PhaseRow, Seat, Sheet, Text, TurnRow, unbroken,
 };
 use game_trait::{Game, Halt, HookHalt, may_be_offered};
+use open_game::{blank_sheet, kept_if};
 use secret_strip::{CopyPart, Split};
 use serde_json::Value;
 use std::alloc::Global;
@@ -78,12 +79,19 @@ impl HighHand {
     pub fn copy_game(&self, alloc: Global) -> Result<Self, NoMemory>
         ensures { IfOk result (λ game. game ≡ self.now) }
     {
+        let deck = self.copied_deck(alloc)?;
         let sheet = make_sheet(alloc)?;
-        let deck = match &self.deck {
-            Some(deck) => Some(deck.copy(alloc)?),
-            None => None,
-        };
         Ok(HighHand { sheet, deck })
+    }
+
+    /// The deck that the game deals, if it isn't shuffled.
+    fn copied_deck(&self, alloc: Global) -> Result<Option<Dealt>, NoMemory>
+        ensures { IfOk result (λ deck. deck ≡ self.now) }
+    {
+        match &self.deck {
+            Some(deck) => Ok(Some(deck.copy(alloc)?)),
+            None => Ok(None),
+        }
     }
 }
 
@@ -91,29 +99,30 @@ impl HighHand {
 fn make_sheet(alloc: Global) -> Result<Sheet, NoMemory>
     ensures { IfOk result (λ made. made ≡ high_hand_sheet) }
 {
-    Ok(Sheet {
-        name: Text::from_str(alloc, "high-hand")?,
-        min_seats: 2,
-        max_seats: 4,
-        moves: make_moves(alloc)?,
-        base: List::new(alloc),
-        turn: TurnRow {
-            order: Order::Default,
-            min_moves: 0,
-            max_moves: None,
-            active: None,
-        },
-        phases: make_phases(alloc)?,
-        stages: List::new(alloc),
-        specs: List::new(alloc),
-        events: List::from_slice(alloc, &[EventKind::EndTurn])?,
-    })
+    let mut sheet = blank_sheet(alloc, "high-hand", 2, 4, free_turn(Order::Default, 0, None))?;
+    match fill_sheet(alloc, &mut sheet) {
+        Ok(()) => Ok(sheet),
+        Err(NoMemory) => {
+            drop(sheet);
+            Err(NoMemory)
+        }
+    }
 }
 
-fn make_moves(alloc: Global) -> Result<List<MoveRow>, NoMemory>
-    ensures { IfOk result (λ rows. rows ≡ high_hand_sheet.moves) }
+/// Gives a sheet the game's rows.
+fn fill_sheet(alloc: Global, sheet: &mut Sheet) -> Result<(), NoMemory>
+    ensures { OnOk result (sheet.new ≡ record sheet.old { moves = sheet.old.moves ++ high_hand_sheet.moves; phases = sheet.old.phases ++ high_hand_sheet.phases; events = high_hand_sheet.events }) }
 {
-    let mut rows = List::new(alloc);
+    add_moves(alloc, &mut sheet.moves)?;
+    add_phases(alloc, &mut sheet.phases)?;
+    sheet.events = List::from_slice(alloc, &[EventKind::EndTurn])?;
+    Ok(())
+}
+
+/// Adds the game's moves.
+fn add_moves(alloc: Global, rows: &mut List<MoveRow>) -> Result<(), NoMemory>
+    ensures { OnOk result (rows.new ≡ rows.old ++ high_hand_sheet.moves) }
+{
     rows.push(MoveRow {
         name: Text::from_str(alloc, "draw")?,
         redact: false,
@@ -128,38 +137,72 @@ fn make_moves(alloc: Global) -> Result<List<MoveRow>, NoMemory>
         no_limit: false,
         ignore_stale: false,
     })?;
-    Ok(rows)
+    Ok(())
 }
 
-fn make_phases(alloc: Global) -> Result<List<PhaseRow>, NoMemory>
-    ensures { IfOk result (λ rows. rows ≡ high_hand_sheet.phases) }
+/// Adds the game's phases.
+fn add_phases(alloc: Global, rows: &mut List<PhaseRow>) -> Result<(), NoMemory>
+    ensures { OnOk result (rows.new ≡ rows.old ++ high_hand_sheet.phases) }
 {
-    let mut rows = List::new(alloc);
-    rows.push(PhaseRow {
-        name: Text::from_str(alloc, "draw")?,
-        start: true,
-        next: Some(PhaseId::at(1)),
-        moves: Some(List::from_slice(alloc, &[MoveId::at(0)])?),
-        turn: Some(TurnRow {
-            order: Order::Once,
-            min_moves: 2,
-            max_moves: Some(2),
-            active: None,
+    let draws = free_turn(Order::Once, 2, Some(2));
+    rows.push(phase(
+        alloc,
+        "draw",
+        true,
+        Some(PhaseId::at(1)),
+        MoveId::at(0),
+        draws,
+    )?)?;
+    let lays = free_turn(Order::Reset, 1, None);
+    rows.push(phase(alloc, "play", false, None, MoveId::at(1), lays)?)?;
+    Ok(())
+}
+
+/// A phase with one move.
+fn phase(
+    alloc: Global,
+    name: &str,
+    start: bool,
+    next: Option<PhaseId>,
+    id: MoveId,
+    turn: TurnRow,
+) -> Result<PhaseRow, NoMemory>
+    ensures { IfOk result (λ row. row ≡ record { name = name.now; start = start; next = next; moves = Some (id ∷ []); turn = Some turn }) }
+{
+    match named_move(alloc, name, id) {
+        Ok((name, moves)) => Ok(PhaseRow {
+            name,
+            start,
+            next,
+            moves: Some(moves),
+            turn: Some(turn),
         }),
-    })?;
-    rows.push(PhaseRow {
-        name: Text::from_str(alloc, "play")?,
-        start: false,
-        next: None,
-        moves: Some(List::from_slice(alloc, &[MoveId::at(1)])?),
-        turn: Some(TurnRow {
-            order: Order::Reset,
-            min_moves: 1,
-            max_moves: None,
-            active: None,
-        }),
-    })?;
-    Ok(rows)
+        Err(NoMemory) => {
+            drop(turn);
+            Err(NoMemory)
+        }
+    }
+}
+
+/// A name, and a list of one move.
+fn named_move(alloc: Global, name: &str, id: MoveId) -> Result<(Text, List<MoveId>), NoMemory>
+    ensures { IfOk result (λ both. both ≡ (name.now, id ∷ [])) }
+{
+    let moves = List::from_slice(alloc, &[id])?;
+    let name = Text::from_str(alloc, name)?;
+    Ok((name, moves))
+}
+
+/// A turn of so many moves, in which nobody but the current player acts.
+fn free_turn(order: Order, min_moves: u32, max_moves: Option<u32>) -> TurnRow
+    ensures { result ≡ record { order = order; min_moves = min_moves; max_moves = max_moves; active = None } }
+{
+    TurnRow {
+        order,
+        min_moves,
+        max_moves,
+        active: None,
+    }
 }
 
 /// The state with a shuffled pack as the deck.
@@ -177,18 +220,32 @@ fn open_shuffled(alloc: Global, seats: u8, tape: &mut Tape) -> Result<Cards, Hoo
 fn before_draws(alloc: Global, seats: u8, deck: List<u8>) -> Result<Cards, NoMemory>
     ensures { IfOk result (λ g. g ≡ before_draws seats deck) }
 {
+    let common = free_table(alloc, seats)?;
+    match empty_hands(alloc, seats) {
+        Ok(players) => Ok(Split {
+            common,
+            secret: Some(Deck { cards: deck }),
+            players,
+        }),
+        Err(NoMemory) => {
+            drop(common);
+            Err(NoMemory)
+        }
+    }
+}
+
+/// A table on which nothing lies, before the first draw and score.
+fn free_table(alloc: Global, seats: u8) -> Result<CardTable, NoMemory>
+    ensures { IfOk result (λ table. table ≡ (before_draws seats []).common) }
+{
     let hands = vec![in alloc; 0u32; seats as usize]?;
     let scores = vec![in alloc; 0u32; seats as usize]?;
     let places = vec![in alloc; None; seats as usize]?;
-    Ok(Split {
-        common: CardTable {
-            hands: List::from_vec(hands),
-            left: 52,
-            scores: List::from_vec(scores),
-            places: List::from_vec(places),
-        },
-        secret: Some(Deck { cards: deck }),
-        players: empty_hands(alloc, seats)?,
+    Ok(CardTable {
+        hands: List::from_vec(hands),
+        left: 52,
+        scores: List::from_vec(scores),
+        places: List::from_vec(places),
     })
 }
 
@@ -485,8 +542,8 @@ fn from_value(alloc: Global, v: &Value) -> Result<Option<Cards>, NoMemory>
     ensures { IfOk result (λ g. g ≡ read_state (view v.now)) }
 {
     match Cards::from_json(alloc, v)? {
-        Some(g) if have_places(&g) => Ok(Some(g)),
-        _ => Ok(None),
+        Some(g) => Ok(kept_if(have_places(&g), g)),
+        None => Ok(None),
     }
 }
 
@@ -661,6 +718,10 @@ impl Game for HighHand {
 
     fn to_value(&self, alloc: Global, g: &Cards) -> Result<Value, NoMemory> {
         Ok(g.to_json(alloc)?)
+    }
+
+    fn write(&self, alloc: Global, out: &mut Vec<u8>, g: &Cards) -> Result<(), NoMemory> {
+        Ok(g.write(alloc, out)?)
     }
 
     fn from_value(&self, alloc: Global, v: &Value) -> Result<Option<Cards>, NoMemory> {

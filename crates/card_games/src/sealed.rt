@@ -6,12 +6,13 @@ ghost use Rattle.card_games.specs.Sealed.{are_seats, have_all, item_of, may_seal
 ghost use Rattle.game_trait.specs.Gives.{Gives};
 
 use crate::greatest::{Worth, one_greatest};
-use crate::json::Part;
 use crate::lists::changed;
+use crate::parts::Part;
 use game_sheet::{
     List, NoMemory, Order, Outcome, Place, Seat, SpecId, SpecRow, StageId, StageRow, Text, TurnRow,
 };
 use game_trait::Halt;
+use json_text::put_null;
 use secret_strip::{CopyPart, Split};
 use serde_json::Value;
 use std::alloc::{AllocError, Global};
@@ -53,6 +54,10 @@ impl Part for NoSecret {
 
     fn to_json(&self, alloc: Global) -> Result<Value, AllocError> {
         Ok(Value::Null)
+    }
+
+    fn write(&self, alloc: Global, out: &mut Vec<u8>) -> Result<(), AllocError> {
+        put_null(out)
     }
 
     fn from_json(alloc: Global, v: &Value) -> Result<Option<Self>, NoMemory> {

@@ -2,11 +2,11 @@
 
 ghost use Rattle.card_games.specs.Captions.{read_sealed_text, read_shown, sealed_text_value, shown_value};
 
-use crate::json::{Part, lone_member};
+use crate::parts::{Part, lone_member, lone_to_json};
 use crate::sealed::Sealed;
 use game_sheet::{List, NoMemory, Short};
 use secret_strip::CopyPart;
-use serde_json::{Value, json};
+use serde_json::Value;
 use std::alloc::{AllocError, Global};
 
 /// What everybody sees.
@@ -36,8 +36,15 @@ impl Part for Shown {
     ghost float_free = { shown_float_free };
 
     fn to_json(&self, alloc: Global) -> Result<Value, AllocError> {
-        let revealed = self.revealed.to_json(alloc)?;
-        json!(in alloc; {"revealed": revealed})
+        lone_to_json(alloc, "revealed", &self.revealed)
+    }
+
+    #[tactic(auto, unfolding(json::specs::Print::escape_byte))]
+    fn write(&self, alloc: Global, out: &mut Vec<u8>) -> Result<(), AllocError> {
+        out.extend_from_slice(b"{\"revealed\":")?;
+        self.revealed.write(alloc, out)?;
+        out.push(b'}')?;
+        Ok(())
     }
 
     fn from_json(alloc: Global, v: &Value) -> Result<Option<Self>, NoMemory> {
@@ -63,8 +70,15 @@ impl Part for Sealed<Short> {
     ghost float_free = { sealed_text_float_free };
 
     fn to_json(&self, alloc: Global) -> Result<Value, AllocError> {
-        let text = self.item.to_json(alloc)?;
-        json!(in alloc; {"text": text})
+        lone_to_json(alloc, "text", &self.item)
+    }
+
+    #[tactic(auto, unfolding(json::specs::Print::escape_byte))]
+    fn write(&self, alloc: Global, out: &mut Vec<u8>) -> Result<(), AllocError> {
+        out.extend_from_slice(b"{\"text\":")?;
+        self.item.write(alloc, out)?;
+        out.push(b'}')?;
+        Ok(())
     }
 
     fn from_json(alloc: Global, v: &Value) -> Result<Option<Self>, NoMemory> {

@@ -1,9 +1,9 @@
 //! The trait that each game implements.
 
-ghost use Rattle.std.specs.Prelude.{◌≡◌, ◌<◌, ◌≤◌, ◌↔◌, [], length, false, IfOk, IsTrue};
+ghost use Rattle.std.specs.Prelude.{◌≡◌, ◌<◌, ◌≤◌, ◌++◌, ◌↔◌, [], length, false, IfOk, IsTrue, OnOk};
 ghost use Rattle.dice_words.specs.Strip.{Follows};
 ghost use Rattle.serde_json.specs.View.{view};
-ghost use Rattle.serde_json.specs.Written.{has_float};
+ghost use Rattle.serde_json.specs.Written.{compact_text, has_float};
 ghost use Rattle.game_sheet.specs.SheetFits.{SheetFits};
 ghost use Rattle.game_trait.specs.Gives.{Gives, Hooks, Opens};
 ghost use Rattle.game_trait.specs.Lawful.{Lawful};
@@ -184,6 +184,10 @@ pub trait Game {
     fn to_value(&self, alloc: Global, g: &Self::G) -> Result<Value, NoMemory>
         ensures value { IfOk result (λ v. view v ≡ (rules self.now).value g.now) }
         ensures float_free { IfOk result (λ v. has_float (view v) ≡ false) };
+
+    /// Appends the state's text, which is that of its value. After a want of memory some first part of it may stand there.
+    fn write(&self, alloc: Global, out: &mut Vec<u8>, g: &Self::G) -> Result<(), NoMemory>
+        ensures { OnOk result (out.new.items ≡ out.old.items ++ compact_text ((rules self.now).value g.now)) };
 
     /// The own state that is written so; none where no own state is.
     fn from_value(&self, alloc: Global, v: &Value) -> Result<Option<Self::G>, NoMemory>

@@ -1,5 +1,5 @@
 -- The forms of parts and of objects keep the laws of forms.
-use Rattle.std.proofs.Common.{◌≡◌, ◌≤◌, ◌<◌, ◌+◌, ◌^◌, ◌&&◌, ◌||◌, ℕ, Bool, true, false, if◌then◌else◌, nat_le, IsTrue, IsUtf8, List, [], ◌∷◌, length, map, Option, Some, None, option_map, option_and_then, refl, sym, ap, ◌∙◌, subst, arith}
+use Rattle.std.proofs.Common.{◌≡◌, ◌≤◌, ◌<◌, ◌^◌, ◌&&◌, ◌||◌, ℕ, Bool, true, false, if◌then◌else◌, nat_le, IsTrue, List, [], ◌∷◌, length, map, Option, Some, None, option_map, option_and_then, refl, sym, ap, ◌∙◌, subst, arith}
 use Rattle.std.specs.Prelude.{IfSome}
 use Rattle.std.specs.Cmp.Lexicographic.{slice_cmp}
 use Rattle.std.specs.List.{list_all}
@@ -12,7 +12,7 @@ use Rattle.json_tree.specs.Names.{has_extra}
 use Rattle.json_tree.specs.Writable.{IsWritable, ItemsAreWritable}
 use Rattle.json_tree.proofs.Rows.{canonical_member, row_is}
 use Rattle.open_game.specs.Form.{Form, FormLaws, IsReadFrom, StateLaws}
-use Rattle.open_game.specs.Forms.{both, counted, is_between, is_seat, list_of, member_read, natural, natural_read, object_of_one, object_of_two, read_each, seat_or_none, seat_read, seat_value, up_to}
+use Rattle.open_game.specs.Forms.{both, counted, is_between, is_seat, list_of, natural, natural_read, object_of_one, object_of_two, read_each, seat_or_none, seat_read, seat_value}
 use Rattle.serde_json.specs.Data.{Data, null, boolean, number, string, array, object, unsigned, negative, float, Items, no_items, item, Members, no_members, member}
 use Rattle.serde_json.specs.Find.{get_member}
 use Rattle.serde_json.specs.View.{items_of}

@@ -1,5 +1,5 @@
 -- Forms of parts of a state, and of a state that is an object of one or two named parts and no others.
-use Rattle.std.specs.Prelude.{ℕ, Bool, true, ◌&&◌, if◌then◌else◌, nat_le, IsTrue, is_some, List, [], ◌∷◌, length, map, Option, Some, None, option_map, option_and_then}
+use Rattle.std.specs.Prelude.{ℕ, Bool, true, ◌&&◌, if◌then◌else◌, nat_le, is_some, List, [], ◌∷◌, length, map, Option, Some, None, option_map, option_and_then}
 use Rattle.std.specs.List.{list_all}
 use Rattle.json_tree.specs.Names.{extra_in}
 use Rattle.open_game.specs.Form.{Form}

@@ -1,5 +1,5 @@
 -- A game without hooks and secrets keeps the laws of games, where its states and rules keep their own.
-use Rattle.std.specs.Prelude.{◌≡◌, ◌<◌, ℕ, IsTrue, length, Option, Some, IfSome, refl}
+use Rattle.std.specs.Prelude.{◌≡◌, ◌<◌, length, Some, IfSome, refl}
 use Rattle.std.proofs.Common.{subst}
 use Rattle.game_sheet.proofs.Fits.{fits}
 use Rattle.game_trait.specs.InSheet.{OutcomeFits}

@@ -1,9 +1,25 @@
--- The sheet of a game of turns without phases, stages and secrets.
-use Rattle.std.specs.Prelude.{ℕ, true, false, List, [], map, Option, Some, None}
+-- A sheet without a row, and the sheet of a game of turns without phases, stages and secrets.
+use Rattle.std.specs.Prelude.{ℕ, true, false, List, [], map, Option, None}
 use Rattle.game_sheet.specs.declared.act.EventKind.{EventKind}
 use Rattle.game_sheet.specs.declared.sheet.MoveRow.{MoveRow}
 use Rattle.game_sheet.specs.declared.sheet.Order.TheVariants.{Default}
 use Rattle.game_sheet.specs.declared.sheet.Sheet.{Sheet}
+use Rattle.game_sheet.specs.declared.sheet.TurnRow.{TurnRow}
+
+-- a game with this name, from the least to the greatest number of seats, and with these turns
+abbrev pub blank_sheet : List ℕ → ℕ → ℕ → TurnRow → Sheet
+blank_sheet name least greatest turn = record {
+  name = name;
+  min_seats = least;
+  max_seats = greatest;
+  moves = [];
+  base = [];
+  turn = turn;
+  phases = [];
+  stages = [];
+  specs = [];
+  events = [];
+}
 
 -- a move that is shown to all, counts toward each limit and may be guessed
 abbrev pub ordinary : List ℕ → MoveRow

@@ -2,6 +2,7 @@
 #![tactic(auto)]
 
 mod arguments;
+mod objects;
 mod offers;
 mod open;
 mod open_game;
@@ -10,9 +11,10 @@ mod sheets;
 mod state;
 
 pub use arguments::only_natural;
+pub use objects::{object_of_one, object_of_two};
 pub use offers::{offer, offer_number};
 pub use open::Open;
 pub use open_game::OpenGame;
-pub use parts::{Part, list_at, list_value, part_at};
-pub use sheets::{make_ordinary, turns_sheet};
+pub use parts::{Part, kept_if, list_at, list_value, part_at, write_list};
+pub use sheets::{blank_sheet, make_ordinary, turns_sheet};
 pub use state::State;

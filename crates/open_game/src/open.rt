@@ -191,6 +191,10 @@ impl<X: OpenGame> Game for Open<X> {
         g.to_value(alloc)
     }
 
+    fn write(&self, alloc: Global, out: &mut Vec<u8>, g: &X::G) -> Result<(), NoMemory> {
+        g.write(alloc, out)
+    }
+
     fn from_value(&self, alloc: Global, v: &Value) -> Result<Option<X::G>, NoMemory> {
         X::G::from_value(alloc, v)
     }

@@ -1,11 +1,13 @@
 //! Parts of states as JSON: whole numbers, seats, and lists of them.
 
-ghost use Rattle.std.specs.Prelude.{◌≡◌, ◌≤◌, length, IfOk, IfSome, option_and_then, option_map};
+ghost use Rattle.std.specs.Prelude.{◌≡◌, ◌≤◌, ◌++◌, if◌then◌else◌, length, IfOk, IfSome, None, OnOk, Some, option_and_then, option_map};
 ghost use Rattle.serde_json.specs.Find.{as_array, get};
 ghost use Rattle.serde_json.specs.View.{items_view, view};
+ghost use Rattle.serde_json.specs.Written.{compact_text};
 ghost use Rattle.open_game.specs.Forms.{list_read, list_value, member_read, natural_read, read_each, seat_read, seat_value};
 
 use game_sheet::{List, NoMemory, Seat};
+use json_text::{put_comma, put_natural, put_null};
 use serde_json::Value;
 use std::alloc::{AllocError, Global};
 
@@ -24,8 +26,12 @@ pub trait Part: Copy {
     ghost reading: { ℕ → Data → Option Self };
 
     /// The part as JSON.
-    fn write(&self) -> Value
+    fn to_value(&self) -> Value
         ensures { view result ≡ written self.now };
+
+    /// Appends the part's text.
+    fn write(&self, out: &mut Vec<u8>) -> Result<(), AllocError>
+        ensures { OnOk result (out.new.items ≡ out.old.items ++ compact_text (written self.now)) };
 
     /// The part that a value is, up to `most`; none where it is no such part.
     fn read(value: &Value, most: u32) -> Option<Self>
@@ -43,8 +49,12 @@ impl Part for u32 {
 
     ghost reading = { natural_read };
 
-    fn write(&self) -> Value {
+    fn to_value(&self) -> Value {
         Value::from(*self)
+    }
+
+    fn write(&self, out: &mut Vec<u8>) -> Result<(), AllocError> {
+        put_natural(out, u64::from(*self))
     }
 
     fn read(value: &Value, most: u32) -> Option<u32> {
@@ -63,10 +73,17 @@ impl Part for Option<Seat> {
 
     ghost reading = { seat_read };
 
-    fn write(&self) -> Value {
+    fn to_value(&self) -> Value {
         match self {
             Some(seat) => Value::from(*seat),
             None => Value::Null,
+        }
+    }
+
+    fn write(&self, out: &mut Vec<u8>) -> Result<(), AllocError> {
+        match self {
+            Some(seat) => put_natural(out, u64::from(*seat)),
+            None => put_null(out),
         }
     }
 
@@ -98,9 +115,24 @@ pub fn list_value<T: Part>(alloc: Global, parts: &[T]) -> Result<Value, AllocErr
 {
     let mut values = Vec::new(alloc);
     for part in parts {
-        values.push(part.write())?;
+        values.push(part.to_value())?;
     }
     Ok(Value::Array(values))
+}
+
+/// Appends the parts' text, as that of a JSON array.
+pub fn write_list<T: Part>(out: &mut Vec<u8>, parts: &[T]) -> Result<(), AllocError>
+    ensures { OnOk result (out.new.items ≡ out.old.items ++ compact_text (list_value T.written parts.now)) }
+{
+    out.push(b'[')?;
+    let mut later = false;
+    for part in parts {
+        put_comma(out, later)?;
+        part.write(out)?;
+        later = true;
+    }
+    out.push(b']')?;
+    Ok(())
 }
 
 /// The list that a member of an object holds; none where it holds no array of `least` to `greatest` parts up to `most`.
@@ -120,8 +152,23 @@ pub fn list_at<T: Part + Drop>(
         return Ok(None);
     };
     match read_items::<T>(alloc, items, most)? {
-        Some(parts) if least <= parts.len() && parts.len() <= greatest => Ok(Some(parts)),
-        _ => Ok(None),
+        Some(parts) => {
+            let counted = least <= parts.len() && parts.len() <= greatest;
+            Ok(kept_if(counted, parts))
+        }
+        None => Ok(None),
+    }
+}
+
+/// A value, where it is kept.
+pub fn kept_if<T: Drop>(keeps: bool, value: T) -> Option<T>
+    ensures { result ≡ (if keeps then Some value else None) }
+{
+    if keeps {
+        Some(value)
+    } else {
+        drop(value);
+        None
     }
 }
 

@@ -1,8 +1,9 @@
 //! The trait that a state implements.
 
-ghost use Rattle.std.specs.Prelude.{◌≡◌, ◌↔◌, IfOk, IsTrue};
+ghost use Rattle.std.specs.Prelude.{◌≡◌, ◌++◌, ◌↔◌, IfOk, IsTrue, OnOk};
 ghost use Rattle.open_game.specs.Form.{Form, StateLaws};
 ghost use Rattle.serde_json.specs.View.{view};
+ghost use Rattle.serde_json.specs.Written.{compact_text};
 
 use game_sheet::NoMemory;
 use serde_json::Value;
@@ -16,6 +17,10 @@ pub trait State: Drop {
     /// The state as JSON.
     fn to_value(&self, alloc: Global) -> Result<Value, NoMemory>
         ensures { IfOk result (λ v. view v ≡ form.value self.now) };
+
+    /// Appends the state's text, which is that of its value. After a want of memory some first part of it may stand there.
+    fn write(&self, alloc: Global, out: &mut Vec<u8>) -> Result<(), NoMemory>
+        ensures { OnOk result (out.new.items ≡ out.old.items ++ compact_text (form.value self.now)) };
 
     /// The own state that is written so; none where no own state is.
     fn from_value(alloc: Global, v: &Value) -> Result<Option<Self>, NoMemory>

@@ -1,6 +1,7 @@
 -- How the states of the three games are written down, and that these forms keep their laws.
 use Rattle.std.specs.Prelude.{◌≡◌, ℕ, List, [], ◌∷◌, codes, Option, refl}
 use Rattle.std.proofs.Common.{lit<}
+use Rattle.serde_json.specs.Data.{Members, member, no_members}
 use Rattle.open_game.specs.Form.{Form, StateLaws}
 use Rattle.open_game.specs.Forms.{greatest, list_of, natural, object_of_one, object_of_two, seat_or_none}
 use Rattle.open_game.proofs.FormLaws.{AreNames, IsName, list_laws, natural_laws, one_laws, seat_laws, two_laws}
@@ -19,6 +20,10 @@ heap_form = object_of_two (codes "heap") (natural greatest) (codes "last") (seat
 -- one to eight totals; they and the pot are numbers of 32 bits
 abbrev pub points_form : Form Points
 points_form = object_of_two (codes "pot") (natural greatest) (codes "totals") (list_of 1 8 (natural greatest)) (λ pot totals. record { pot = pot; totals = totals }) (λ p. p.pot) (λ p. p.totals)
+
+-- its last member
+abbrev pub from_totals : List ℕ → Members
+from_totals totals = member (codes "totals") ((list_of 1 8 (natural greatest)).value totals) no_members
 
 -- ---- laws
 

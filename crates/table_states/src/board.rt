@@ -6,8 +6,8 @@ ghost use Rattle.table_states.specs.Board.{click, empty, free_clicks, has_line, 
 
 use game_sheet::{Args, List, MoveId, NoMemory, Seat};
 use json_tree::extra_field;
-use open_game::{State, list_at, list_value, offer_number};
-use serde_json::{Value, json};
+use open_game::{State, list_at, list_value, object_of_one, offer_number, write_list};
+use serde_json::Value;
 use std::alloc::Global;
 
 /// The eight lines of three cells: rows, columns and diagonals.
@@ -38,7 +38,15 @@ impl State for Board {
 
     fn to_value(&self, alloc: Global) -> Result<Value, NoMemory> {
         let cells = list_value(alloc, &self.cells)?;
-        Ok(json!(in alloc; {"cells": cells})?)
+        Ok(object_of_one(alloc, "cells", cells)?)
+    }
+
+    #[tactic(auto, unfolding(json::specs::Print::escape_byte))]
+    fn write(&self, alloc: Global, out: &mut Vec<u8>) -> Result<(), NoMemory> {
+        out.extend_from_slice(b"{\"cells\":")?;
+        write_list(out, &self.cells)?;
+        out.push(b'}')?;
+        Ok(())
     }
 
     fn from_value(alloc: Global, v: &Value) -> Result<Option<Board>, NoMemory> {

@@ -5,8 +5,8 @@ ghost use Rattle.table_states.specs.Countdown.{full_heap, heap_offers, less};
 
 use game_sheet::{Args, List, MoveId, NoMemory, Seat};
 use json_tree::extra_field;
-use open_game::{Part, State, offer, offer_number, part_at};
-use serde_json::{Value, json};
+use open_game::{Part, State, object_of_two, offer, offer_number, part_at};
+use serde_json::Value;
 use std::alloc::Global;
 
 /// What is left to take, and who took last.
@@ -26,8 +26,19 @@ impl State for Heap {
     ghost form_laws = { heap_laws };
 
     fn to_value(&self, alloc: Global) -> Result<Value, NoMemory> {
-        let last = self.last.write();
-        Ok(json!(in alloc; {"heap": self.left, "last": last})?)
+        let left = self.left.to_value();
+        let last = self.last.to_value();
+        Ok(object_of_two(alloc, "heap", left, "last", last)?)
+    }
+
+    #[tactic(auto, unfolding(json::specs::Print::escape_byte))]
+    fn write(&self, alloc: Global, out: &mut Vec<u8>) -> Result<(), NoMemory> {
+        out.extend_from_slice(b"{\"heap\":")?;
+        self.left.write(out)?;
+        out.extend_from_slice(b",\"last\":")?;
+        self.last.write(out)?;
+        out.push(b'}')?;
+        Ok(())
     }
 
     fn from_value(alloc: Global, v: &Value) -> Result<Option<Heap>, NoMemory> {

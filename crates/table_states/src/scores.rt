@@ -1,12 +1,14 @@
 //! The pot and the totals of Pig.
 
-ghost use Rattle.std.specs.Prelude.{◌≡◌, ◌<◌, ◌≤◌, length, IfOk, IfSome, position, nat_le, slice_set};
+ghost use Rattle.std.specs.Prelude.{◌≡◌, ◌<◌, ◌≤◌, ◌++◌, length, true, IfOk, IfSome, OnOk, position, nat_le, slice_set};
+ghost use Rattle.serde_json.specs.Written.{compact_text, members_text};
+ghost use Rattle.table_states.specs.StateForms.{from_totals, points_form};
 ghost use Rattle.table_states.specs.Pig.{no_points, total_of};
 
 use game_sheet::{List, NoMemory, Seat};
 use json_tree::extra_field;
-use open_game::{State, list_at, list_value, part_at};
-use serde_json::{Value, json};
+use open_game::{Part, State, list_at, list_value, object_of_two, part_at, write_list};
+use serde_json::Value;
 use std::alloc::Global;
 use std::marker::Model;
 
@@ -37,7 +39,12 @@ impl State for Scores {
 
     fn to_value(&self, alloc: Global) -> Result<Value, NoMemory> {
         let totals = list_value(alloc, self.totals.as_slice())?;
-        Ok(json!(in alloc; {"pot": self.pot, "totals": totals})?)
+        let pot = self.pot.to_value();
+        Ok(object_of_two(alloc, "pot", pot, "totals", totals)?)
+    }
+
+    fn write(&self, alloc: Global, out: &mut Vec<u8>) -> Result<(), NoMemory> {
+        write_points(out, self.pot, self.totals.as_slice())
     }
 
     fn from_value(alloc: Global, v: &Value) -> Result<Option<Scores>, NoMemory> {
@@ -138,6 +145,27 @@ impl Scores {
             None => None,
         }
     }
+}
+
+/// Appends the text of a pot and totals.
+#[tactic(auto, unfolding(json::specs::Print::escape_byte))]
+fn write_points(out: &mut Vec<u8>, pot: u32, totals: &[u32]) -> Result<(), NoMemory>
+    ensures { OnOk result (out.new.items ≡ out.old.items ++ compact_text (points_form.value (record { pot = pot; totals = totals.now }))) }
+{
+    out.extend_from_slice(b"{\"pot\":")?;
+    pot.write(out)?;
+    write_from_totals(out, totals)
+}
+
+/// Appends the text of the totals, as the last member of an object.
+#[tactic(auto, unfolding(json::specs::Print::escape_byte))]
+fn write_from_totals(out: &mut Vec<u8>, totals: &[u32]) -> Result<(), NoMemory>
+    ensures { OnOk result (out.new.items ≡ out.old.items ++ members_text true (from_totals totals.now)) }
+{
+    out.extend_from_slice(b",\"totals\":")?;
+    write_list(out, totals)?;
+    out.push(b'}')?;
+    Ok(())
 }
 
 /// The place of the first total of 20 or more.

@@ -17,8 +17,8 @@ use game_sheet::{
 };
 use game_trait::{Game, Halt, HookHalt};
 use json_tree::extra_field;
-use open_game::part_at;
-use serde_json::{Value, json};
+use open_game::{Part, object_of_one, part_at};
+use serde_json::Value;
 use std::alloc::Global;
 
 /// At how many moves things end by themselves; nothing else ends them where there is none.
@@ -239,7 +239,15 @@ impl Game for ScriptedGame {
     }
 
     fn to_value(&self, alloc: Global, g: &u32) -> Result<Value, NoMemory> {
-        Ok(json!(in alloc; {"count": *g})?)
+        Ok(object_of_one(alloc, "count", g.to_value())?)
+    }
+
+    #[tactic(auto, unfolding(json::specs::Print::escape_byte))]
+    fn write(&self, alloc: Global, out: &mut Vec<u8>, g: &u32) -> Result<(), NoMemory> {
+        out.extend_from_slice(b"{\"count\":")?;
+        g.write(out)?;
+        out.push(b'}')?;
+        Ok(())
     }
 
     fn from_value(&self, alloc: Global, v: &Value) -> Result<Option<u32>, NoMemory> {

@@ -1,22 +1,25 @@
-//! The parts of a state: written as JSON, read back, and compared.
+//! The parts of a state: as JSON, as its text, read back, and compared.
 
-ghost use Rattle.std.specs.Prelude.{◌≡◌, ◌↔◌, false, length, IfOk, IsTrue};
-ghost use Rattle.card_games.specs.Json.{list_value, number_value, option_value, read_count, read_items, read_list, read_lone, read_member, read_number, read_option, read_split, read_text, split_value, text_value};
-ghost use Rattle.serde_json.specs.View.{items_view, view};
-ghost use Rattle.serde_json.specs.Written.{has_float};
+ghost use Rattle.std.specs.Prelude.{◌≡◌, ◌++◌, ◌↔◌, false, true, length, IfOk, IsTrue, OnOk};
+ghost use Rattle.card_games.specs.Json.{list_value, number_value, option_value, read_count, read_items, read_list, read_lone, read_member, read_number, read_option, read_split, read_text, from_players, lone_value, split_value, text_value};
+ghost use Rattle.serde_json.specs.Data.{no_members, object, put};
+ghost use Rattle.serde_json.specs.View.{items_view, members_view, view};
+ghost use Rattle.serde_json.specs.Written.{compact_text, has_float, members_text};
 
 use game_sheet::{List, NoMemory, Short};
+use json_text::{put_comma, put_natural, put_null, put_string};
 use json_tree::extra_field;
+use open_game::object_of_one;
 use secret_strip::Split;
-use serde_json::{Value, json};
+use serde_json::{Map, Value};
 use std::alloc::{AllocError, Global};
 
 /// A part of a state, which is written as JSON without a float.
 pub trait Part: Sized + Drop {
-    ghost use Rattle.std.specs.Prelude.{◌≡◌, ◌↔◌, false, IfOk, IsTrue, Option};
+    ghost use Rattle.std.specs.Prelude.{◌≡◌, ◌++◌, ◌↔◌, false, IfOk, IsTrue, OnOk, Option};
     ghost use Rattle.serde_json.specs.Data.{Data};
     ghost use Rattle.serde_json.specs.View.{view};
-    ghost use Rattle.serde_json.specs.Written.{has_float};
+    ghost use Rattle.serde_json.specs.Written.{compact_text, has_float};
 
     ghost value: { Self → Data };
 
@@ -25,6 +28,10 @@ pub trait Part: Sized + Drop {
     /// The part as JSON.
     fn to_json(&self, alloc: Global) -> Result<Value, AllocError>
         ensures { IfOk result (λ v. view v ≡ value self.now) };
+
+    /// Appends the part's text.
+    fn write(&self, alloc: Global, out: &mut Vec<u8>) -> Result<(), AllocError>
+        ensures { OnOk result (out.new.items ≡ out.old.items ++ compact_text (value self.now)) };
 
     /// The part that is written so; none where none is.
     fn from_json(alloc: Global, v: &Value) -> Result<Option<Self>, NoMemory>
@@ -49,6 +56,10 @@ impl Part for u8 {
 
     fn to_json(&self, alloc: Global) -> Result<Value, AllocError> {
         Ok(Value::from(*self))
+    }
+
+    fn write(&self, alloc: Global, out: &mut Vec<u8>) -> Result<(), AllocError> {
+        put_natural(out, u64::from(*self))
     }
 
     fn from_json(alloc: Global, v: &Value) -> Result<Option<Self>, NoMemory> {
@@ -76,6 +87,10 @@ impl Part for u32 {
         Ok(Value::from(*self))
     }
 
+    fn write(&self, alloc: Global, out: &mut Vec<u8>) -> Result<(), AllocError> {
+        put_natural(out, u64::from(*self))
+    }
+
     fn from_json(alloc: Global, v: &Value) -> Result<Option<Self>, NoMemory> {
         match v.as_u64() {
             Some(n) if n <= 4_294_967_295 => Ok(Some(n as u32)),
@@ -99,6 +114,10 @@ impl Part for Short {
 
     fn to_json(&self, alloc: Global) -> Result<Value, AllocError> {
         Ok(Value::String(String::from_str(alloc, self.as_str())?))
+    }
+
+    fn write(&self, alloc: Global, out: &mut Vec<u8>) -> Result<(), AllocError> {
+        put_string(alloc, out, self.as_str())
     }
 
     fn from_json(alloc: Global, v: &Value) -> Result<Option<Self>, NoMemory> {
@@ -127,6 +146,13 @@ impl<T: Part> Part for Option<T> {
         match self {
             Some(part) => part.to_json(alloc),
             None => Ok(Value::Null),
+        }
+    }
+
+    fn write(&self, alloc: Global, out: &mut Vec<u8>) -> Result<(), AllocError> {
+        match self {
+            Some(part) => part.write(alloc, out),
+            None => put_null(out),
         }
     }
 
@@ -162,6 +188,10 @@ impl<T: Part> Part for List<T> {
         items_to_json(alloc, self.as_slice())
     }
 
+    fn write(&self, alloc: Global, out: &mut Vec<u8>) -> Result<(), AllocError> {
+        write_items(alloc, out, self.as_slice())
+    }
+
     fn from_json(alloc: Global, v: &Value) -> Result<Option<Self>, NoMemory> {
         match v.as_array() {
             Some(items) => items_from_json(alloc, items.as_slice()),
@@ -184,10 +214,21 @@ impl<C: Part, S: Part, P: Part> Part for Split<C, S, P> {
     ghost float_free = { split_float_free C.value S.value P.value C.float_free S.float_free P.float_free };
 
     fn to_json(&self, alloc: Global) -> Result<Value, AllocError> {
-        let common = self.common.to_json(alloc)?;
-        let players = self.players.to_json(alloc)?;
-        let secret = self.secret.to_json(alloc)?;
-        json!(in alloc; {"common": common, "players": players, "secret": secret})
+        let mut map = Map::new(alloc);
+        match put_split(alloc, &mut map, self) {
+            Ok(()) => Ok(Value::Object(map)),
+            Err(error) => {
+                drop(map);
+                Err(error)
+            }
+        }
+    }
+
+    #[tactic(auto, unfolding(json::specs::Print::escape_byte))]
+    fn write(&self, alloc: Global, out: &mut Vec<u8>) -> Result<(), AllocError> {
+        out.extend_from_slice(b"{\"common\":")?;
+        self.common.write(alloc, out)?;
+        write_from_players(alloc, out, &self.players, &self.secret)
     }
 
     fn from_json(alloc: Global, v: &Value) -> Result<Option<Self>, NoMemory> {
@@ -215,6 +256,78 @@ impl<C: Part, S: Part, P: Part> Part for Split<C, S, P> {
             && self.secret.same(&other.secret)
             && self.players.same(&other.players)
     }
+}
+
+/// Puts the members of a split state into an empty object.
+fn put_split<C: Part, S: Part, P: Part>(
+    alloc: Global,
+    map: &mut Map<String, Value>,
+    split: &Split<C, S, P>,
+) -> Result<(), AllocError>
+    requires { members_view map.old.entries ≡ no_members }
+    ensures { OnOk result (object (members_view map.new.entries) ≡ split_value C.value S.value P.value split.now) }
+{
+    put_part(alloc, map, "common", &split.common)?;
+    put_part(alloc, map, "players", &split.players)?;
+    put_part(alloc, map, "secret", &split.secret)
+}
+
+/// Puts a part into an object, as the member of a name.
+pub(crate) fn put_part<T: Part>(
+    alloc: Global,
+    map: &mut Map<String, Value>,
+    name: &str,
+    part: &T,
+) -> Result<(), AllocError>
+    ensures { OnOk result (members_view map.new.entries ≡ put name.now (T.value part.now) (members_view map.old.entries)) }
+{
+    let value = part.to_json(alloc)?;
+    serde_json::put(map, alloc, name, value)
+}
+
+/// An object with a part as its one member.
+pub(crate) fn lone_to_json<T: Part>(
+    alloc: Global,
+    name: &str,
+    part: &T,
+) -> Result<Value, AllocError>
+    ensures { IfOk result (λ v. view v ≡ lone_value name.now T.value part.now) }
+{
+    let value = part.to_json(alloc)?;
+    object_of_one(alloc, name, value)
+}
+
+/// Appends the text of a split state's members from the players on.
+#[tactic(auto, unfolding(json::specs::Print::escape_byte))]
+fn write_from_players<S: Part, P: Part>(
+    alloc: Global,
+    out: &mut Vec<u8>,
+    players: &List<Option<P>>,
+    secret: &Option<S>,
+) -> Result<(), AllocError>
+    ensures { OnOk result (out.new.items ≡ out.old.items ++ members_text true (from_players S.value P.value players.now secret.now)) }
+{
+    out.extend_from_slice(b",\"players\":")?;
+    players.write(alloc, out)?;
+    out.extend_from_slice(b",\"secret\":")?;
+    secret.write(alloc, out)?;
+    out.push(b'}')?;
+    Ok(())
+}
+
+/// Appends the text of items, as that of a JSON array.
+fn write_items<T: Part>(alloc: Global, out: &mut Vec<u8>, items: &[T]) -> Result<(), AllocError>
+    ensures { OnOk result (out.new.items ≡ out.old.items ++ compact_text (list_value T.value items.now)) }
+{
+    out.push(b'[')?;
+    let mut later = false;
+    for item in items {
+        put_comma(out, later)?;
+        item.write(alloc, out)?;
+        later = true;
+    }
+    out.push(b']')?;
+    Ok(())
 }
 
 /// Items as a JSON array.

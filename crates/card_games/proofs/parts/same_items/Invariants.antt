@@ -1,5 +1,5 @@
 use Rattle.std.proofs.Common.{◌≡◌, take}
-use Rattle.card_games.proofs.json.same_items.Given as goal
+use Rattle.card_games.proofs.parts.same_items.Given as goal
 
 abbrev pub invariant-loop-place : goal.invariant-loop-place
 invariant-loop-place g l = take l.place l.one ≡ take l.place l.other
