@@ -1,0 +1,4 @@
+pub mod Stacks
+pub mod Keeping
+pub mod Acted
+pub mod Rollbacks

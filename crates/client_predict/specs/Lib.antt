@@ -1,0 +1,7 @@
+pub mod Prediction
+pub mod Shown
+pub mod Client
+pub mod Acting
+pub mod Reading
+pub mod Rollback
+pub mod Stack

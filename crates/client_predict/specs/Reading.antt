@@ -1,0 +1,140 @@
+-- What a client makes of a line that it reads: what it is told, or why the line is none for it, and what it then has come to.
+use Rattle.std.specs.Prelude.{◌≡◌, MatchBool, ℕ, ◌+◌, ◌==◌, List, [], ◌∷◌, ◌++◌, Bool, true, false, if◌then◌else◌, position, Option, Some, None, Result, Ok, Err}
+use Rattle.std.specs.List.{remove}
+use Rattle.game_sheet.specs.MatchName.{Name}
+use Rattle.game_trait.specs.Rules.{Rules}
+use Rattle.sight_reading.specs.CtxReading.{ctx_in}
+use Rattle.sight_reading.specs.EntryReading.{entry_in}
+use Rattle.sight_reading.specs.Reading.{◌>>=◌}
+use Rattle.sight_reading.specs.SnapshotReading.{snapshot_in}
+use Rattle.player_sight.specs.declared.shown.Snapshot.{Snapshot}
+use Rattle.serde_json.specs.Data.{Data}
+use Rattle.wire_json.specs.Refusals.{Refusal}
+use Rattle.wire_json.specs.ServerReading.{server_read}
+use Rattle.wire_json.specs.declared.server.ServerMsg.{ServerMsg}
+use Rattle.wire_json.specs.declared.server.ServerMsg.TheVariants as message
+use Rattle.client_predict.specs.Client.{Client, Held, Playing}
+use Rattle.client_predict.specs.declared.change.Change.{Change}
+use Rattle.client_predict.specs.declared.told.FeedNo.{FeedNo}
+use Rattle.client_predict.specs.declared.told.FeedNo.TheVariants as no
+use Rattle.client_predict.specs.declared.told.Told.{Told}
+use Rattle.client_predict.specs.declared.told.Told.TheVariants.{Synced, Updated, Accepted, Refused, Again, Ended, Other}
+use Rattle.client_predict.specs.declared.waiting.Waiting.{Waiting}
+
+-- what a line comes to
+pub record Heard (G : Type 0) : Type 0 where
+  pub told : Result Told FeedNo
+  pub client : Client G
+
+-- the line is none for the client, which is gone from then on
+abbrev pub lost : {G : Type 0} → Client G → FeedNo → Heard G
+lost c why = record { told = Err why; client = record { gone = true; playing = c.playing } }
+
+-- the client is told something, and nothing of it changes
+abbrev pub only_told : {G : Type 0} → Client G → Told → Heard G
+only_told c told = record { told = Ok told; client = c }
+
+-- its part in the match is another from then on
+abbrev pub goes_on : {G : Type 0} → Client G → Told → Playing G → Heard G
+goes_on c told p = record { told = Ok told; client = record { gone = c.gone; playing = Some p } }
+
+-- the stream has ended
+abbrev pub ended : {G : Type 0} → Client G → Told → Heard G
+ended c told = record { told = Ok told; client = record { gone = true; playing = c.playing } }
+
+-- ---- a sync
+
+abbrev pub begun : {G : Type 0} → Name → Option ℕ → Snapshot G → Playing G
+begun name seat s = record { name = name; seat = seat; settled = s; waiting = []; ticket = 1 }
+
+abbrev pub synced : {G : Type 0} → Client G → Name → Option ℕ → Option (Snapshot G) → Heard G
+synced c name seat None = lost c no.BadLine
+synced c name seat (Some s) = record { told = Ok Synced; client = record { gone = false; playing = Some (begun name seat s) } }
+
+-- ---- an accepted action
+
+-- what a line shows of it; nothing where a part is in no form of the game
+abbrev pub change_in : {G : Type 0} → Rules G → Data → Data → Data → Option (Change G)
+change_in rules ctx entry g =
+    ctx_in rules.sheet ctx >>= λ c.
+    entry_in rules.sheet entry >>= λ e.
+    rules.read g >>= λ s.
+    Some (record { ctx = c; entry = e; g = s })
+
+abbrev pub settled_by : {G : Type 0} → Snapshot G → Change G → ℕ → Snapshot G
+settled_by s change number = record { number = number; ctx = change.ctx; g = change.g; log = s.log ++ change.entry ∷ [] }
+
+-- another snapshot is settled
+abbrev pub settles : {G : Type 0} → Playing G → Snapshot G → Playing G
+settles p s = record { name = p.name; seat = p.seat; settled = s; waiting = p.waiting; ticket = p.ticket }
+
+-- only the number after the settled one is taken in
+abbrev pub in_step : {G : Type 0} → Client G → Option (Playing G) → ℕ → Heard G → Heard G
+in_step c None number heard = lost c no.BadLine
+in_step c (Some p) number heard = if number == p.settled.number + 1 then heard else lost c (no.OutOfStep p.settled.number number)
+
+abbrev pub taken : {G : Type 0} → Client G → Option (Playing G) → Change G → ℕ → Heard G
+taken c None change number = lost c no.BadLine
+taken c (Some p) change number = goes_on c Updated (settles p (settled_by p.settled change number))
+
+-- an update: all its parts are read before its number is looked at
+abbrev pub updated : {G : Type 0} → Client G → Option (Playing G) → Option (Change G) → ℕ → Heard G
+updated c playing None number = lost c no.BadLine
+updated c playing (Some change) number = in_step c playing number (taken c playing change number)
+
+-- ---- a verdict
+
+abbrev pub has_ticket : ℕ → Waiting → Bool
+has_ticket ticket w = w.ticket == ticket
+
+-- the waiting action at a place is taken out
+abbrev pub answered : {G : Type 0} → Playing G → ℕ → Playing G
+answered p place = record { name = p.name; seat = p.seat; settled = p.settled; waiting = remove p.waiting place; ticket = p.ticket }
+
+abbrev pub verdict_at : {G : Type 0} → Client G → Playing G → Option ℕ → ℕ → Told → Heard G
+verdict_at c p None ticket told = lost c (no.UnknownTicket ticket)
+verdict_at c p (Some place) ticket told = goes_on c told (answered p place)
+
+-- the oldest waiting action that has the ticket waits no more
+abbrev pub verdict : {G : Type 0} → Client G → Option (Playing G) → ℕ → Told → Heard G
+verdict c None ticket told = lost c (no.UnknownTicket ticket)
+verdict c (Some p) ticket told = verdict_at c p (position (has_ticket ticket) p.waiting) ticket told
+
+-- ---- any line
+
+abbrev pub again : {G : Type 0} → Client G → Option ℕ → Heard G
+again c None = only_told c (Again None)
+again c (Some ticket) = verdict c c.playing ticket (Again (Some ticket))
+
+abbrev pub unless_gone : {G : Type 0} → Client G → Heard G → Heard G
+unless_gone c heard = if c.gone then lost c no.Gone else heard
+
+abbrev pub hears : {G : Type 0} → Rules G → Client G → ServerMsg → Heard G
+hears rules c (message.Sync name seat snapshot) = synced c name seat (snapshot_in rules snapshot)
+hears rules c (message.Update ctx entry g number) = unless_gone c (updated c c.playing (change_in rules ctx entry g) number)
+hears rules c (message.Ok number ticket) = unless_gone c (verdict c c.playing ticket (Accepted ticket))
+hears rules c (message.No number reason ticket) = unless_gone c (verdict c c.playing ticket (Refused ticket reason))
+hears rules c (message.Again ticket) = unless_gone c (again c ticket)
+hears rules c (message.Refused refusal) = unless_gone c (only_told c Other)
+hears rules c (message.Bye why) = unless_gone c (ended c (Ended why))
+
+abbrev pub hears_line : {G : Type 0} → Rules G → Client G → Result ServerMsg Refusal → Heard G
+hears_line rules c (Ok m) = hears rules c m
+hears_line rules c (Err fault) = unless_gone c (lost c no.BadLine)
+
+unfoldable pub reads : {G : Type 0} → Rules G → Client G → List ℕ → Heard G
+reads rules c line = hears_line rules c (server_read line)
+
+-- ---- how the code is tied to this: want of memory is free and changes nothing, and all else is exact
+
+abbrev pub is_starved : Result Told FeedNo → Bool
+is_starved (Ok told) = false
+is_starved (Err no.Gone) = false
+is_starved (Err no.BadLine) = false
+is_starved (Err (no.OutOfStep have was)) = false
+is_starved (Err (no.UnknownTicket ticket)) = false
+is_starved (Err no.NoMemory) = true
+
+abbrev pub Hears : {X G : Type 0} → Held X G → Result Told FeedNo → Held X G → Heard G → Type 0
+Hears old result new heard =
+    MatchBool (is_starved result) (new ≡ old) ((result ≡ heard.told) × (new ≡ record { game = old.game; key = old.key; client = heard.client }))
