@@ -173,11 +173,11 @@ ctx_members_are : (sheet : Sheet) (ms : Members) (ctx : Ctx) → MembersAreCanon
 unfolding ctx_in ctx_row
 ctx_members_are sheet ms ctx c e =
     let known = past (has_extra ctx_names ms) _ ctx e in
-    let active = step (active_in sheet (get_member (codes "activePlayers") ms)) _ ctx known.1 in
-    let over = step (over_in (get_member (codes "gameover") ms)) _ ctx active.2 in
+    let over = step (over_in (get_member (codes "gameover") ms)) _ ctx known.1 in
     let phase = step (phase_in sheet (get_member (codes "phase") ms)) _ ctx over.2 in
-    let order = step (order_in (get_member (codes "playOrder") ms)) _ ctx phase.2 in
-    let counts = step (counts_in (object ms)) _ ctx order.2 in
+    let counts = step (counts_in (object ms)) _ ctx phase.2 in
+    let order = step (order_in (get_member (codes "playOrder") ms)) _ ctx counts.2 in
+    let active = step (active_in sheet (get_member (codes "activePlayers") ms)) _ ctx order.2 in
     let active_there = chained (active_from sheet) (get_member (codes "activePlayers") ms) active.0 active.1 in
     let actives = active_is sheet active_there.0 active.0 (canonical_member (codes "activePlayers") ms active_there.0 c active_there.1) active_there.2 in
     let over_there = chained over_from (get_member (codes "gameover") ms) over.0 over.1 in
@@ -199,7 +199,7 @@ ctx_members_are sheet ms ctx c e =
       moves = many.moves_fit;
       over = overs.1;
     } in
-    let same : ctx_from active.0 over.0 phase.0 order.0 counts.0 ≡ ctx = cc (counts.2) in
+    let same : ctx_from active.0 over.0 phase.0 order.0 counts.0 ≡ ctx = cc (active.2) in
     subst (Reads sheet (object ms)) same (ap object row, plain)
 
 pub ctx_is : (sheet : Sheet) (d : Data) (ctx : Ctx) → IsCanonical d → ctx_in sheet d ≡ Some ctx → Reads sheet d ctx

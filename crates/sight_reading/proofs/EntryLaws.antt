@@ -56,11 +56,11 @@ entry_members_are : (sheet : Sheet) (ms : Members) (e : Entry) → MembersAreCan
 unfolding entry_in entry_row
 entry_members_are sheet ms e c is =
     let known = past (has_extra entry_names ms) _ e is in
-    let deed = step _ _ e known.1 in
-    let at = step _ _ e deed.2 in
+    let at = step _ _ e known.1 in
     let phase = step _ _ e at.2 in
     let seat = step _ _ e phase.2 in
     let turn = step _ _ e seat.2 in
+    let deed = step _ _ e turn.2 in
     let act = chained (deed_in sheet) (get_member (codes "act") ms) deed.0 deed.1 in
     let deed_value = deed_shown sheet act.0 deed.0 (canonical_member (codes "act") ms act.0 c act.1) act.2 in
     let number = natural_is 4294967295 (get_member (codes "number") ms) at.0 at.1 in
@@ -70,7 +70,7 @@ entry_members_are sheet ms e c is =
     let row = row_is entry_names ms (entry_row (act_data sheet deed.0.hidden deed.0.act) at.0 (phase_or_null sheet phase.0) seat.0 turn.0) c
     ((refl, (refl, (refl, (refl, tt)))), ((refl, (refl, (refl, tt))), ((refl, (refl, tt)), ((refl, tt), (tt, tt))))) known.0 refl
     (act.1 ∙ ap (λ d. Some d) deed_value.0, (number.0, (in_phase.0, (place.0, (count.0, tt))))) in
-    let same : entry_from deed.0 at.0 phase.0 seat.0 turn.0 ≡ e = cc (turn.2) in
+    let same : entry_from deed.0 at.0 phase.0 seat.0 turn.0 ≡ e = cc (deed.2) in
     let plain : IsPlainEntry sheet (entry_from deed.0 at.0 phase.0 seat.0 turn.0) = record { seat = place.1; act = deed_value.1; number = number.1; turn = count.1; phase = in_phase.1; words = refl } in
     subst (Reads sheet (object ms)) same (ap object row, plain)
 

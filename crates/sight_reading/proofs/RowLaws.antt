@@ -1,12 +1,9 @@
 -- The rows of active players read back from the object that shows them.
-use Rattle.std.proofs.Common.{◌≡◌, ℕ, zero, suc, ◌+◌, ◌<◌, ◌≤◌, List, [], ◌∷◌, ◌++◌, length, fold, cond, ◌==◌, ◌⊎◌, inl, inr, Option, Some, None, option_map, Ordering, Less, Equal, Greater, refl, sym, ap, ◌∙◌, subst, arith}
+use Rattle.std.proofs.Common.{◌≡◌, ℕ, zero, suc, ◌+◌, ◌<◌, ◌≤◌, List, [], ◌∷◌, length, fold, cond, ◌==◌, ◌⊎◌, inl, inr, Option, Some, None, option_map, Ordering, Less, Equal, Greater, refl, sym, ap, ◌∙◌, subst, arith}
 use Rattle.std.proofs.lemmas.Bool.{eq-eqb, ne_eqb}
-use Rattle.std.proofs.lemmas.Fmt.{decimal_is_IsNumeral}
-use Rattle.std.proofs.lemmas.List.{append-nil, append_assoc}
 use Rattle.std.specs.Prelude.{decimal}
 use Rattle.std.specs.Ordering.{nat_cmp, match_ordering}
 use Rattle.std.specs.Cmp.Lexicographic.{slice_cmp}
-use Rattle.std.specs.Str.Parse.{digits_value}
 use Rattle.serde_json.specs.Data.{Data, object, Members, no_members, member, put}
 use Rattle.serde_json.specs.Events.{members_len}
 use Rattle.serde_json.specs.Find.{get_member}
@@ -15,11 +12,11 @@ use Rattle.game_sheet.specs.SheetFits.{SheetFits}
 use Rattle.game_sheet.specs.declared.sheet.Sheet.{Sheet}
 use Rattle.game_sheet.specs.declared.sheet.StageRow.{StageRow}
 use Rattle.player_sight.specs.CtxData.{with_row, rows_members, active_data}
-use Rattle.sight_reading.specs.CtxReading.{Rows, with_seat, rows_from, active_from}
+use Rattle.sight_reading.specs.CtxReading.{Rows, stage_or_malformed, seat_stage, before_rows, rows_among, as_many, active_from}
+use Rattle.sight_reading.specs.declared.ctx_read.SeatStage.TheVariants.{Active}
+use Rattle.sight_reading.proofs.ActiveRows.{decimals_apart}
 use Rattle.player_sight.specs.Parts.{stage_or_null}
 use Rattle.player_sight.specs.Plain.{IsIn, RowsFit, ActiveFits}
-use Rattle.game_sheet.specs.SheetNames.{stage_of}
-use Rattle.sight_reading.specs.Reading.{id_or_null}
 use Rattle.sight_reading.proofs.PartLaws.{id_again}
 
 -- the stage of a seat, where it has a row
@@ -38,58 +35,35 @@ low_rows sheet low seat (row ∷ rows) h less =
 abbrev Shows : Sheet → Members → ℕ → Rows → Type 0
 Shows sheet ms low rows = (seat : ℕ) → low ≤ seat → seat ≤ 255 → get_member (decimal seat) ms ≡ option_map (stage_or_null sheet) (row_of seat rows)
 
-stage_again : (sheet : Sheet) (o : Option ℕ) → SheetFits sheet → IsIn (length sheet.stages) o → id_or_null (stage_of sheet) (stage_or_null sheet o) ≡ Some o
+stage_again : (sheet : Sheet) (o : Option ℕ) → SheetFits sheet → IsIn (length sheet.stages) o → seat_stage sheet (Some (stage_or_null sheet o)) ≡ Active o
 stage_again sheet None fit h = refl
-stage_again sheet (Some id) fit h = id_again (λ (row : StageRow). row.name) sheet.stages (Some id) fit.stage_names h
+stage_again sheet (Some id) fit h = ap stage_or_malformed (id_again (λ (row : StageRow). row.name) sheet.stages (Some id) fit.stage_names h)
 
-taken : (sheet : Sheet) (o : Option Data) (stage : Option ℕ) (passed : Option Rows) (more : Option ℕ → Option Rows) → SheetFits sheet → IsIn (length sheet.stages) stage → o ≡ Some (stage_or_null sheet stage)
-    → with_seat sheet o passed more ≡ more stage
-taken sheet o stage passed more fit inside e = rw (e, stage_again sheet stage fit inside) refl
+abbrev Scans : Sheet → Members → ℕ → Type 0
+Scans sheet ms n = (rows : Rows) (seat : ℕ) → RowsFit sheet seat rows → seat + n ≡ 256 → Shows sheet ms seat rows → rows_among sheet (object ms) seat n ≡ Some rows
 
-not_yet : (done : Rows) (row : ℕ × Option ℕ) (rows : Rows) (count : ℕ) → length done + length (row ∷ rows) ≡ count → length done ≡ count → ⊥
-not_yet done row rows count h e = omega (arith, h, e)
-
-one_on : (done : Rows) (row : ℕ × Option ℕ) (rows : Rows) (count : ℕ) → length done + length (row ∷ rows) ≡ count → length (done ++ row ∷ []) + length rows ≡ count
-one_on [] row rows count h = omega (arith, h)
-one_on (first ∷ done) row rows zero h = absurd (omega (arith, h))
-one_on (first ∷ done) row rows (suc count) h = let less : length done + length (row ∷ rows) ≡ count = omega (arith, h) in let rest = one_on done row rows count less in omega (arith, rest)
-
-abbrev Scans : Sheet → Members → ℕ → ℕ → Type 0
-Scans sheet ms count n =
-    (done rows : Rows) (seat : ℕ) → RowsFit sheet seat rows → seat + n ≡ 256 → length done + length rows ≡ count → Shows sheet ms seat rows → rows_from sheet (object ms) count done seat n ≡ Some (done ++ rows)
-
-finished : (sheet : Sheet) (ms : Members) (count : ℕ) (done : Rows) (seat n : ℕ) → length done + 0 ≡ count → rows_from sheet (object ms) count done seat n ≡ Some (done ++ [])
-unfolding rows_from
-finished sheet ms count done seat zero h = let full : length done ≡ count = omega (arith, h) in rw (eq-eqb (length done) count full, append-nil done) refl
-finished sheet ms count done seat (suc n) h = let full : length done ≡ count = omega (arith, h) in rw (eq-eqb (length done) count full, append-nil done) refl
-
-here : (sheet : Sheet) (ms : Members) (count n : ℕ) (done rows : Rows) (row : ℕ × Option ℕ) (seat : ℕ) → SheetFits sheet → Scans sheet ms count n → seat ≡ row.0 → RowsFit sheet seat (row ∷ rows) → seat + suc n ≡ 256
-    → length done + length (row ∷ rows) ≡ count → Shows sheet ms seat (row ∷ rows) → rows_from sheet (object ms) count done seat (suc n) ≡ Some (done ++ row ∷ rows)
-unfolding rows_from
-here sheet ms count n done rows row seat fit later same h end many shows =
+here : (sheet : Sheet) (ms : Members) (n : ℕ) (rows : Rows) (row : ℕ × Option ℕ) (seat : ℕ) → SheetFits sheet → Scans sheet ms n → seat ≡ row.0 → RowsFit sheet seat (row ∷ rows) → seat + suc n ≡ 256
+    → Shows sheet ms seat (row ∷ rows) → rows_among sheet (object ms) seat (suc n) ≡ Some (row ∷ rows)
+unfolding rows_among
+here sheet ms n rows row seat fit later same h end shows =
     let it : get_member (decimal seat) ms ≡ Some (stage_or_null sheet row.1) = shows seat (omega arith) (omega (arith, h.1, same)) ∙ rw (eq-eqb row.0 seat (sym same)) refl in
     let rise : RowsFit sheet (seat + 1) rows = subst (λ s. RowsFit sheet (s + 1) rows) (sym same) h.3 in
     let others : Shows sheet ms (seat + 1) rows = λ s low high. shows s (omega (arith, low)) high ∙ (let apart : row.0 ≡ s → ⊥ = λ e. omega (arith, low, e, same) in rw (ne_eqb row.0 s apart) refl) in
     let ends : (seat + 1) + n ≡ 256 = omega (arith, end) in
     let pair : (seat, row.1) ≡ row = ap (λ s. (s, row.1)) same in
-    let rest = later (done ++ row ∷ []) rows (seat + 1) rise ends (one_on done row rows count many) others in
-    rw (ne_eqb (length done) count (not_yet done row rows count many))
-    (taken sheet (get_member (decimal seat) ms) row.1 _ _ fit h.2 it ∙ ap (λ r. rows_from sheet (object ms) count (done ++ r ∷ []) (seat + 1) n) pair ∙ rest ∙ ap (λ rs. Some rs) (append_assoc done (row ∷ []) rows))
+    ap (λ o. before_rows seat (seat_stage sheet o) (rows_among sheet (object ms) (seat + 1) n)) it
+    ∙ ap (λ s. before_rows seat s (rows_among sheet (object ms) (seat + 1) n)) (stage_again sheet row.1 fit h.2)
+    ∙ ap (option_map (λ rs. (seat, row.1) ∷ rs)) (later rows (seat + 1) rise ends others) ∙ ap (λ r. Some (r ∷ rows)) pair
 
-nobody : (sheet : Sheet) (o : Option Data) (passed : Option Rows) (more : Option ℕ → Option Rows) → o ≡ None → with_seat sheet o passed more ≡ passed
-nobody sheet o passed more e = rw e refl
-
-beyond : (sheet : Sheet) (ms : Members) (count n : ℕ) (done rows : Rows) (row : ℕ × Option ℕ) (seat : ℕ) → Scans sheet ms count n → seat < row.0 → RowsFit sheet seat (row ∷ rows) → seat + suc n ≡ 256
-    → length done + length (row ∷ rows) ≡ count → Shows sheet ms seat (row ∷ rows) → rows_from sheet (object ms) count done seat (suc n) ≡ Some (done ++ row ∷ rows)
-unfolding rows_from
-beyond sheet ms count n done rows row seat later less h end many shows =
-    let rise : RowsFit sheet (seat + 1) (row ∷ rows) = (omega (arith, less), h.1, h.2, h.3) in
-    let none : row_of seat (row ∷ rows) ≡ None = low_rows sheet (seat + 1) seat (row ∷ rows) rise (omega arith) in
-    let it : get_member (decimal seat) ms ≡ None = shows seat (omega arith) (omega (arith, less, h.1)) ∙ ap (option_map (stage_or_null sheet)) none in
-    let others : Shows sheet ms (seat + 1) (row ∷ rows) = λ s low high. shows s (omega (arith, low)) high in
+beyond : (sheet : Sheet) (ms : Members) (n : ℕ) (rows : Rows) (seat : ℕ) → Scans sheet ms n → RowsFit sheet (seat + 1) rows → seat + suc n ≡ 256
+    → Shows sheet ms seat rows → rows_among sheet (object ms) seat (suc n) ≡ Some rows
+unfolding rows_among
+beyond sheet ms n rows seat later rise end shows =
+    let none : row_of seat rows ≡ None = low_rows sheet (seat + 1) seat rows rise (omega arith) in
+    let it : get_member (decimal seat) ms ≡ None = shows seat (omega arith) (omega (arith, end)) ∙ ap (option_map (stage_or_null sheet)) none in
+    let others : Shows sheet ms (seat + 1) rows = λ s low high. shows s (omega (arith, low)) high in
     let ends : (seat + 1) + n ≡ 256 = omega (arith, end) in
-    rw (ne_eqb (length done) count (not_yet done row rows count many))
-    (nobody sheet (get_member (decimal seat) ms) _ _ it ∙ later done (row ∷ rows) (seat + 1) rise ends many others)
+    ap (λ o. before_rows seat (seat_stage sheet o) (rows_among sheet (object ms) (seat + 1) n)) it ∙ later rows (seat + 1) rise ends others
 
 lower : (a b : ℕ) → a ≤ b → (a ≡ b) ⊎ (a < b)
 lower zero zero h = inl refl
@@ -97,21 +71,17 @@ lower zero (suc b) h = inr (omega arith)
 lower (suc a) zero h = absurd (omega (arith, h))
 lower (suc a) (suc b) h = elim (lower a b (omega (arith, h))) [ inl e ↦ inl (ap suc e) | inr l ↦ inr (omega (arith, l)) ]
 
-scan : (sheet : Sheet) (ms : Members) (count n : ℕ) → SheetFits sheet → Scans sheet ms count n
-scan sheet ms count n fit done [] seat h end many shows = finished sheet ms count done seat n many
-scan sheet ms count zero fit done (row ∷ rows) seat h end many shows = absurd (omega (arith, h.0, h.1, end))
-scan sheet ms count (suc n) fit done (row ∷ rows) seat h end many shows = elim (lower seat row.0 h.0) [
-  | inl same ↦ here sheet ms count n done rows row seat fit (scan sheet ms count n fit) same h end many shows
-  | inr less ↦ beyond sheet ms count n done rows row seat (scan sheet ms count n fit) less h end many shows
+scan : (sheet : Sheet) (ms : Members) (n : ℕ) → SheetFits sheet → Scans sheet ms n
+unfolding rows_among
+scan sheet ms zero fit [] seat h end shows = refl
+scan sheet ms zero fit (row ∷ rows) seat h end shows = absurd (omega (arith, h.0, h.1, end))
+scan sheet ms (suc n) fit [] seat h end shows = beyond sheet ms n [] seat (scan sheet ms n fit) tt end shows
+scan sheet ms (suc n) fit (row ∷ rows) seat h end shows = elim (lower seat row.0 h.0) [
+  | inl same ↦ here sheet ms n rows row seat fit (scan sheet ms n fit) same h end shows
+  | inr less ↦ beyond sheet ms n (row ∷ rows) seat (scan sheet ms n fit) (omega (arith, less), h.1, h.2, h.3) end shows
 ]
 
 -- ---- the object that shows rows
-
-decimals_apart : (a b : ℕ) → a ≤ 255 → b ≤ 255 → (a ≡ b → ⊥) → decimal a ≡ decimal b → ⊥
-decimals_apart a b p q apart e =
-    let one = decimal_is_IsNumeral a (omega (arith, p)) in
-    let two = decimal_is_IsNumeral b (omega (arith, q)) in
-    apart (sym one.1 ∙ ap (digits_value 10) e ∙ two.1)
 
 or_before : Option (Option ℕ) → Sheet → Option Data → Option Data
 or_before None sheet o = o
@@ -165,10 +135,11 @@ counted sheet low (row ∷ rows) ms h none =
     rest ∙ omega (arith, one)
 
 -- rows that rise read back
-pub rows_again : (sheet : Sheet) (rows : Rows) → SheetFits sheet → RowsFit sheet 0 rows → rows_from sheet (object (rows_members sheet rows)) (members_len (rows_members sheet rows)) [] 0 256 ≡ Some rows
+pub rows_again : (sheet : Sheet) (rows : Rows) → SheetFits sheet → RowsFit sheet 0 rows
+    → as_many (members_len (rows_members sheet rows)) (rows_among sheet (object (rows_members sheet rows)) 0 256) ≡ Some rows
 rows_again sheet rows fit h =
     let many : length rows ≡ members_len (rows_members sheet rows) = let all = counted sheet 0 rows no_members h (λ seat low high. refl) in omega (arith, all) in
-    scan sheet (rows_members sheet rows) (members_len (rows_members sheet rows)) 256 fit [] rows 0 h (omega arith) (omega (arith, many)) (shows_all sheet rows h)
+    rw (scan sheet (rows_members sheet rows) 256 fit rows 0 h (omega arith) (shows_all sheet rows h), eq-eqb (length rows) (members_len (rows_members sheet rows)) many) refl
 
 pub active_again : (sheet : Sheet) (active : Option Rows) → SheetFits sheet → ActiveFits sheet active → active_from sheet (active_data sheet active) ≡ Some active
 active_again sheet None fit h = refl

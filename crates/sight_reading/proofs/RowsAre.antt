@@ -1,8 +1,7 @@
 -- What is read as rows of active players rises by seat, and the object shows these rows and no other.
-use Rattle.std.proofs.Common.{◌≡◌, ℕ, zero, suc, ◌+◌, ◌≤◌, List, [], ◌∷◌, ◌++◌, length, fold, Bool, true, false, cond, ◌==◌, Option, Some, None, option_map, Ordering, Less, Equal, Greater, bytes_eq, refl, sym, ap, ◌∙◌, subst, arith}
+use Rattle.std.proofs.Common.{◌≡◌, ℕ, zero, suc, ◌+◌, ◌≤◌, List, [], ◌∷◌, length, fold, Bool, true, false, cond, ◌==◌, Option, Some, None, option_map, Ordering, Less, Equal, Greater, bytes_eq, refl, sym, ap, ◌∙◌, subst, arith}
 use Rattle.std.proofs.lemmas.Bool.{eqb-true}
 use Rattle.std.proofs.lemmas.Cmp.{nat_list_cmp_total, tied_itself}
-use Rattle.std.proofs.lemmas.List.{append-nil, append_assoc}
 use Rattle.std.proofs.lemmas.Slice.Eq.{bytes_eq-Decides}
 use Rattle.std.specs.Prelude.{decimal, slice_get}
 use Rattle.std.specs.Ordering.{match_ordering}
@@ -16,12 +15,12 @@ use Rattle.json_tree.proofs.Rows.{name_is, ordered}
 use Rattle.game_sheet.specs.declared.sheet.Sheet.{Sheet}
 use Rattle.game_sheet.specs.declared.sheet.StageRow.{StageRow}
 use Rattle.player_sight.specs.CtxData.{with_row, rows_members, active_data}
-use Rattle.sight_reading.specs.CtxReading.{Rows, with_seat, rows_from, active_from}
+use Rattle.sight_reading.specs.CtxReading.{Rows, stage_or_malformed, seat_stage, before_rows, rows_among, as_many, active_from}
 use Rattle.player_sight.specs.Parts.{text_or_null, stage_or_null}
 use Rattle.player_sight.specs.Plain.{IsIn, RowsFit, ActiveFits}
 use Rattle.game_sheet.specs.SheetNames.{stage_of}
 use Rattle.sight_reading.specs.Reading.{id_or_null}
-use Rattle.sight_reading.proofs.PartLaws.{name_or_null, step, mapped, id_is}
+use Rattle.sight_reading.proofs.PartLaws.{name_or_null, mapped, id_is}
 use Rattle.sight_reading.proofs.RowLaws.{counted}
 
 -- ---- what the seats give
@@ -38,59 +37,41 @@ abbrev AreMembers : Sheet → Members → Rows → Type 0
 AreMembers sheet ms [] = Unit {0}
 AreMembers sheet ms (row ∷ rows) = (get_member (decimal row.0) ms ≡ Some (stage_or_null sheet row.1)) × AreMembers sheet ms rows
 
-record Found (sheet : Sheet) (ms : Members) (count : ℕ) (done : Rows) (seat : ℕ) (rows : Rows) : Type 0 where
-  rest : Rows
-  whole : rows ≡ done ++ rest
-  rise : RowsFit sheet seat rest
-  shown : AreMembers sheet ms rest
-  many : length rows ≡ count
-
-full : (b : Bool) (done rows : Rows) → cond b (Some done) None ≡ Some rows → (b ≡ true) × (done ≡ rows)
-full true done rows e = (refl, cc)
-full false done rows e = absurd (cc)
-
-at_full : (sheet : Sheet) (ms : Members) (count : ℕ) (done : Rows) (seat : ℕ) (rows : Rows) → (length done == count) ≡ true → done ≡ rows → Found sheet ms count done seat rows
-at_full sheet ms count done seat rows b e =
-    subst (Found sheet ms count done seat) e (record { rest = []; whole = sym (append-nil done); rise = tt; shown = tt; many = eqb-true (length done) count b })
-
 looser : (sheet : Sheet) (low high : ℕ) (rows : Rows) → low ≤ high → RowsFit sheet high rows → RowsFit sheet low rows
 looser sheet low high [] h f = tt
 looser sheet low high (row ∷ rows) h f = (omega (arith, h, f.0), f.1, f.2, f.3)
 
-later : (sheet : Sheet) (ms : Members) (count : ℕ) (done : Rows) (seat : ℕ) (rows : Rows) → Found sheet ms count done (seat + 1) rows → Found sheet ms count done seat rows
-later sheet ms count done seat rows f = record { rest = f.rest; whole = f.whole; rise = looser sheet seat (seat + 1) f.rest (omega arith) f.rise; shown = f.shown; many = f.many }
+abbrev Found : Sheet → Members → ℕ → Rows → Type 0
+Found sheet ms seat rows = RowsFit sheet seat rows × AreMembers sheet ms rows
 
-with_one : (sheet : Sheet) (ms : Members) (count : ℕ) (done : Rows) (seat : ℕ) (stage : Option ℕ) (rows : Rows) → seat ≤ 255 → IsIn (length sheet.stages) stage → get_member (decimal seat) ms ≡ Some (stage_or_null sheet stage)
-    → Found sheet ms count (done ++ (seat, stage) ∷ []) (seat + 1) rows → Found sheet ms count done seat rows
-with_one sheet ms count done seat stage rows high inside here f =
-    let at : seat ≤ seat = omega arith in record {
-      rest = (seat, stage) ∷ f.rest;
-      whole = f.whole ∙ append_assoc done ((seat, stage) ∷ []) f.rest;
-      rise = (at, high, inside, f.rise);
-      shown = (here, f.shown);
-      many = f.many;
-    }
+at_stage : (sheet : Sheet) (ms : Members) (seat : ℕ) (rows : Rows) (d : Data) (o : Option (Option ℕ)) (rest : Option Rows) → seat ≤ 255 → get_member (decimal seat) ms ≡ Some d → id_or_null (stage_of sheet) d ≡ o
+    → ((rs : Rows) → rest ≡ Some rs → Found sheet ms (seat + 1) rs) → before_rows seat (stage_or_malformed o) rest ≡ Some rows → Found sheet ms seat rows
+at_stage sheet ms seat rows d None rest high is stage later e = absurd (cc (e))
+at_stage sheet ms seat rows d (Some at) rest high is stage later e =
+    let more = mapped (λ rs. (seat, at) ∷ rs) rest rows e in
+    let it = stage_is sheet d at stage in
+    let f = later more.0 more.1 in
+    let low : seat ≤ seat = omega arith in
+    subst (Found sheet ms seat) more.2 ((low, high, it.1, f.0), (is ∙ ap (λ x. Some x) it.0, f.1))
 
-at_seat : (sheet : Sheet) (ms : Members) (count n : ℕ) (done : Rows) (seat : ℕ) (rows : Rows) (o : Option Data) → seat + suc n ≡ 256 → get_member (decimal seat) ms ≡ o
-    → ((d : Rows) (s : ℕ) → s + n ≡ 256 → rows_from sheet (object ms) count d s n ≡ Some rows → Found sheet ms count d s rows)
-    → with_seat sheet o (rows_from sheet (object ms) count done (seat + 1) n) (λ stage. rows_from sheet (object ms) count (done ++ (seat, stage) ∷ []) (seat + 1) n) ≡ Some rows → Found sheet ms count done seat rows
-at_seat sheet ms count n done seat rows None end is more e = later sheet ms count done seat rows (more done (seat + 1) (omega (arith, end)) e)
-at_seat sheet ms count n done seat rows (Some d) end is more e =
-    let stage = step (id_or_null (stage_of sheet) d) (λ x. rows_from sheet (object ms) count (done ++ (seat, x) ∷ []) (seat + 1) n) rows e in
-    let it = stage_is sheet d stage.0 stage.1 in
-    with_one sheet ms count done seat stage.0 rows (omega (arith, end)) it.1 (is ∙ ap (λ x. Some x) it.0) (more (done ++ (seat, stage.0) ∷ []) (seat + 1) (omega (arith, end)) stage.2)
+at_seat : (sheet : Sheet) (ms : Members) (seat : ℕ) (rows : Rows) (o : Option Data) (rest : Option Rows) → seat ≤ 255 → get_member (decimal seat) ms ≡ o
+    → ((rs : Rows) → rest ≡ Some rs → Found sheet ms (seat + 1) rs) → before_rows seat (seat_stage sheet o) rest ≡ Some rows → Found sheet ms seat rows
+at_seat sheet ms seat rows None rest high is later e = let f = later rows e in (looser sheet seat (seat + 1) rows (omega arith) f.0, f.1)
+at_seat sheet ms seat rows (Some d) rest high is later e = at_stage sheet ms seat rows d (id_or_null (stage_of sheet) d) rest high is refl later e
 
-either_full : (sheet : Sheet) (ms : Members) (count : ℕ) (done : Rows) (seat : ℕ) (rows : Rows) (b : Bool) (rest : Option Rows) → (length done == count) ≡ b → cond b (Some done) rest ≡ Some rows
-    → (rest ≡ Some rows → Found sheet ms count done seat rows) → Found sheet ms count done seat rows
-either_full sheet ms count done seat rows true rest is e more = let same : done ≡ rows = cc (e) in at_full sheet ms count done seat rows is same
-either_full sheet ms count done seat rows false rest is e more = more e
+found : (sheet : Sheet) (ms : Members) (n : ℕ) (rows : Rows) (seat : ℕ) → seat + n ≡ 256 → rows_among sheet (object ms) seat n ≡ Some rows → Found sheet ms seat rows
+unfolding rows_among
+found sheet ms zero rows seat end e = let none : [] ≡ rows = cc (e) in subst (Found sheet ms seat) none (tt, tt)
+found sheet ms (suc n) rows seat end e =
+    at_seat sheet ms seat rows (get_member (decimal seat) ms) (rows_among sheet (object ms) (seat + 1) n) (omega (arith, end)) refl (λ rs r. found sheet ms n rs (seat + 1) (omega (arith, end)) r) e
 
-found : (sheet : Sheet) (ms : Members) (count n : ℕ) (rows done : Rows) (seat : ℕ) → seat + n ≡ 256 → rows_from sheet (object ms) count done seat n ≡ Some rows → Found sheet ms count done seat rows
-unfolding rows_from
-found sheet ms count zero rows done seat end e = let is = full (length done == count) done rows e in at_full sheet ms count done seat rows is.0 is.1
-found sheet ms count (suc n) rows done seat end e =
-    either_full sheet ms count done seat rows (length done == count) _ refl e
-    (λ r. at_seat sheet ms count n done seat rows (get_member (decimal seat) ms) end refl (λ d s h f. found sheet ms count n rows d s h f) r)
+enough : (count : ℕ) (o : Option Rows) (rows : Rows) → as_many count o ≡ Some rows → (o ≡ Some rows) × (length rows ≡ count)
+enough count None rows e = absurd (cc (e))
+enough count (Some found) rows e = by_count (length found == count) refl e
+  where
+    by_count : (b : Bool) → (length found == count) ≡ b → cond b (Some found) None ≡ Some rows → (Some found ≡ Some rows) × (length rows ≡ count)
+    by_count true is e = let same : found ≡ rows = cc (e) in (ap (λ x. Some x) same, ap length (sym same) ∙ eqb-true (length found) count is)
+    by_count false is e = absurd (cc (e))
 
 -- ---- two objects, one inside the other, with as many members
 
@@ -186,16 +167,14 @@ canonical_rows : (sheet : Sheet) (ms : Members) (rows : Rows) → MembersAreCano
 canonical_rows sheet ms [] h = h
 canonical_rows sheet ms (row ∷ rows) h = canonical_rows sheet (with_row sheet ms row) rows (canonical_put (decimal row.0) (stage_or_null sheet row.1) ms (stage_canonical sheet row.1) h)
 
-rows_are : (sheet : Sheet) (ms : Members) (rows : Rows) → MembersAreCanonical ms → rows_from sheet (object ms) (members_len ms) [] 0 256 ≡ Some rows → (ms ≡ rows_members sheet rows) × RowsFit sheet 0 rows
+rows_are : (sheet : Sheet) (ms : Members) (rows : Rows) → MembersAreCanonical ms → as_many (members_len ms) (rows_among sheet (object ms) 0 256) ≡ Some rows → (ms ≡ rows_members sheet rows) × RowsFit sheet 0 rows
 rows_are sheet ms rows c e =
-    let f = found sheet ms (members_len ms) 256 rows [] 0 (omega arith) e in
-    let all : f.rest ≡ rows = sym f.whole in
-    let rise : RowsFit sheet 0 rows = subst (RowsFit sheet 0) all f.rise in
-    let shown : AreMembers sheet ms rows = subst (AreMembers sheet ms) all f.shown in
-    let inside : Within (rows_members sheet rows) ms = rows_within sheet ms no_members rows shown (λ q d h. absurd (cc (h))) in
-    let count = counted sheet 0 rows no_members rise (λ seat low high. refl) in
-    let many : members_len ms ≤ members_len (rows_members sheet rows) = omega (arith, count, f.many) in
-    (sym (same (rows_members sheet rows) ms (ordered (rows_members sheet rows) (canonical_rows sheet no_members rows tt)) (ordered ms c) inside many), rise)
+    let all = enough (members_len ms) (rows_among sheet (object ms) 0 256) rows e in
+    let f = found sheet ms 256 rows 0 (omega arith) all.0 in
+    let inside : Within (rows_members sheet rows) ms = rows_within sheet ms no_members rows f.1 (λ q d h. absurd (cc (h))) in
+    let count = counted sheet 0 rows no_members f.0 (λ seat low high. refl) in
+    let many : members_len ms ≤ members_len (rows_members sheet rows) = omega (arith, count, all.1) in
+    (sym (same (rows_members sheet rows) ms (ordered (rows_members sheet rows) (canonical_rows sheet no_members rows tt)) (ordered ms c) inside many), f.0)
 
 pub active_is : (sheet : Sheet) (d : Data) (active : Option Rows) → IsCanonical d → active_from sheet d ≡ Some active → (d ≡ active_data sheet active) × ActiveFits sheet active
 active_is sheet null None c e = (refl, tt)
@@ -205,6 +184,6 @@ active_is sheet (number n) active c e = absurd (cc)
 active_is sheet (string s) active c e = absurd (cc)
 active_is sheet (array ds) active c e = absurd (cc)
 active_is sheet (object ms) active c e =
-    let rows = mapped (λ x. Some x) (rows_from sheet (object ms) (members_len ms) [] 0 256) active e in
+    let rows = mapped (λ x. Some x) (as_many (members_len ms) (rows_among sheet (object ms) 0 256)) active e in
     let are = rows_are sheet ms rows.0 c rows.1 in
     subst (λ x. (object ms ≡ active_data sheet x) × ActiveFits sheet x) rows.2 (ap object are.0, are.1)

@@ -1,5 +1,5 @@
 -- A plain snapshot reads back from its value, which nothing else in canonical form does.
-use Rattle.std.proofs.Common.{◌≡◌, ℕ, ◌≤◌, List, [], ◌∷◌, map, Bool, true, false, not, cond, ◌&&◌, ◌||◌, Option, Some, None, option_map, codes, IsTrue, refl, sym, ap, ◌∙◌, subst}
+use Rattle.std.proofs.Common.{◌≡◌, ℕ, List, [], ◌∷◌, map, Option, Some, None, option_map, codes, refl, sym, ap, ◌∙◌, subst}
 use Rattle.std.specs.List.{AllByRecursion}
 use Rattle.std.specs.Prelude.{IfSome, option_and_then}
 use Rattle.std.specs.Result.{result_ok}
@@ -7,10 +7,6 @@ use Rattle.serde_json.specs.Data.{Data, null, boolean, number, string, array, ob
 use Rattle.serde_json.specs.Find.{get_member}
 use Rattle.serde_json.specs.View.{items_of}
 use Rattle.game_sheet.specs.SheetFits.{SheetFits}
-use Rattle.game_sheet.specs.declared.act.Act.{Act}
-use Rattle.game_sheet.specs.declared.act.Act.TheVariants.{Move, Event, Undo, Redo}
-use Rattle.game_sheet.specs.declared.ctx.Ctx.{Ctx}
-use Rattle.game_sheet.specs.declared.args.Arg.{Arg}
 use Rattle.game_sheet.specs.declared.sheet.Sheet.{Sheet}
 use Rattle.game_trait.specs.Lawful.{Lawful}
 use Rattle.game_trait.specs.Rules.{Rules}
@@ -18,15 +14,14 @@ use Rattle.json_tree.specs.Canonical.{IsCanonical, ItemsAreCanonical, MembersAre
 use Rattle.json_tree.specs.Fields.{list_in}
 use Rattle.json_tree.specs.Names.{has_extra}
 use Rattle.json_tree.proofs.Rows.{row_is, canonical_member}
-use Rattle.move_log.specs.Redact.{is_redacted, is_seat, without_args, redact}
 use Rattle.move_log.specs.declared.entry.Entry.{Entry}
 use Rattle.player_sight.specs.CtxData.{ctx_data}
 use Rattle.sight_reading.specs.CtxReading.{ctx_in}
 use Rattle.player_sight.specs.EntryData.{entry_data, log_data}
 use Rattle.sight_reading.specs.EntryReading.{entry_in}
 use Rattle.sheet_json.specs.Seats.{natural}
-use Rattle.player_sight.specs.Plain.{ActFits, IsPlainCtx, IsPlainEntry}
-use Rattle.player_sight.specs.PlainSnapshot.{IsPlain, MayBeShown}
+use Rattle.player_sight.specs.Plain.{IsPlainEntry}
+use Rattle.player_sight.specs.PlainSnapshot.{IsPlain}
 use Rattle.player_sight.specs.Seen.{snap_of}
 use Rattle.player_sight.specs.SnapshotData.{snapshot_data}
 use Rattle.sight_reading.specs.SnapshotReading.{entries_from, log_in, snapshot_names, snapshot_in}
@@ -83,10 +78,10 @@ members_are : {G : Type 0} (rules : Rules G) (ms : Members) (s : Snapshot G) →
 unfolding snapshot_in snapshot_row
 members_are {G = G} rules ms s lawful c e =
     let known = past (has_extra snapshot_names ms) _ s e in
-    let ctx = step (option_and_then (ctx_in rules.sheet) (get_member (codes "ctx") ms)) _ s known.1 in
+    let at = step _ _ s known.1 in
+    let ctx = step (option_and_then (ctx_in rules.sheet) (get_member (codes "ctx") ms)) _ s at.2 in
     let g = step (option_and_then rules.read (get_member (codes "g") ms)) _ s ctx.2 in
     let log = step (log_in rules.sheet (get_member (codes "log") ms)) _ s g.2 in
-    let at = step _ _ s log.2 in
     let ctx_there = chained (ctx_in rules.sheet) (get_member (codes "ctx") ms) ctx.0 ctx.1 in
     let ctxs = ctx_is rules.sheet ctx_there.0 ctx.0 (canonical_member (codes "ctx") ms ctx_there.0 c ctx_there.1) ctx_there.2 in
     let g_there = chained rules.read (get_member (codes "g") ms) g.0 g.1 in
@@ -98,7 +93,7 @@ members_are {G = G} rules ms s lawful c e =
     (ctx_there.1 ∙ ap (λ d. Some d) ctxs.0, (g_there.1 ∙ ap (λ d. Some d) (sym written), (logs.0, (count.0, tt)))) in
     let whole : Snapshot G = record { number = at.0; ctx = ctx.0; g = g.0; log = log.0 } in
     let plain : IsPlain rules whole = record { number = count.1; ctx = ctxs.1; own = lawful.read_own g_there.0 g.0 g_there.2; log = logs.1 } in
-    let same : whole ≡ s = cc (at.2) in
+    let same : whole ≡ s = cc (log.2) in
     subst (Reads rules (object ms)) same (plain, ap object (sym row))
 
 snapshot_is : {G : Type 0} (rules : Rules G) (d : Data) (s : Snapshot G) → Lawful rules → IsCanonical d → snapshot_in rules d ≡ Some s → Reads rules d s

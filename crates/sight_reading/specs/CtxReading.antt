@@ -1,5 +1,5 @@
 -- How the value of a context is read back: each member in its form and no other, its phase and stages on the sheet.
-use Rattle.std.specs.Prelude.{ℕ, List, [], ◌∷◌, ◌++◌, length, ◌+◌, ◌==◌, zero, suc, Bool, false, codes, decimal, if◌then◌else◌, Option, Some, None, option_map, option_and_then, is_some}
+use Rattle.std.specs.Prelude.{ℕ, List, [], ◌∷◌, length, ◌+◌, ◌==◌, zero, suc, Bool, false, codes, decimal, if◌then◌else◌, Option, Some, None, option_map, option_and_then, is_some}
 use Rattle.std.specs.Result.{result_ok}
 use Rattle.serde_json.specs.Data.{Data}
 use Rattle.serde_json.specs.Events.{members_len}
@@ -13,23 +13,40 @@ use Rattle.game_sheet.specs.declared.sheet.Sheet.{Sheet}
 use Rattle.game_sheet.specs.SheetNames.{phase_of, stage_of}
 use Rattle.sight_reading.specs.Reading.{◌>>=◌, natural_at, naturals_from, id_or_null}
 use Rattle.sight_reading.specs.declared.ctx_read.Counts.{Counts}
+use Rattle.sight_reading.specs.declared.ctx_read.SeatStage.{SeatStage}
+use Rattle.sight_reading.specs.declared.ctx_read.SeatStage.TheVariants.{Absent, Malformed, Active}
 
 abbrev pub Rows : Type 0
 Rows = List (ℕ × Option ℕ)
 
--- the row of a seat, where it has one
-abbrev pub with_seat : Sheet → Option Data → Option Rows → (Option ℕ → Option Rows) → Option Rows
-with_seat sheet None passed taken = passed
-with_seat sheet (Some d) passed taken = id_or_null (stage_of sheet) d >>= taken
+-- what an object of active players says of a seat
+abbrev pub stage_or_malformed : Option (Option ℕ) → SeatStage
+stage_or_malformed None = Malformed
+stage_or_malformed (Some stage) = Active stage
 
--- the rows of the seats that the object names, seat by seat, until as many are found as it has members
-unfoldable pub rows_from : Sheet → Data → ℕ → Rows → ℕ → ℕ → Option Rows
-rows_from sheet d count rows seat zero = if length rows == count then Some rows else None
-rows_from sheet d count rows seat (suc n) = if length rows == count then Some rows
-    else with_seat sheet (get (decimal seat) d) (rows_from sheet d count rows (seat + 1) n) (λ stage. rows_from sheet d count (rows ++ (seat, stage) ∷ []) (seat + 1) n)
+abbrev pub seat_stage : Sheet → Option Data → SeatStage
+seat_stage sheet None = Absent
+seat_stage sheet (Some d) = stage_or_malformed (id_or_null (stage_of sheet) d)
 
+-- a seat's row, where it has one, before those of later seats
+abbrev pub before_rows : ℕ → SeatStage → Option Rows → Option Rows
+before_rows seat Absent rows = rows
+before_rows seat Malformed rows = None
+before_rows seat (Active stage) rows = option_map (λ rs. (seat, stage) ∷ rs) rows
+
+-- the rows of n seats from one on, where each that the object names has a stage
+unfoldable pub rows_among : Sheet → Data → ℕ → ℕ → Option Rows
+rows_among sheet d seat zero = Some []
+rows_among sheet d seat (suc n) = before_rows seat (seat_stage sheet (get (decimal seat) d)) (rows_among sheet d (seat + 1) n)
+
+-- the rows, where there is one for each of as many members
+abbrev pub as_many : ℕ → Option Rows → Option Rows
+as_many count None = None
+as_many count (Some rows) = if length rows == count then Some rows else None
+
+-- null, or the rows of all seats of an object that names nothing else
 abbrev pub active_from : Sheet → Data → Option (Option Rows)
-active_from sheet d = if is_some (as_null d) then Some None else option_map Some (option_and_then (λ ms. rows_from sheet d (members_len ms) [] 0 256) (as_object d))
+active_from sheet d = if is_some (as_null d) then Some None else option_map Some (option_and_then (λ ms. as_many (members_len ms) (rows_among sheet d 0 256)) (as_object d))
 
 abbrev pub active_in : Sheet → Option Data → Option (Option Rows)
 active_in sheet found = option_and_then (active_from sheet) found
@@ -91,13 +108,16 @@ ctx_from active over phase order counts = record {
   over = over;
 }
 
+-- the context of these parts, with the active players that a value has
+abbrev pub from_order : Sheet → Data → Option Outcome → Option ℕ → Counts → List ℕ → Option Ctx
+from_order sheet d over phase counts order = active_in sheet (get (codes "activePlayers") d) >>= λ active. Some (ctx_from active over phase order counts)
+
 unfoldable pub ctx_in : Sheet → Data → Option Ctx
 ctx_in sheet d =
     if extra_in ctx_names d then None
     else
-    (active_in sheet (get (codes "activePlayers") d) >>= λ active.
-    over_in (get (codes "gameover") d) >>= λ over.
+    (over_in (get (codes "gameover") d) >>= λ over.
     phase_in sheet (get (codes "phase") d) >>= λ phase.
-    order_in (get (codes "playOrder") d) >>= λ order.
     counts_in d >>= λ counts.
-    Some (ctx_from active over phase order counts))
+    order_in (get (codes "playOrder") d) >>= λ order.
+    from_order sheet d over phase counts order)

@@ -1,5 +1,5 @@
 -- How the value of an entry is read back: each member in its form and no other, its names on the sheet.
-use Rattle.std.specs.Prelude.{ℕ, List, [], ◌∷◌, Bool, true, false, codes, if◌then◌else◌, Option, Some, None, option_map, option_and_then, is_some}
+use Rattle.std.specs.Prelude.{ℕ, List, [], ◌∷◌, true, false, codes, if◌then◌else◌, Option, Some, None, option_map, option_and_then, is_some}
 use Rattle.std.specs.Result.{result_ok}
 use Rattle.std.specs.Str.{bytes_eq}
 use Rattle.serde_json.specs.Data.{Data}
@@ -102,9 +102,9 @@ unfoldable pub entry_in : Sheet → Data → Option Entry
 entry_in sheet d =
     if extra_in entry_names d then None
     else
-    (option_and_then (deed_in sheet) (get (codes "act") d) >>= λ deed.
-    natural_at 4294967295 (get (codes "number") d) >>= λ at.
+    (natural_at 4294967295 (get (codes "number") d) >>= λ at.
     phase_in sheet (get (codes "phase") d) >>= λ phase.
     natural_at 255 (get (codes "seat") d) >>= λ seat.
     natural_at 4294967295 (get (codes "turn") d) >>= λ turn.
+    option_and_then (deed_in sheet) (get (codes "act") d) >>= λ deed.
     Some (entry_from deed at phase seat turn))

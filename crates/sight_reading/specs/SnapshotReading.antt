@@ -5,6 +5,7 @@ use Rattle.serde_json.specs.Data.{Data, Items, no_items, item}
 use Rattle.serde_json.specs.Find.{get}
 use Rattle.json_tree.specs.Fields.{list_in}
 use Rattle.json_tree.specs.Names.{extra_in}
+use Rattle.game_sheet.specs.declared.ctx.Ctx.{Ctx}
 use Rattle.game_sheet.specs.declared.sheet.Sheet.{Sheet}
 use Rattle.game_trait.specs.Rules.{Rules}
 use Rattle.move_log.specs.declared.entry.Entry.{Entry}
@@ -23,12 +24,17 @@ log_in sheet found = option_and_then (entries_from sheet) (result_ok (list_in fo
 abbrev pub snapshot_names : List (List ℕ)
 snapshot_names = codes "ctx" ∷ codes "g" ∷ codes "log" ∷ codes "number" ∷ []
 
+-- the snapshot of these parts, with the log that a value has; and with its state too
+abbrev pub from_state : {G : Type 0} → Sheet → Data → ℕ → Ctx → G → Option (Snapshot G)
+from_state sheet d number ctx g = log_in sheet (get (codes "log") d) >>= λ log. Some (record { number = number; ctx = ctx; g = g; log = log })
+
+abbrev pub from_ctx : {G : Type 0} → Rules G → Sheet → Data → ℕ → Ctx → Option (Snapshot G)
+from_ctx rules sheet d number ctx = option_and_then rules.read (get (codes "g") d) >>= λ g. from_state sheet d number ctx g
+
 unfoldable pub snapshot_in : {G : Type 0} → Rules G → Data → Option (Snapshot G)
 snapshot_in rules d =
     if extra_in snapshot_names d then None
     else
-    (option_and_then (ctx_in rules.sheet) (get (codes "ctx") d) >>= λ ctx.
-    option_and_then rules.read (get (codes "g") d) >>= λ g.
-    log_in rules.sheet (get (codes "log") d) >>= λ log.
-    natural_at 4294967295 (get (codes "number") d) >>= λ number.
-    Some (record { number = number; ctx = ctx; g = g; log = log }))
+    (natural_at 4294967295 (get (codes "number") d) >>= λ number.
+    option_and_then (ctx_in rules.sheet) (get (codes "ctx") d) >>= λ ctx.
+    from_ctx rules rules.sheet d number ctx)

@@ -1,21 +1,20 @@
 //! Reads the value of a context back.
 
-ghost use Rattle.std.specs.Prelude.{◌≡◌, ◌≤◌, [], IfOk, IfSome, Some, codes, decimal, option_map};
-ghost use Rattle.serde_json.specs.Find.{get};
-ghost use Rattle.serde_json.specs.View.{view};
+ghost use Rattle.std.specs.Prelude.{◌≡◌, IfOk, IfSome, Some, codes, decimal};
+ghost use Rattle.serde_json.specs.Events.{members_len};
+ghost use Rattle.serde_json.specs.Find.{get, as_object};
+ghost use Rattle.serde_json.specs.View.{view, members_view};
 ghost use Rattle.json_tree.specs.Canonical.{IsCanonical};
 ghost use Rattle.game_sheet.specs.SheetFits.{SheetFits};
-ghost use Rattle.game_sheet.specs.SheetNames.{stage_of};
-ghost use Rattle.sight_reading.specs.Reading.{id_or_null};
 ghost use Rattle.game_sheet.specs.declared.ctx.Ctx.{Ctx as Shown};
 ghost use Rattle.player_sight.specs.CtxData.{ctx_data};
 ghost use Rattle.player_sight.specs.Plain.{IsPlainCtx};
-ghost use Rattle.sight_reading.specs.CtxReading.{rows_from, active_from, active_in, winner_in, is_flag as flag_in, outcome_in, over_in, counts_in, ctx_in};
+ghost use Rattle.sight_reading.specs.CtxReading.{seat_stage, rows_among, as_many, active_from, active_in, winner_in, is_flag as flag_in, outcome_in, over_in, counts_in, from_order, ctx_in};
 
 use crate::part_read::{number_of, order_of, phase_member_of, seat_of, stage_or_null_of};
-use game_sheet::{Ctx, List, NoMemory, Outcome, Seat, Sheet, StageId};
+use game_sheet::{Ctx, List, NoMemory, Outcome, PhaseId, Seat, Sheet, StageId};
 use json_tree::extra_field;
-use serde_json::Value;
+use serde_json::{Map, Value};
 use std::alloc::Global;
 
 type Rows = List<(Seat, Option<StageId>)>;
@@ -28,6 +27,17 @@ struct Counts {
     seats: u8,
     pos: u8,
     turn: u32,
+}
+
+// What an object of active players says of a seat.
+#[derive(Drop)]
+enum SeatStage {
+    // The object doesn't name it.
+    Absent,
+    // Its name stands for no stage of the sheet.
+    Malformed,
+    // It may act, in a stage or in none.
+    Active(Option<StageId>),
 }
 
 /// The context that has this value; none exactly where no context of a plain snapshot has it.
@@ -63,32 +73,55 @@ fn read_ctx(alloc: Global, sheet: &Sheet, value: &Value) -> Result<Option<Ctx>, 
     ) {
         return Ok(None);
     }
-    let Some(active) = active_member_of(alloc, sheet, value)? else {
-        return Ok(None);
-    };
     let Some(over) = over_of(value) else {
         return Ok(None);
     };
     let Some(phase) = phase_member_of(sheet, value) else {
         return Ok(None);
     };
-    let Some(order) = order_of(alloc, value)? else {
-        return Ok(None);
-    };
     let Some(counts) = counts_of(value) else {
         return Ok(None);
     };
-    Ok(Some(Ctx {
-        seats: counts.seats,
-        turn: counts.turn,
-        current: counts.current,
-        order,
-        pos: counts.pos,
-        phase,
-        active,
-        moves: counts.moves,
-        over,
-    }))
+    match order_of(alloc, value)? {
+        Some(order) => with_order(alloc, sheet, value, over, phase, counts, order),
+        None => Ok(None),
+    }
+}
+
+// The context of these parts, with the active players that the value has.
+fn with_order(
+    alloc: Global,
+    sheet: &Sheet,
+    value: &Value,
+    over: Option<Outcome>,
+    phase: Option<PhaseId>,
+    counts: Counts,
+    order: List<Seat>,
+) -> Result<Option<Ctx>, NoMemory>
+    requires { SheetFits sheet.now }
+    ensures { IfOk result (λ ctx. ctx ≡ from_order sheet.now (view value.now) over phase counts order) }
+{
+    match active_member_of(alloc, sheet, value) {
+        Ok(Some(active)) => Ok(Some(Ctx {
+            seats: counts.seats,
+            turn: counts.turn,
+            current: counts.current,
+            order,
+            pos: counts.pos,
+            phase,
+            active,
+            moves: counts.moves,
+            over,
+        })),
+        Ok(None) => {
+            drop(order);
+            Ok(None)
+        }
+        Err(no) => {
+            drop(order);
+            Err(no)
+        }
+    }
 }
 
 #[tactic(auto, unfolding(crate::specs::CtxReading::counts_in))]
@@ -123,7 +156,6 @@ fn active_member_of(
     }
 }
 
-#[tactic(auto, using(crate::proofs::ActiveRows::members_counted))]
 fn active_of(alloc: Global, sheet: &Sheet, active: &Value) -> Result<Option<Option<Rows>>, NoMemory>
     requires { SheetFits sheet.now }
     ensures { IfOk result (λ read. read ≡ active_from sheet.now (view active.now)) }
@@ -134,58 +166,60 @@ fn active_of(alloc: Global, sheet: &Sheet, active: &Value) -> Result<Option<Opti
     let Some(members) = active.as_object() else {
         return Ok(None);
     };
-    match rows_of(alloc, sheet, active, members.len(), 256)? {
+    match rows_of(alloc, sheet, active, members)? {
         Some(rows) => Ok(Some(Some(rows))),
         None => Ok(None),
     }
 }
 
-// The rows of as many seats as there are members, in rising order.
+// The rows of the seats that an object of these members names, in rising order; none where it names anything else.
 fn rows_of(
     alloc: Global,
     sheet: &Sheet,
     active: &Value,
-    count: usize,
-    seats: u16,
+    members: &Map<String, Value>,
 ) -> Result<Option<Rows>, NoMemory>
     requires sheet { SheetFits sheet.now }
-    requires few { seats ≤ 256 }
-    ensures { IfOk result (λ read. read ≡ rows_from sheet.now (view active.now) count [] 0 seats) }
+    requires members { as_object (view active.now) ≡ Some (members_view members.now.entries) }
+    ensures { IfOk result (λ read. read
+        ≡ as_many (members_len (members_view members.now.entries)) (rows_among sheet.now (view active.now) 0 256)) }
 {
     let mut rows = List::new(alloc);
-    for seat in 0..seats {
-        if rows.len() == count {
+    for seat in 0..256_u16 {
+        if rows.len() == members.len() {
             return Ok(Some(rows));
         }
-        let Some(stage) = stage_at(alloc, sheet, active, seat)? else {
-            continue;
-        };
-        let Some(stage) = stage else {
-            return Ok(None);
-        };
-        rows.push((seat as u8, stage))?;
+        match stage_at(alloc, sheet, active, seat)? {
+            SeatStage::Absent => {}
+            SeatStage::Malformed => return Ok(None),
+            SeatStage::Active(stage) => rows.push((seat as u8, stage))?,
+        }
     }
-    if rows.len() == count {
+    if rows.len() == members.len() {
         Ok(Some(rows))
     } else {
         Ok(None)
     }
 }
 
-// The stage of a seat, where the object names the seat; none within where it is in no form.
-fn stage_at(
-    alloc: Global,
-    sheet: &Sheet,
-    active: &Value,
-    seat: u16,
-) -> Result<Option<Option<Option<StageId>>>, NoMemory>
+fn stage_at(alloc: Global, sheet: &Sheet, active: &Value, seat: u16) -> Result<SeatStage, NoMemory>
     requires { SheetFits sheet.now }
-    ensures { IfOk result (λ stage. stage ≡ option_map (id_or_null (stage_of sheet.now)) (get (decimal seat) (view active.now))) }
+    ensures { IfOk result (λ stage. stage ≡ seat_stage sheet.now (get (decimal seat) (view active.now))) }
 {
     let name = format!(in alloc; "{seat}")?;
     match active.get(name.as_str()) {
-        Some(stage) => Ok(Some(stage_or_null_of(sheet, stage))),
-        None => Ok(None),
+        Some(stage) => Ok(stage_named(sheet, stage)),
+        None => Ok(SeatStage::Absent),
+    }
+}
+
+fn stage_named(sheet: &Sheet, stage: &Value) -> SeatStage
+    requires { SheetFits sheet.now }
+    ensures { result ≡ seat_stage sheet.now (Some (view stage.now)) }
+{
+    match stage_or_null_of(sheet, stage) {
+        Some(stage) => SeatStage::Active(stage),
+        None => SeatStage::Malformed,
     }
 }
 

@@ -46,11 +46,11 @@ fn read_entry(sheet: &Sheet, value: &Value) -> Option<Entry>
     if extra_field(value, &["act", "number", "phase", "seat", "turn"]) {
         return None;
     }
-    let deed = deed_member_of(sheet, value)?;
     let number = number_of(value, "number")?;
     let phase = phase_member_of(sheet, value)?;
     let seat = seat_of(value, "seat")?;
     let turn = number_of(value, "turn")?;
+    let deed = deed_member_of(sheet, value)?;
     Some(Entry {
         seat,
         act: deed.act,

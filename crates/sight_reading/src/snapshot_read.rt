@@ -9,13 +9,13 @@ ghost use Rattle.sight_reading.specs.CtxReading.{ctx_in};
 ghost use Rattle.player_sight.specs.PlainSnapshot.{IsPlain};
 ghost use Rattle.player_sight.specs.Seen.{snap_of};
 ghost use Rattle.player_sight.specs.SnapshotData.{snapshot_data};
-ghost use Rattle.sight_reading.specs.SnapshotReading.{entries_from, log_in, snapshot_in};
+ghost use Rattle.sight_reading.specs.SnapshotReading.{entries_from, log_in, from_state, from_ctx, snapshot_in};
 ghost use Rattle.player_sight.specs.declared.shown.Snapshot.{Snapshot as Shown};
 
 use crate::ctx_read::ctx_of;
 use crate::entry_read::entry_of;
 use crate::part_read::number_of;
-use game_sheet::{Ctx, List, NoMemory, Sheet};
+use game_sheet::{Ctx, List, NoMemory, Number, Sheet};
 use game_trait::Game;
 use json_tree::{extra_field, list_of};
 use move_log::Entry;
@@ -50,24 +50,69 @@ fn read_snapshot<X: Game>(
     if extra_field(v, &["ctx", "g", "log", "number"]) {
         return Ok(None);
     }
-    let Some(ctx) = ctx_member_of(alloc, sheet, v)? else {
-        return Ok(None);
-    };
-    let Some(g) = state_of(alloc, game, v)? else {
-        return Ok(None);
-    };
-    let Some(log) = log_member_of(alloc, sheet, v)? else {
-        return Ok(None);
-    };
     let Some(number) = number_of(v, "number") else {
         return Ok(None);
     };
-    Ok(Some(Snapshot {
-        number,
-        ctx,
-        g,
-        log,
-    }))
+    match ctx_member_of(alloc, sheet, v)? {
+        Some(ctx) => with_ctx(alloc, game, sheet, v, number, ctx),
+        None => Ok(None),
+    }
+}
+
+// The snapshot of this number and context, with the state and the log that the value has.
+fn with_ctx<X: Game>(
+    alloc: Global,
+    game: &X,
+    sheet: &Sheet,
+    v: &Value,
+    number: Number,
+    ctx: Ctx,
+) -> Result<Option<Snapshot<X::G>>, NoMemory>
+    requires { SheetFits sheet.now }
+    ensures { IfOk result (λ read. read ≡ from_ctx (X.rules game.now) sheet.now (view v.now) number ctx) }
+{
+    match state_of(alloc, game, v) {
+        Ok(Some(g)) => with_state(alloc, sheet, v, number, ctx, g),
+        Ok(None) => {
+            drop(ctx);
+            Ok(None)
+        }
+        Err(no) => {
+            drop(ctx);
+            Err(no)
+        }
+    }
+}
+
+fn with_state<G: Drop>(
+    alloc: Global,
+    sheet: &Sheet,
+    v: &Value,
+    number: Number,
+    ctx: Ctx,
+    g: G,
+) -> Result<Option<Snapshot<G>>, NoMemory>
+    requires { SheetFits sheet.now }
+    ensures { IfOk result (λ read. read ≡ from_state sheet.now (view v.now) number ctx g) }
+{
+    match log_member_of(alloc, sheet, v) {
+        Ok(Some(log)) => Ok(Some(Snapshot {
+            number,
+            ctx,
+            g,
+            log,
+        })),
+        Ok(None) => {
+            drop(ctx);
+            drop(g);
+            Ok(None)
+        }
+        Err(no) => {
+            drop(ctx);
+            drop(g);
+            Err(no)
+        }
+    }
 }
 
 fn ctx_member_of(alloc: Global, sheet: &Sheet, v: &Value) -> Result<Option<Ctx>, NoMemory>
