@@ -2,3 +2,5 @@ pub mod Written
 pub mod Texts
 pub mod Puts
 pub mod Newlines
+pub mod Ranges
+pub mod Telling

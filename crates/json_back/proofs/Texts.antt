@@ -22,10 +22,10 @@ digits_ascii (d ∷ ds) h = rw (low_digit d h.0, digits_ascii ds h.1) refl
 pub decimal_utf8 : (n : ℕ) → n < 2 ^ 64 → IsUtf8 (decimal n)
 decimal_utf8 n h = IsUtf8-are_ascii (decimal n) (digits_ascii (decimal n) (decimal_is_IsNumeral n h).0.1)
 
-before : (x : ℕ) (xs : List ℕ) → are_ascii (x ∷ []) ≡ true → IsUtf8 xs → IsUtf8 (x ∷ xs)
+pub before : (x : ℕ) (xs : List ℕ) → are_ascii (x ∷ []) ≡ true → IsUtf8 xs → IsUtf8 (x ∷ xs)
 before x xs a u = IsUtf8-append (x ∷ []) xs (IsUtf8-are_ascii (x ∷ []) a) u
 
-comma_utf8 : (b : Bool) (xs : List ℕ) → IsUtf8 xs → IsUtf8 (comma_if b ++ xs)
+pub comma_utf8 : (b : Bool) (xs : List ℕ) → IsUtf8 xs → IsUtf8 (comma_if b ++ xs)
 comma_utf8 true xs u = before 44 xs refl u
 comma_utf8 false xs u = u
 

@@ -20,34 +20,34 @@ use Rattle.json_tree.specs.Writable.{IsWhole, IsWritable, ItemsAreWritable, Memb
 
 -- ---- members that rise go in one after another
 
-abbrev AllBefore : Members → Members → Type 0
+abbrev pub AllBefore : Members → Members → Type 0
 AllBefore no_members ms = Unit {0}
 AllBefore (member l e ls) ms = AreAbove l ms × AllBefore ls ms
 
-abbrev push : List ℕ → Data → Members → Members
+abbrev pub push : List ℕ → Data → Members → Members
 push k d no_members = member k d no_members
 push k d (member l e ms) = member l e (push k d ms)
 
-abbrev joined : Members → Members → Members
+abbrev pub joined : Members → Members → Members
 joined no_members ms = ms
 joined (member l e ls) ms = member l e (joined ls ms)
 
 greater : (l k : List ℕ) → slice_cmp nat_cmp l k ≡ Less → slice_cmp nat_cmp k l ≡ Greater
 greater l k h = nat_list_cmp_total.antisymm k l ∙ ap ordering_reverse h
 
-put_last : (k : List ℕ) (d : Data) (found rest : Members) → AllBefore found (member k d rest) → put k d found ≡ push k d found
+pub put_last : (k : List ℕ) (d : Data) (found rest : Members) → AllBefore found (member k d rest) → put k d found ≡ push k d found
 put_last k d no_members rest h = refl
 put_last k d (member l e ls) rest h = rw (greater l k h.0.0) (ap (member l e) (put_last k d ls rest h.1))
 
-before_push : (k : List ℕ) (d : Data) (found rest : Members) → AllBefore found (member k d rest) → AreAbove k rest → AllBefore (push k d found) rest
+pub before_push : (k : List ℕ) (d : Data) (found rest : Members) → AllBefore found (member k d rest) → AreAbove k rest → AllBefore (push k d found) rest
 before_push k d no_members rest h a = (a, tt)
 before_push k d (member l e ls) rest h a = (h.0.1, before_push k d ls rest h.1 a)
 
-joined_none : (ms : Members) → joined ms no_members ≡ ms
+pub joined_none : (ms : Members) → joined ms no_members ≡ ms
 joined_none no_members = refl
 joined_none (member l e ls) = ap (member l e) (joined_none ls)
 
-joined_push : (k : List ℕ) (d : Data) (found rest : Members) → joined (push k d found) rest ≡ joined found (member k d rest)
+pub joined_push : (k : List ℕ) (d : Data) (found rest : Members) → joined (push k d found) rest ≡ joined found (member k d rest)
 joined_push k d no_members rest = refl
 joined_push k d (member l e ls) rest = ap (member l e) (joined_push k d ls rest)
 
@@ -58,7 +58,7 @@ number_again (negative (negsuc n)) h = number_of-negative n (omega arith)
 number_again (float x) h = absurd h
 
 mutual
-  data_again : (d : Data) → IsWritable d → of_json (outline d) ≡ Some d
+  pub data_again : (d : Data) → IsWritable d → of_json (outline d) ≡ Some d
   data_again null h = refl
   data_again (boolean b) h = refl
   data_again (number n) h = ap (option_map number) (number_again n h)
@@ -85,7 +85,7 @@ number_printable (negative (negsuc n)) h = IsNumber-signed_decimal (negsuc n) (o
 number_printable (float x) h = absurd h
 
 mutual
-  printable : (d : Data) → IsWritable d → tree.HasNumbers (outline d)
+  pub printable : (d : Data) → IsWritable d → tree.HasNumbers (outline d)
   printable null h = tt
   printable (boolean b) h = tt
   printable (number n) h = number_printable n h
@@ -102,7 +102,7 @@ mutual
   members_printable (member k d ms) h = (printable d h.1, members_printable ms h.2)
 
 mutual
-  as_deep : (d : Data) → tree.depth (outline d) ≡ depth d
+  pub as_deep : (d : Data) → tree.depth (outline d) ≡ depth d
   as_deep null = refl
   as_deep (boolean b) = refl
   as_deep (number n) = refl
