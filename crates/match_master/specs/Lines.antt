@@ -10,6 +10,7 @@ use Rattle.player_sight.specs.SnapshotData.{Snap, snapshot_data}
 use Rattle.player_sight.specs.CtxData.{ctx_data}
 use Rattle.player_sight.specs.EntryData.{entry_data}
 use Rattle.wire_json.specs.ServerText.{text}
+use Rattle.wire_json.specs.declared.protocol.Protocol.TheVariants.{One}
 use Rattle.wire_json.specs.declared.reason.Reason.{Reason}
 use Rattle.wire_json.specs.declared.server.ServerMsg.TheVariants as message
 use Rattle.match_master.specs.Match.{Match, table_of, number_of, log_of}
@@ -28,7 +29,7 @@ newest sheet (entry ∷ next ∷ log) = newest sheet (next ∷ log)
 
 -- the line that begins a session
 abbrev pub sync_line : Sheet → Name → Option ℕ → Snap → List ℕ
-sync_line sheet name seat s = text (message.Sync name seat (snapshot_data sheet s))
+sync_line sheet name seat s = text (message.Sync name seat One (snapshot_data sheet s))
 
 -- the line of the action that led to a snapshot
 abbrev pub update_line : Sheet → Snap → List ℕ

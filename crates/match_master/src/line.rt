@@ -11,7 +11,7 @@ use move_log::Entry;
 use player_sight::{ctx_value, entry_value, snapshot, to_value};
 use reducer::{Prepared, State};
 use std::alloc::Global;
-use wire_json::{Reason, ServerMsg, write_server};
+use wire_json::{Protocol, Reason, ServerMsg, write_server};
 
 /// The line that begins a session: the whole state as its viewer sees it, and the log.
 pub fn sync<X: Game>(
@@ -37,6 +37,7 @@ pub fn sync<X: Game>(
     let message = ServerMsg::Sync {
         name,
         seat,
+        protocol: Protocol::One,
         snapshot: Tree::new(value),
     };
     write_server(alloc, &message)

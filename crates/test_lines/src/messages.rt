@@ -322,6 +322,7 @@ fn sync(alloc: Global) -> Result<ServerMsg, NoMemory> {
     Ok(ServerMsg::Sync {
         name: MatchName::new(0, 1),
         seat: None,
+        protocol: Protocol::One,
         snapshot: tree(alloc, "{\"number\":0,\"log\":[]}")?,
     })
 }

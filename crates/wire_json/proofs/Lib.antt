@@ -9,7 +9,14 @@ pub mod ClientWriting
 pub mod Trees
 pub mod Tables
 pub mod AnswerLaws
+pub mod TextLists
+pub mod RowLaws
+pub mod ChangeLaws
+pub mod LobbyLaws
 pub mod ServerLaws
 pub mod Answerable
+pub mod PlainWords
+pub mod RowTelling
+pub mod ServerTelling
 pub mod ServerWriting
 pub mod NoNames

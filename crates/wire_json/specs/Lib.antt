@@ -3,11 +3,14 @@ pub mod KeyText
 pub mod ReasonText
 pub mod RefusalText
 pub mod ByeText
+pub mod RowText
 pub mod ServerText
 pub mod Asking
 pub mod ClientText
 pub mod Refusals
 pub mod Acts
 pub mod ClientReading
+pub mod RowReading
+pub mod ChangeReading
 pub mod ServerReading
 pub mod Resolve

@@ -1,24 +1,32 @@
 -- How a line to a client is read: the message, or the first fault.
-use Rattle.std.specs.Prelude.{◌≤◌, ℕ, List, [], ◌∷◌, if◌then◌else◌, codes, Option, Some, None, Result, Ok, Err}
+use Rattle.std.specs.Prelude.{◌≡◌, ◌≤◌, ◌&&◌, ℕ, List, [], ◌∷◌, Bool, true, false, nat_le, if◌then◌else◌, codes, Option, Some, None, Result, Ok, Err}
+use Rattle.std.specs.List.{AllByRecursion}
 use Rattle.std.specs.Map.{lookup}
 use Rattle.std.specs.Str.{bytes_eq}
-use Rattle.serde_json.specs.Data.{Data, object}
-use Rattle.serde_json.specs.Find.{get}
-use Rattle.json_tree.specs.Fields.{text_in, natural_in}
+use Rattle.serde_json.specs.Data.{Data, object, Items, no_items, item}
+use Rattle.serde_json.specs.Find.{get, as_str}
+use Rattle.json_tree.specs.Fields.{text_in, list_in, natural_in}
 use Rattle.json_tree.specs.Lines.{IsTextOf, text_read}
 use Rattle.json_tree.specs.Names.{extra_in}
 use Rattle.json_tree.specs.Steps.{◌>>=◌}
 use Rattle.json_tree.specs.declared.fields.FieldFault.{FieldFault}
-use Rattle.json_tree.specs.declared.fields.FieldFault.TheVariants.{Missing}
+use Rattle.json_tree.specs.declared.fields.FieldFault.TheVariants.{Missing, OutOfRange}
 use Rattle.game_sheet.specs.declared.act.Bye.{Bye}
 use Rattle.wire_json.specs.Acts.{in_form}
 use Rattle.wire_json.specs.ByeText.{bye_from}
 use Rattle.sheet_json.specs.Seats.{IsWithin, or_null}
-use Rattle.wire_json.specs.ClientReading.{match_in}
+use Rattle.game_sheet.specs.MatchName.{Name}
+use Rattle.wire_json.specs.ChangeReading.{is_object, is_texts, object_member_in, parts_in, later_in, before_in}
+use Rattle.wire_json.specs.ClientReading.{match_in, key_in}
+use Rattle.wire_json.specs.KeyText.{IsKey}
 use Rattle.wire_json.specs.MatchText.{IsName}
 use Rattle.wire_json.specs.Refusals.{Refusal, UnknownMessage, ExtraField, at_field, of_line}
 use Rattle.wire_json.specs.RefusalText.{member_from, refusal_from, with_field}
-use Rattle.wire_json.specs.ServerText.{server_members}
+use Rattle.wire_json.specs.RowReading.{row_in, rows_in}
+use Rattle.wire_json.specs.RowText.{IsRow}
+use Rattle.wire_json.specs.ServerText.{game_names, server_members}
+use Rattle.wire_json.specs.declared.protocol.Protocol.{Protocol}
+use Rattle.wire_json.specs.declared.protocol.Protocol.TheVariants as protocol
 use Rattle.wire_json.specs.declared.reason.Reason.{Reason}
 use Rattle.wire_json.specs.declared.reason.Reason.TheVariants.{NoMatch, Unauthorized, GameOver, MatchFull, CannotUndoNow, NotActive, UnknownMove, WrongNumber, NothingToUndo, NothingToRedo, NotYours, NotUndoable, InvalidMove, TooEarly, TooManyWords, TooManyEvents}
 use Rattle.wire_json.specs.declared.refusal.Member.{Member}
@@ -26,10 +34,27 @@ use Rattle.wire_json.specs.declared.refusal.Refusal as refused
 use Rattle.wire_json.specs.declared.server.ServerMsg.{ServerMsg}
 use Rattle.wire_json.specs.declared.server.ServerMsg.TheVariants as to_client
 
+-- what a message's own type doesn't keep: the forms of names in rows, and of what a change says
+abbrev pub IsTellable : ServerMsg → Type 0
+IsTellable (to_client.Matches rows) = AllByRecursion IsRow rows
+IsTellable (to_client.Match row) = IsRow row
+IsTellable (to_client.Change ctx entry gone put at) = (is_object ctx ≡ true) × (is_texts gone ≡ true) × (is_object put ≡ true) × (1 ≤ at)
+IsTellable other = Unit {0}
+
 -- the members are in their forms; those that are values of others may be any
 abbrev pub ServerFits : ServerMsg → Type 0
-ServerFits (to_client.Sync name seat snapshot) = IsName name × IsWithin 255 seat
+ServerFits to_client.Games = Unit {0}
+ServerFits (to_client.Matches rows) = AllByRecursion IsRow rows
+ServerFits (to_client.Match row) = IsRow row
+ServerFits (to_client.Created name) = IsName name
+ServerFits (to_client.Joined key name seat) = IsKey key × IsName name × (seat ≤ 255)
+ServerFits (to_client.Renamed name seat) = IsName name × (seat ≤ 255)
+ServerFits (to_client.Left name seat) = IsName name × (seat ≤ 255)
+ServerFits (to_client.Asked name seat) = IsName name × (seat ≤ 255)
+ServerFits (to_client.Sync name seat protocol snapshot) = IsName name × IsWithin 255 seat
 ServerFits (to_client.Update ctx entry g at) = at ≤ 4294967295
+ServerFits (to_client.Change ctx entry gone put at) =
+    (is_object ctx ≡ true) × (is_texts gone ≡ true) × (is_object put ≡ true) × (1 ≤ at) × (at ≤ 4294967295)
 ServerFits (to_client.Ok at ticket) = (at ≤ 4294967295) × (ticket ≤ 4294967295)
 ServerFits (to_client.No at reason ticket) = (at ≤ 4294967295) × (ticket ≤ 4294967295)
 ServerFits (to_client.Again ticket) = IsWithin 4294967295 ticket
@@ -66,14 +91,81 @@ abbrev pub tree_in : Option Data → Result Data FieldFault
 tree_in None = Err Missing
 tree_in (Some d) = Ok d
 
-unfoldable pub synced_in : Data → Result ServerMsg Refusal
-synced_in d =
-    if extra_in (codes "match" ∷ codes "seat" ∷ codes "snapshot" ∷ codes "type" ∷ []) d then Err ExtraField
+abbrev pub text_is : Option (List ℕ) → List ℕ → Bool
+text_is None name = false
+text_is (Some s) name = bytes_eq s name
+
+-- the items are these texts, in this order
+abbrev pub are_names : List (List ℕ) → Items → Bool
+are_names [] no_items = true
+are_names [] (item d ds) = false
+are_names (name ∷ names) no_items = false
+are_names (name ∷ names) (item d ds) = text_is (as_str d) name && are_names names ds
+
+abbrev pub games_member_in : Option Data → Result ServerMsg FieldFault
+games_member_in found = list_in found >>= λ ds. if are_names game_names ds then Ok to_client.Games else Err OutOfRange
+
+unfoldable pub games_in : Data → Result ServerMsg Refusal
+games_in d =
+    if extra_in (codes "games" ∷ codes "type" ∷ []) d then Err ExtraField
+    else at_field (codes "games") (games_member_in (get (codes "games") d))
+
+unfoldable pub matches_in : Data → Result ServerMsg Refusal
+matches_in d =
+    if extra_in (codes "matches" ∷ codes "type" ∷ []) d then Err ExtraField
+    else
+    (at_field (codes "matches") (rows_in (get (codes "matches") d)) >>= λ rows.
+    Ok (to_client.Matches rows))
+
+unfoldable pub match_row_in : Data → Result ServerMsg Refusal
+match_row_in d =
+    if extra_in (codes "row" ∷ codes "type" ∷ []) d then Err ExtraField
+    else
+    (at_field (codes "row") (row_in (get (codes "row") d)) >>= λ row.
+    Ok (to_client.Match row))
+
+unfoldable pub created_in : Data → Result ServerMsg Refusal
+created_in d =
+    if extra_in (codes "match" ∷ codes "type" ∷ []) d then Err ExtraField
     else
     (at_field (codes "match") (match_in (get (codes "match") d)) >>= λ name.
+    Ok (to_client.Created name))
+
+unfoldable pub joined_in : Data → Result ServerMsg Refusal
+joined_in d =
+    if extra_in (codes "key" ∷ codes "match" ∷ codes "seat" ∷ codes "type" ∷ []) d then Err ExtraField
+    else
+    (at_field (codes "key") (key_in (get (codes "key") d)) >>= λ key.
+    at_field (codes "match") (match_in (get (codes "match") d)) >>= λ name.
+    at_field (codes "seat") (natural_in 255 (get (codes "seat") d)) >>= λ seat.
+    Ok (to_client.Joined key name seat))
+
+-- an answer that names a seat of a match
+unfoldable pub place_in : Data → Result (Name × ℕ) Refusal
+place_in d =
+    if extra_in (codes "match" ∷ codes "seat" ∷ codes "type" ∷ []) d then Err ExtraField
+    else
+    (at_field (codes "match") (match_in (get (codes "match") d)) >>= λ name.
+    at_field (codes "seat") (natural_in 255 (get (codes "seat") d)) >>= λ seat.
+    Ok (name, seat))
+
+abbrev pub placed : (Name → ℕ → ServerMsg) → Data → Result ServerMsg Refusal
+placed message d = place_in d >>= λ at. Ok (message at.0 at.1)
+
+-- protocol 1 is not named
+abbrev pub protocol_in : Option Data → Result Protocol FieldFault
+protocol_in None = Ok protocol.One
+protocol_in (Some d) = natural_in 2 (Some d) >>= λ n. if nat_le 2 n then Ok protocol.Two else Err OutOfRange
+
+unfoldable pub synced_in : Data → Result ServerMsg Refusal
+synced_in d =
+    if extra_in (codes "match" ∷ codes "protocol" ∷ codes "seat" ∷ codes "snapshot" ∷ codes "type" ∷ []) d then Err ExtraField
+    else
+    (at_field (codes "match") (match_in (get (codes "match") d)) >>= λ name.
+    at_field (codes "protocol") (protocol_in (get (codes "protocol") d)) >>= λ protocol.
     at_field (codes "seat") (or_null (natural_in 255) (get (codes "seat") d)) >>= λ seat.
     at_field (codes "snapshot") (tree_in (get (codes "snapshot") d)) >>= λ snapshot.
-    Ok (to_client.Sync name seat snapshot))
+    Ok (to_client.Sync name seat protocol snapshot))
 
 unfoldable pub update_in : Data → Result ServerMsg Refusal
 update_in d =
@@ -84,6 +176,18 @@ update_in d =
     at_field (codes "g") (tree_in (get (codes "g") d)) >>= λ g.
     at_field (codes "number") (natural_in 4294967295 (get (codes "number") d)) >>= λ at.
     Ok (to_client.Update ctx entry g at))
+
+-- the number before is no member of the message, since it is the number less 1
+unfoldable pub change_in : Data → Result ServerMsg Refusal
+change_in d =
+    if extra_in (codes "ctx" ∷ codes "entry" ∷ codes "g" ∷ codes "number" ∷ codes "type" ∷ codes "was" ∷ []) d then Err ExtraField
+    else
+    (at_field (codes "ctx") (object_member_in (get (codes "ctx") d)) >>= λ ctx.
+    at_field (codes "entry") (tree_in (get (codes "entry") d)) >>= λ entry.
+    at_field (codes "g") (parts_in (get (codes "g") d)) >>= λ parts.
+    at_field (codes "number") (later_in (get (codes "number") d)) >>= λ at.
+    at_field (codes "was") (before_in at (get (codes "was") d)) >>= λ was.
+    Ok (to_client.Change ctx entry parts.0 parts.1 at))
 
 unfoldable pub ok_in : Data → Result ServerMsg Refusal
 ok_in d =
@@ -126,17 +230,31 @@ bye_in d =
     (at_field (codes "why") (why_in (get (codes "why") d)) >>= λ why.
     Ok (to_client.Bye why))
 
+-- the answers to what a session asks of the lobby
+abbrev pub answer_as : List ℕ → Data → Result ServerMsg Refusal
+answer_as kind d =
+    if bytes_eq kind (codes "asked") then placed to_client.Asked d
+    else if bytes_eq kind (codes "created") then created_in d
+    else if bytes_eq kind (codes "games") then games_in d
+    else if bytes_eq kind (codes "joined") then joined_in d
+    else if bytes_eq kind (codes "left") then placed to_client.Left d
+    else if bytes_eq kind (codes "match") then match_row_in d
+    else if bytes_eq kind (codes "matches") then matches_in d
+    else if bytes_eq kind (codes "renamed") then placed to_client.Renamed d
+    else Err UnknownMessage
+
 abbrev pub server_as : Result (List ℕ) FieldFault → Data → Result ServerMsg Refusal
 server_as (Err fault) d = Err UnknownMessage
 server_as (Ok kind) d =
     if bytes_eq kind (codes "again") then again_in d
     else if bytes_eq kind (codes "bye") then bye_in d
+    else if bytes_eq kind (codes "change") then change_in d
     else if bytes_eq kind (codes "no") then no_in d
     else if bytes_eq kind (codes "ok") then ok_in d
     else if bytes_eq kind (codes "refused") then refused_in d
     else if bytes_eq kind (codes "sync") then synced_in d
     else if bytes_eq kind (codes "update") then update_in d
-    else Err UnknownMessage
+    else answer_as kind d
 
 unfoldable pub server_in : Data → Result ServerMsg Refusal
 server_in d = server_as (text_in (get (codes "type") d)) d

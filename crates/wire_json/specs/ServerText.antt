@@ -1,11 +1,19 @@
 -- The one text of each message to a client: the compact text of its object, members in byte order, and a newline.
-use Rattle.std.specs.Prelude.{ℕ, List, [], ◌∷◌, ◌++◌, Option, None, Some, codes}
-use Rattle.serde_json.specs.Data.{Data, null, string, object, Members, member, no_members}
+use Rattle.std.specs.Prelude.{ℕ, ◌-◌, List, [], ◌∷◌, ◌++◌, map, Option, None, Some, codes}
+use Rattle.serde_json.specs.Data.{Data, null, string, array, object, Items, Members, member, no_members}
+use Rattle.serde_json.specs.View.{items_of}
 use Rattle.serde_json.specs.Written.{compact_text}
+use Rattle.hex.specs.Hex.{encode_lower}
 use Rattle.sheet_json.specs.Seats.{natural, natural_or_null}
+use Rattle.game_sheet.specs.MatchName.{Name}
+use Rattle.wire_json.specs.declared.protocol.Protocol.{Protocol}
+use Rattle.wire_json.specs.declared.protocol.Protocol.TheVariants.{One, Two}
 use Rattle.wire_json.specs.declared.server.ServerMsg.{ServerMsg}
-use Rattle.wire_json.specs.declared.server.ServerMsg.TheVariants.{Sync, Update, Ok, No, Again, Refused, Bye}
+use Rattle.wire_json.specs.declared.server.ServerMsg.TheVariants.{Games, Matches, Match, Created, Joined, Renamed, Left, Asked, Sync, Update, Change, Ok, No, Again, Refused, Bye}
+use Rattle.wire_json.specs.declared.reason.Reason.{Reason}
 use Rattle.wire_json.specs.declared.refusal.Member.{Member}
+use Rattle.wire_json.specs.declared.refusal.Refusal.{Refusal}
+use Rattle.wire_json.specs.RowText.{row_data, rows_data}
 use Rattle.wire_json.specs.ByeText.{bye_text}
 use Rattle.wire_json.specs.MatchText.{match_text}
 use Rattle.wire_json.specs.ReasonText.{reason_text}
@@ -18,18 +26,70 @@ field_or_null (Some field) = string (member_text field)
 abbrev pub of_type : List ℕ → Members
 of_type name = member (codes "type") (string name) no_members
 
+-- the games that are played here, in byte order
+abbrev pub game_names : List (List ℕ)
+game_names = codes "blind-bid" ∷ codes "captions" ∷ codes "countdown" ∷ codes "high-hand" ∷ codes "pig" ∷ codes "tic-tac-toe" ∷ []
+
+abbrev pub names_data : List (List ℕ) → Items
+names_data names = items_of (map string names)
+
+-- an answer that names a seat of a match
+abbrev pub from_place : ℕ → List ℕ → Members
+from_place seat kind = member (codes "seat") (natural seat) (of_type kind)
+
+abbrev pub place_members : Name → ℕ → List ℕ → Members
+place_members name seat kind = member (codes "match") (string (match_text name)) (from_place seat kind)
+
+-- protocol 1 is not named
+abbrev pub with_protocol : Protocol → Members → Members
+with_protocol One members = members
+with_protocol Two members = member (codes "protocol") (natural 2) members
+
+abbrev pub from_snapshot : Data → Members
+from_snapshot snapshot = member (codes "snapshot") snapshot (of_type (codes "sync"))
+
+abbrev pub from_seat : Option ℕ → Data → Members
+from_seat seat snapshot = member (codes "seat") (natural_or_null seat) (from_snapshot snapshot)
+
+abbrev pub from_g : Data → ℕ → Members
+from_g g at = member (codes "g") g (member (codes "number") (natural at) (of_type (codes "update")))
+
+-- what changed in the state: the names that are gone, and the members that are put
+abbrev pub parts_data : Data → Data → Data
+parts_data gone put = object (member (codes "gone") gone (member (codes "put") put no_members))
+
+abbrev pub from_change : ℕ → Members
+from_change was = member (codes "type") (string (codes "change")) (member (codes "was") (natural was) no_members)
+
+abbrev pub from_number : ℕ → Members
+from_number at = member (codes "number") (natural at) (from_change (at - 1))
+
+abbrev pub from_parts : Data → Data → ℕ → Members
+from_parts gone put at = member (codes "g") (parts_data gone put) (from_number at)
+
+abbrev pub from_refusal : Refusal → Members
+from_refusal refusal = member (codes "reason") (string (refusal_text refusal)) (of_type (codes "refused"))
+
+abbrev pub from_reason : Reason → ℕ → Members
+from_reason reason ticket = member (codes "reason") (string (reason_text reason)) (member (codes "ticket") (natural ticket) (of_type (codes "no")))
+
 -- the members of a message's object
 abbrev pub server_members : ServerMsg → Members
-server_members (Sync name seat snapshot) =
-    member (codes "match") (string (match_text name)) (member (codes "seat") (natural_or_null seat) (member (codes "snapshot") snapshot (of_type (codes "sync"))))
-server_members (Update ctx entry g at) =
-    member (codes "ctx") ctx (member (codes "entry") entry (member (codes "g") g (member (codes "number") (natural at) (of_type (codes "update")))))
+server_members Games = member (codes "games") (array (names_data game_names)) (of_type (codes "games"))
+server_members (Matches rows) = member (codes "matches") (array (rows_data rows)) (of_type (codes "matches"))
+server_members (Match row) = member (codes "row") (row_data row) (of_type (codes "match"))
+server_members (Created name) = member (codes "match") (string (match_text name)) (of_type (codes "created"))
+server_members (Joined key name seat) = member (codes "key") (string (encode_lower key)) (place_members name seat (codes "joined"))
+server_members (Renamed name seat) = place_members name seat (codes "renamed")
+server_members (Left name seat) = place_members name seat (codes "left")
+server_members (Asked name seat) = place_members name seat (codes "asked")
+server_members (Sync name seat protocol snapshot) = member (codes "match") (string (match_text name)) (with_protocol protocol (from_seat seat snapshot))
+server_members (Update ctx entry g at) = member (codes "ctx") ctx (member (codes "entry") entry (from_g g at))
+server_members (Change ctx entry gone put at) = member (codes "ctx") ctx (member (codes "entry") entry (from_parts gone put at))
 server_members (Ok at ticket) = member (codes "number") (natural at) (member (codes "ticket") (natural ticket) (of_type (codes "ok")))
-server_members (No at reason ticket) =
-    member (codes "number") (natural at) (member (codes "reason") (string (reason_text reason)) (member (codes "ticket") (natural ticket) (of_type (codes "no"))))
+server_members (No at reason ticket) = member (codes "number") (natural at) (from_reason reason ticket)
 server_members (Again ticket) = member (codes "ticket") (natural_or_null ticket) (of_type (codes "again"))
-server_members (Refused refusal) =
-    member (codes "field") (field_or_null (refusal_field refusal)) (member (codes "reason") (string (refusal_text refusal)) (of_type (codes "refused")))
+server_members (Refused refusal) = member (codes "field") (field_or_null (refusal_field refusal)) (from_refusal refusal)
 server_members (Bye why) = member (codes "type") (string (codes "bye")) (member (codes "why") (string (bye_text why)) no_members)
 
 -- the line of a message, newline included

@@ -2,8 +2,11 @@
 #![tactic(auto)]
 
 mod acts;
+mod answer_put;
+mod answer_read;
 mod asked;
 mod bye;
+mod change_read;
 mod client;
 mod client_read;
 mod client_write;
@@ -18,13 +21,17 @@ mod put_act;
 mod put_member;
 mod reason;
 mod refusal;
+mod row_put;
+mod row_read;
 mod server;
+mod server_put;
 mod server_read;
 mod server_write;
 mod submission;
 mod verdict;
 mod wire_no;
 
+pub use answer_put::{bye_line, games_line};
 pub use asked::{Asked, AskedTo};
 pub use bye::{bye_of, text_of_bye};
 pub use client::ClientMsg;
@@ -37,7 +44,9 @@ pub use names::resolve;
 pub use protocol::Protocol;
 pub use reason::Reason;
 pub use refusal::{Member, Refusal};
+pub use row_put::put_row;
 pub use server::ServerMsg;
+pub use server_put::{put_change, put_no, put_ok, put_sync, put_update};
 pub use server_read::read_server;
 pub use server_write::write_server;
 pub use submission::Submission;

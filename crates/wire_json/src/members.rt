@@ -65,7 +65,8 @@ pub fn match_at(value: &Value, name: &'static str) -> Result<MatchName, WireNo>
     }
 }
 
-fn match_name_of(value: &Value, name: &str) -> Result<MatchName, FieldFault>
+/// The match that the member names.
+pub fn match_name_of(value: &Value, name: &str) -> Result<MatchName, FieldFault>
     ensures { result ≡ match_in (get name.now (view value.now)) }
 {
     let text = text_of(value, name)?;

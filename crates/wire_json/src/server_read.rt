@@ -6,17 +6,20 @@ ghost use Rattle.serde_json.specs.View.{view};
 ghost use Rattle.serde_json.specs.Written.{has_float};
 ghost use Rattle.sheet_json.specs.Seats.{or_null};
 ghost use Rattle.wire_json.specs.Refusals.{Gives, at_field};
-ghost use Rattle.wire_json.specs.ServerReading.{IsServerForm, tree_in, reason_in, member_in, refusal_in, why_in, synced_in, update_in, ok_in, no_in, again_in, refused_in, bye_in, server_in, server_read};
+ghost use Rattle.wire_json.specs.ServerReading.{IsServerForm, tree_in, reason_in, member_in, refusal_in, why_in, protocol_in, synced_in, update_in, change_in, ok_in, no_in, again_in, refused_in, bye_in, answer_as, server_in, server_read};
 ghost use Rattle.wire_json.specs.declared.server.ServerMsg.{ServerMsg as Message};
 
+use crate::answer_read::answer_of;
 use crate::bye::bye_of;
+use crate::change_read::{before_of, later_of, object_at, parts_at};
 use crate::members::{at, match_at, number_member_of, number_or_null_of};
+use crate::protocol::Protocol;
 use crate::reason::Reason;
 use crate::refusal::{Member, Refusal};
 use crate::server::ServerMsg;
 use crate::wire_no::WireNo;
 use game_sheet::{Bye, NoMemory};
-use json_tree::{FieldFault, LineFault, Tree, extra_field, read_text, text_of};
+use json_tree::{FieldFault, LineFault, Tree, extra_field, natural_of, read_text, text_of};
 use serde_json::Value;
 use sheet_json::{is_null, seat_or_null_of};
 use std::alloc::Global;
@@ -24,7 +27,6 @@ use std::alloc::Global;
 /// The message that a line to a client is, or its first fault.
 ///
 /// The line may be of any length: the bound is the link's.
-#[tactic(auto, using(crate::proofs::ServerLaws::server_read_is, crate::proofs::ServerLaws::server_read_again))]
 pub fn read_server(alloc: Global, line: &[u8]) -> Result<ServerMsg, WireNo>
     ensures found { IfOk result (λ m. IsServerForm line.now m) }
     ensures only { (m : Message) → IsServerForm line.now m → Gives result (Ok m) }
@@ -38,14 +40,14 @@ fn read_any(alloc: Global, line: &[u8]) -> Result<ServerMsg, WireNo>
     ensures { Gives result (server_read line.now) }
 {
     match read_text(alloc, line) {
-        Ok(value) => message_of(&value),
+        Ok(value) => message_of(alloc, &value),
         Err(LineFault::NoMemory) => Err(WireNo::NoMemory),
         Err(fault) => Err(WireNo::Line(fault)),
     }
 }
 
 #[tactic(auto, unfolding(crate::specs::ServerReading::server_in))]
-fn message_of(value: &Value) -> Result<ServerMsg, WireNo>
+fn message_of(alloc: Global, value: &Value) -> Result<ServerMsg, WireNo>
     requires { has_float (view value.now) ≡ false }
     ensures { Gives result (server_in (view value.now)) }
 {
@@ -55,12 +57,13 @@ fn message_of(value: &Value) -> Result<ServerMsg, WireNo>
     match kind {
         "again" => again(value),
         "bye" => bye(value),
+        "change" => change(value),
         "no" => no(value),
         "ok" => ok(value),
         "refused" => refused(value),
         "sync" => sync(value),
         "update" => update(value),
-        _ => Err(WireNo::UnknownMessage),
+        _ => answer_of(alloc, value, kind),
     }
 }
 
@@ -108,20 +111,37 @@ fn sync(value: &Value) -> Result<ServerMsg, WireNo>
     requires { has_float (view value.now) ≡ false }
     ensures { Gives result (synced_in (view value.now)) }
 {
-    if extra_field(value, &["match", "seat", "snapshot", "type"]) {
+    if extra_field(value, &["match", "protocol", "seat", "snapshot", "type"]) {
         return Err(WireNo::ExtraField);
     }
     let name = match match_at(value, "match") {
         Ok(name) => name,
         Err(no) => return Err(no),
     };
+    let protocol = at("protocol", protocol_of(value, "protocol"))?;
     let seat = at("seat", seat_or_null_of(value, "seat"))?;
     let snapshot = tree_member_of(value, "snapshot")?;
     Ok(ServerMsg::Sync {
         name,
         seat,
+        protocol,
         snapshot,
     })
+}
+
+// Protocol 1 is not named, and no number but 2 is.
+fn protocol_of(value: &Value, name: &str) -> Result<Protocol, FieldFault>
+    ensures { result ≡ protocol_in (get name.now (view value.now)) }
+{
+    if value.get(name).is_none() {
+        return Ok(Protocol::One);
+    }
+    let number = natural_of(value, name, 2)?;
+    if 2 <= number {
+        Ok(Protocol::Two)
+    } else {
+        Err(FieldFault::OutOfRange)
+    }
 }
 
 #[tactic(auto, unfolding(crate::specs::ServerReading::update_in))]
@@ -140,6 +160,28 @@ fn update(value: &Value) -> Result<ServerMsg, WireNo>
         ctx,
         entry,
         g,
+        number,
+    })
+}
+
+#[tactic(auto, unfolding(crate::specs::ServerReading::change_in))]
+fn change(value: &Value) -> Result<ServerMsg, WireNo>
+    requires { has_float (view value.now) ≡ false }
+    ensures { Gives result (change_in (view value.now)) }
+{
+    if extra_field(value, &["ctx", "entry", "g", "number", "type", "was"]) {
+        return Err(WireNo::ExtraField);
+    }
+    let ctx = object_at(value, "ctx")?;
+    let entry = tree_member_of(value, "entry")?;
+    let (gone, put) = parts_at(value, "g")?;
+    let number = at("number", later_of(value, "number"))?;
+    let _was = at("was", before_of(value, "was", number))?;
+    Ok(ServerMsg::Change {
+        ctx,
+        entry,
+        gone,
+        put,
         number,
     })
 }
