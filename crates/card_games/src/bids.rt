@@ -59,8 +59,7 @@ impl Part for Bidding {
         self.boasts.write(alloc, out)?;
         out.extend_from_slice(b",\"revealed\":")?;
         self.revealed.write(alloc, out)?;
-        out.push(b'}')?;
-        Ok(())
+        out.extend_from_slice(b"}")
     }
 
     fn from_json(alloc: Global, v: &Value) -> Result<Option<Self>, NoMemory> {
@@ -112,8 +111,7 @@ impl Part for Sealed<u32> {
     fn write(&self, alloc: Global, out: &mut Vec<u8>) -> Result<(), AllocError> {
         out.extend_from_slice(b"{\"bid\":")?;
         self.item.write(alloc, out)?;
-        out.push(b'}')?;
-        Ok(())
+        out.extend_from_slice(b"}")
     }
 
     fn from_json(alloc: Global, v: &Value) -> Result<Option<Self>, NoMemory> {

@@ -11,8 +11,8 @@ use crate::lists::{changed, copied_split};
 use crate::offers::offer;
 use crate::parts::Part;
 use crate::sealed::{
-    NoSecret, Sealed, are_seats, may_seal, seal, sealed_end, sealing_specs, sealing_stages,
-    sealing_turn, shown_items, unsealed,
+    NoSecret, Sealed, add_sealing, are_seats, may_seal, seal, sealed_end, sealing_turn,
+    shown_items, unsealed,
 };
 use dice_words::Tape;
 use game_sheet::{
@@ -68,13 +68,12 @@ fn make_sheet(alloc: Global) -> Result<Sheet, NoMemory>
 
 /// Gives a sheet the game's rows.
 fn fill_sheet(alloc: Global, sheet: &mut Sheet) -> Result<(), NoMemory>
-    ensures { OnOk result (sheet.new ≡ record sheet.old { moves = sheet.old.moves ++ bid_sheet.moves; base = bid_sheet.base; stages = bid_sheet.stages; specs = bid_sheet.specs }) }
+    ensures { OnOk result (sheet.new ≡ record sheet.old { moves = sheet.old.moves ++ bid_sheet.moves; base = sheet.old.base ++ bid_sheet.base; stages = sheet.old.stages ++ bid_sheet.stages; specs = sheet.old.specs ++ bid_sheet.specs }) }
 {
     add_moves(alloc, &mut sheet.moves)?;
-    sheet.base = List::from_slice(alloc, &[MoveId::at(0), MoveId::at(1)])?;
-    sheet.stages = sealing_stages(alloc, "bid")?;
-    sheet.specs = sealing_specs(alloc)?;
-    Ok(())
+    sheet.base.push(MoveId::at(0))?;
+    sheet.base.push(MoveId::at(1))?;
+    add_sealing(alloc, sheet, "bid")
 }
 
 /// Adds the game's moves.

@@ -12,8 +12,8 @@ use crate::lists::copied_split;
 use crate::offers::offer;
 use crate::parts::Part;
 use crate::sealed::{
-    NoSecret, Sealed, are_seats, may_seal, seal, sealed_end, sealing_specs, sealing_stages,
-    sealing_turn, shown_items, unsealed,
+    NoSecret, Sealed, add_sealing, are_seats, may_seal, seal, sealed_end, sealing_turn,
+    shown_items, unsealed,
 };
 use crate::texts::Shown;
 use dice_words::Tape;
@@ -70,13 +70,11 @@ fn make_sheet(alloc: Global) -> Result<Sheet, NoMemory>
 
 /// Gives a sheet the game's rows.
 fn fill_sheet(alloc: Global, sheet: &mut Sheet) -> Result<(), NoMemory>
-    ensures { OnOk result (sheet.new ≡ record sheet.old { moves = sheet.old.moves ++ caption_sheet.moves; base = caption_sheet.base; stages = caption_sheet.stages; specs = caption_sheet.specs }) }
+    ensures { OnOk result (sheet.new ≡ record sheet.old { moves = sheet.old.moves ++ caption_sheet.moves; base = sheet.old.base ++ caption_sheet.base; stages = sheet.old.stages ++ caption_sheet.stages; specs = sheet.old.specs ++ caption_sheet.specs }) }
 {
     add_moves(alloc, &mut sheet.moves)?;
-    sheet.base = List::from_slice(alloc, &[MoveId::at(0)])?;
-    sheet.stages = sealing_stages(alloc, "write")?;
-    sheet.specs = sealing_specs(alloc)?;
-    Ok(())
+    sheet.base.push(MoveId::at(0))?;
+    add_sealing(alloc, sheet, "write")
 }
 
 /// Adds the game's moves.

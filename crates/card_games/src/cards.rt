@@ -147,8 +147,7 @@ fn write_from_scores(
     scores.write(alloc, out)?;
     out.extend_from_slice(b",\"table\":")?;
     places.write(alloc, out)?;
-    out.push(b'}')?;
-    Ok(())
+    out.extend_from_slice(b"}")
 }
 
 /// The table of these counts of cards whose scores and places an object holds; none where it holds none.
@@ -191,8 +190,7 @@ impl Part for Hand {
     fn write(&self, alloc: Global, out: &mut Vec<u8>) -> Result<(), AllocError> {
         out.extend_from_slice(b"{\"hand\":")?;
         self.cards.write(alloc, out)?;
-        out.push(b'}')?;
-        Ok(())
+        out.extend_from_slice(b"}")
     }
 
     fn from_json(alloc: Global, v: &Value) -> Result<Option<Self>, NoMemory> {
@@ -224,8 +222,7 @@ impl Part for Deck {
     fn write(&self, alloc: Global, out: &mut Vec<u8>) -> Result<(), AllocError> {
         out.extend_from_slice(b"{\"deck\":")?;
         self.cards.write(alloc, out)?;
-        out.push(b'}')?;
-        Ok(())
+        out.extend_from_slice(b"}")
     }
 
     fn from_json(alloc: Global, v: &Value) -> Result<Option<Self>, NoMemory> {

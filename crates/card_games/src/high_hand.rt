@@ -276,11 +276,29 @@ fn with_hand(alloc: Global, g: &Cards, seat: Seat, hand: List<u8>) -> Result<Car
     requires { length hand ≤ 52 }
     ensures { IfOk result (λ h. h ≡ with_hand g.now seat hand) }
 {
-    let place = seat as usize;
-    let mut after = copied_split(alloc, g)?;
-    after.common.hands = changed(alloc, g.common.hands.as_slice(), place, hand.len() as u32)?;
-    after.players = with_entry(alloc, g.players.as_slice(), place, Hand { cards: hand })?;
+    let count = hand.len() as u32;
+    let hands = changed(alloc, g.common.hands.as_slice(), seat as usize, count)?;
+    let mut after = with_cards(alloc, g, seat, hand)?;
+    after.common.hands = hands;
     Ok(after)
+}
+
+/// The state in which a seat has this hand, beside the counts that everybody saw.
+fn with_cards(alloc: Global, g: &Cards, seat: Seat, hand: List<u8>) -> Result<Cards, NoMemory>
+    ensures { IfOk result (λ h. h ≡ record g.now { players = (with_hand g.now seat hand).players }) }
+{
+    let entry = Hand { cards: hand };
+    let players = with_entry(alloc, g.players.as_slice(), seat as usize, entry)?;
+    match copied_split(alloc, g) {
+        Ok(mut after) => {
+            after.players = players;
+            Ok(after)
+        }
+        Err(NoMemory) => {
+            drop(players);
+            Err(NoMemory)
+        }
+    }
 }
 
 /// The state with this deck, of which everybody sees the count.
@@ -335,11 +353,19 @@ fn drawn(
     requires rest { length rest.now ≤ 52 }
     ensures { IfOk result (λ h. h ≡ with_deck (with_hand g.now seat (hand.now ++ card ∷ [])) rest.now) }
 {
+    let cards = longer(alloc, hand, card)?;
+    let deck = List::from_slice(alloc, rest)?;
+    let after = with_hand(alloc, g, seat, cards)?;
+    Ok(with_deck(after, deck))
+}
+
+/// A hand with one more card at its end.
+fn longer(alloc: Global, hand: &[u8], card: u8) -> Result<List<u8>, NoMemory>
+    ensures { IfOk result (λ cards. cards ≡ hand.now ++ card ∷ []) }
+{
     let mut cards = Vec::from_slice(alloc, hand)?;
     cards.push(card)?;
-    let after = with_hand(alloc, g, seat, List::from_vec(cards))?;
-    let deck = List::from_slice(alloc, rest)?;
-    Ok(with_deck(after, deck))
+    Ok(List::from_vec(cards))
 }
 
 /// A card of the mover's hand, whose place there is the one argument, goes to its free place on the table.

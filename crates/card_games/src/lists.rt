@@ -69,12 +69,33 @@ pub fn copied_split<C: CopyPart, S: CopyPart, P: CopyPart>(
 ) -> Result<Split<C, S, P>, NoMemory>
     ensures { IfOk result (λ copied. copied ≡ split.now) }
 {
+    let players = List::from_vec(copied(alloc, split.players.as_slice())?);
+    match copied_rest(alloc, split) {
+        Ok((common, secret)) => Ok(Split {
+            common,
+            secret,
+            players,
+        }),
+        Err(NoMemory) => {
+            drop(players);
+            Err(NoMemory)
+        }
+    }
+}
+
+/// The common and the secret part of an equal state.
+fn copied_rest<C: CopyPart, S: CopyPart, P: CopyPart>(
+    alloc: Global,
+    split: &Split<C, S, P>,
+) -> Result<(C, Option<S>), NoMemory>
+    ensures { IfOk result (λ rest. rest ≡ (split.now.common, split.now.secret)) }
+{
     let common = split.common.copy(alloc)?;
-    let secret = copied_entry(alloc, &split.secret)?;
-    let players = copied(alloc, split.players.as_slice())?;
-    Ok(Split {
-        common,
-        secret,
-        players: List::from_vec(players),
-    })
+    match copied_entry(alloc, &split.secret) {
+        Ok(secret) => Ok((common, secret)),
+        Err(NoMemory) => {
+            drop(common);
+            Err(NoMemory)
+        }
+    }
 }

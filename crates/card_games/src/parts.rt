@@ -1,10 +1,10 @@
 //! The parts of a state: as JSON, as its text, read back, and compared.
 
-ghost use Rattle.std.specs.Prelude.{◌≡◌, ◌++◌, ◌↔◌, false, true, length, IfOk, IsTrue, OnOk};
-ghost use Rattle.card_games.specs.Json.{list_value, number_value, option_value, read_count, read_items, read_list, read_lone, read_member, read_number, read_option, read_split, read_text, from_players, lone_value, split_value, text_value};
+ghost use Rattle.std.specs.Prelude.{◌≡◌, ◌++◌, ◌↔◌, codes, false, true, length, option_map, IfOk, IsTrue, OnOk};
+ghost use Rattle.card_games.specs.Json.{list_value, number_value, option_value, read_count, read_items, read_list, read_lone, read_member, read_number, read_option, read_split, read_text, from_players, lone_value, split_of, split_value, text_value};
 ghost use Rattle.serde_json.specs.Data.{no_members, object, put};
 ghost use Rattle.serde_json.specs.View.{items_view, members_view, view};
-ghost use Rattle.serde_json.specs.Written.{compact_text, has_float, members_text};
+ghost use Rattle.serde_json.specs.Written.{comma_if, compact_text, has_float, members_text};
 
 use game_sheet::{List, NoMemory, Short};
 use json_text::{put_comma, put_natural, put_null, put_string};
@@ -238,23 +238,51 @@ impl<C: Part, S: Part, P: Part> Part for Split<C, S, P> {
         let Some(common) = member(alloc, v, "common")? else {
             return Ok(None);
         };
-        let Some(players) = member(alloc, v, "players")? else {
-            return Ok(None);
-        };
-        let Some(secret) = member(alloc, v, "secret")? else {
-            return Ok(None);
-        };
-        Ok(Some(Split {
-            common,
-            secret,
-            players,
-        }))
+        match member(alloc, v, "players") {
+            Ok(Some(players)) => with_secret(alloc, v, common, players),
+            Ok(None) => {
+                drop(common);
+                Ok(None)
+            }
+            Err(NoMemory) => {
+                drop(common);
+                Err(NoMemory)
+            }
+        }
     }
 
     fn same(&self, other: &Self) -> bool {
         self.common.same(&other.common)
             && self.secret.same(&other.secret)
             && self.players.same(&other.players)
+    }
+}
+
+/// The split state of these parts whose secret an object holds; none where it holds none.
+fn with_secret<C: Part, S: Part, P: Part>(
+    alloc: Global,
+    v: &Value,
+    common: C,
+    players: List<Option<P>>,
+) -> Result<Option<Split<C, S, P>>, NoMemory>
+    ensures { IfOk result (λ split. split ≡ option_map (split_of common players) (read_member (codes "secret") (read_option S.read) (view v.now))) }
+{
+    match member(alloc, v, "secret") {
+        Ok(Some(secret)) => Ok(Some(Split {
+            common,
+            secret,
+            players,
+        })),
+        Ok(None) => {
+            drop(common);
+            drop(players);
+            Ok(None)
+        }
+        Err(NoMemory) => {
+            drop(common);
+            drop(players);
+            Err(NoMemory)
+        }
     }
 }
 
@@ -311,8 +339,7 @@ fn write_from_players<S: Part, P: Part>(
     players.write(alloc, out)?;
     out.extend_from_slice(b",\"secret\":")?;
     secret.write(alloc, out)?;
-    out.push(b'}')?;
-    Ok(())
+    out.extend_from_slice(b"}")
 }
 
 /// Appends the text of items, as that of a JSON array.
@@ -322,12 +349,23 @@ fn write_items<T: Part>(alloc: Global, out: &mut Vec<u8>, items: &[T]) -> Result
     out.push(b'[')?;
     let mut later = false;
     for item in items {
-        put_comma(out, later)?;
-        item.write(alloc, out)?;
+        write_next(alloc, out, later, item)?;
         later = true;
     }
-    out.push(b']')?;
-    Ok(())
+    out.extend_from_slice(b"]")
+}
+
+/// Appends the text of an item, behind a comma where it isn't the first.
+fn write_next<T: Part>(
+    alloc: Global,
+    out: &mut Vec<u8>,
+    later: bool,
+    item: &T,
+) -> Result<(), AllocError>
+    ensures { OnOk result (out.new.items ≡ out.old.items ++ (comma_if later ++ compact_text (T.value item.now))) }
+{
+    put_comma(out, later)?;
+    item.write(alloc, out)
 }
 
 /// Items as a JSON array.

@@ -1,15 +1,16 @@
 //! What the games share in which each seat seals one item: a bid, or a text.
 
-ghost use Rattle.std.specs.Prelude.{◌≡◌, ℕ, List as Items, [], slice_get, slice_set, IfOk};
+ghost use Rattle.std.specs.Prelude.{◌≡◌, ◌++◌, ℕ, List as Items, [], slice_get, slice_set, IfOk, OnOk};
 ghost use Rattle.std.specs.List.{filter_map};
-ghost use Rattle.card_games.specs.Sealed.{are_seats, have_all, item_of, may_seal, no_secret_value, read_no_secret, seal, sealed_end, sealing_specs, sealing_stages, sealing_turn, shown_items, unsealed};
+ghost use Rattle.card_games.specs.Sealed.{are_seats, have_all, item_of, may_seal, no_secret_value, read_no_secret, seal, sealed_end, sealing_specs, sealing_stages, sealing_turn, shown_items, unsealed, with_item};
 ghost use Rattle.game_trait.specs.Gives.{Gives};
 
 use crate::greatest::{Worth, one_greatest};
 use crate::lists::changed;
 use crate::parts::Part;
 use game_sheet::{
-    List, NoMemory, Order, Outcome, Place, Seat, SpecId, SpecRow, StageId, StageRow, Text, TurnRow,
+    List, NoMemory, Order, Outcome, Place, Seat, Sheet, SpecId, SpecRow, StageId, StageRow, Text,
+    TurnRow,
 };
 use game_trait::Halt;
 use json_text::put_null;
@@ -95,25 +96,16 @@ pub(crate) fn sealing_turn() -> TurnRow
     }
 }
 
-/// The one stage, of this name.
-pub(crate) fn sealing_stages(alloc: Global, name: &str) -> Result<List<StageRow>, NoMemory>
-    ensures { IfOk result (λ rows. rows ≡ sealing_stages name.now) }
+/// Gives a sheet the one stage, of this name, and the one map of the turn: every seat in that stage, for one move.
+pub(crate) fn add_sealing(alloc: Global, sheet: &mut Sheet, name: &str) -> Result<(), NoMemory>
+    ensures { OnOk result (sheet.new ≡ record sheet.old { stages = sheet.old.stages ++ sealing_stages name.now; specs = sheet.old.specs ++ sealing_specs }) }
 {
-    let mut rows = List::new(alloc);
-    rows.push(StageRow {
+    sheet.stages.push(StageRow {
         name: Text::from_str(alloc, name)?,
         next: None,
         moves: None,
     })?;
-    Ok(rows)
-}
-
-/// The one map of the turn: every seat in the one stage, for one move.
-pub(crate) fn sealing_specs(alloc: Global) -> Result<List<SpecRow>, NoMemory>
-    ensures { IfOk result (λ rows. rows ≡ sealing_specs) }
-{
-    let mut rows = List::new(alloc);
-    rows.push(SpecRow {
+    sheet.specs.push(SpecRow {
         current: None,
         others: None,
         all: Some(Place {
@@ -125,7 +117,7 @@ pub(crate) fn sealing_specs(alloc: Global) -> Result<List<SpecRow>, NoMemory>
         revert: false,
         next: None,
     })?;
-    Ok(rows)
+    Ok(())
 }
 
 /// An entry without an item for each seat.
@@ -172,16 +164,34 @@ pub(crate) fn seal<C: CopyPart, T: Copy>(
 ) -> Result<Sealing<C, T>, Halt>
     ensures { (words : Items ℕ) → Gives result words words [] (seal allowed g.now seat item words) }
 {
-    let players = g.players.as_slice();
-    if !allowed || !may_seal(players, seat) {
+    if !allowed || !may_seal(g.players.as_slice(), seat) {
         return Err(Halt::Invalid);
     }
+    Ok(with_item(alloc, g, seat, item)?)
+}
+
+/// The state in which a seat has sealed an item.
+fn with_item<C: CopyPart, T: Copy>(
+    alloc: Global,
+    g: &Sealing<C, T>,
+    seat: Seat,
+    item: T,
+) -> Result<Sealing<C, T>, NoMemory>
+    ensures { IfOk result (λ h. h ≡ with_item g.now seat item) }
+{
     let entry = Sealed { item: Some(item) };
-    Ok(Split {
-        common: g.common.copy(alloc)?,
-        secret: g.secret,
-        players: changed(alloc, players, seat as usize, Some(entry))?,
-    })
+    let players = changed(alloc, g.players.as_slice(), seat as usize, Some(entry))?;
+    match g.common.copy(alloc) {
+        Ok(common) => Ok(Split {
+            common,
+            secret: g.secret,
+            players,
+        }),
+        Err(NoMemory) => {
+            drop(players);
+            Err(NoMemory)
+        }
+    }
 }
 
 /// Whether every entry is there and has its item.

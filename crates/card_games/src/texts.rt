@@ -43,8 +43,7 @@ impl Part for Shown {
     fn write(&self, alloc: Global, out: &mut Vec<u8>) -> Result<(), AllocError> {
         out.extend_from_slice(b"{\"revealed\":")?;
         self.revealed.write(alloc, out)?;
-        out.push(b'}')?;
-        Ok(())
+        out.extend_from_slice(b"}")
     }
 
     fn from_json(alloc: Global, v: &Value) -> Result<Option<Self>, NoMemory> {
@@ -77,8 +76,7 @@ impl Part for Sealed<Short> {
     fn write(&self, alloc: Global, out: &mut Vec<u8>) -> Result<(), AllocError> {
         out.extend_from_slice(b"{\"text\":")?;
         self.item.write(alloc, out)?;
-        out.push(b'}')?;
-        Ok(())
+        out.extend_from_slice(b"}")
     }
 
     fn from_json(alloc: Global, v: &Value) -> Result<Option<Self>, NoMemory> {

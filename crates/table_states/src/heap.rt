@@ -1,13 +1,16 @@
 //! The heap of Countdown.
 
-ghost use Rattle.std.specs.Prelude.{◌≡◌, ◌≤◌, IfOk};
+ghost use Rattle.std.specs.Prelude.{◌≡◌, ◌≤◌, ◌++◌, codes, true, IfOk, OnOk};
+ghost use Rattle.serde_json.specs.Written.{members_text};
 ghost use Rattle.table_states.specs.Countdown.{full_heap, heap_offers, less};
+ghost use Rattle.open_game.specs.Forms.{seat_value};
+ghost use Rattle.serde_json.specs.Data.{member, no_members};
 
 use game_sheet::{Args, List, MoveId, NoMemory, Seat};
 use json_tree::extra_field;
 use open_game::{Part, State, object_of_two, offer, offer_number, part_at};
 use serde_json::Value;
-use std::alloc::Global;
+use std::alloc::{AllocError, Global};
 
 /// What is left to take, and who took last.
 #[derive(Drop)]
@@ -35,10 +38,7 @@ impl State for Heap {
     fn write(&self, alloc: Global, out: &mut Vec<u8>) -> Result<(), NoMemory> {
         out.extend_from_slice(b"{\"heap\":")?;
         self.left.write(out)?;
-        out.extend_from_slice(b",\"last\":")?;
-        self.last.write(out)?;
-        out.push(b'}')?;
-        Ok(())
+        Ok(write_last(out, self.last)?)
     }
 
     fn from_value(alloc: Global, v: &Value) -> Result<Option<Heap>, NoMemory> {
@@ -64,6 +64,16 @@ impl State for Heap {
             last: self.last,
         })
     }
+}
+
+/// Appends the text of who took last, as the last member of an object.
+#[tactic(auto, unfolding(json::specs::Print::escape_byte))]
+fn write_last(out: &mut Vec<u8>, last: Option<Seat>) -> Result<(), AllocError>
+    ensures { OnOk result (out.new.items ≡ out.old.items ++ members_text true (member (codes "last") (seat_value last) no_members)) }
+{
+    out.extend_from_slice(b",\"last\":")?;
+    last.write(out)?;
+    out.extend_from_slice(b"}")
 }
 
 impl Heap {
