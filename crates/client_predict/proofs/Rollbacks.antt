@@ -3,6 +3,9 @@ use Rattle.std.proofs.Common.{◌≡◌, ◌+◌, ◌==◌, ℕ, List, Bool, tru
 use Rattle.std.specs.Prelude.{Result}
 use Rattle.game_trait.specs.Rules.{Rules}
 use Rattle.player_sight.specs.declared.shown.Snapshot.{Snapshot}
+use Rattle.move_log.specs.declared.entry.Entry.{Entry}
+use Rattle.serde_json.specs.Data.{Data}
+use Rattle.sight_reading.specs.EntryReading.{entry_in}
 use Rattle.sight_reading.specs.SnapshotReading.{snapshot_in}
 use Rattle.wire_json.specs.Refusals.{Refusal}
 use Rattle.wire_json.specs.ServerReading.{server_read}
@@ -10,7 +13,7 @@ use Rattle.wire_json.specs.declared.reason.Reason.{Reason}
 use Rattle.wire_json.specs.declared.server.ServerMsg.{ServerMsg}
 use Rattle.wire_json.specs.declared.server.ServerMsg.TheVariants as message
 use Rattle.client_predict.specs.Client.{Client, Held, Playing, shown_in}
-use Rattle.client_predict.specs.Reading.{Heard, begun, change_in, ended, hears, hears_line, has_ticket, goes_on, in_step, settled_by, settles, Hears, lost, reads, synced, taken, unless_gone, updated, verdict, verdict_at}
+use Rattle.client_predict.specs.Reading.{Heard, begun, change_by, change_in, changed, ended, hears, hears_line, has_ticket, goes_on, in_step, settled_by, settles, Hears, lost, reads, synced, patched_by, taken, taken_if, unless_gone, updated, verdict, verdict_at}
 use Rattle.client_predict.specs.Rollback.{IsRolledBack}
 use Rattle.client_predict.specs.declared.change.Change.{Change}
 use Rattle.client_predict.specs.declared.told.FeedNo.{FeedNo}
@@ -63,15 +66,35 @@ module _ {G : Type 0} (rules : Rules G) (ticket : ℕ) (reason : Reason) where
   updates c o None n = λ e. cc
   updates c o (Some change) n = stepping c o n (taken c o change n) (takes c o change n)
 
+  takes_if : (c : Client G) (o : Option (Playing G)) (q : Option (Change G)) (n : ℕ) → Rolls c (taken_if c o q n)
+  takes_if c o None n = λ e. cc
+  takes_if c o (Some change) n = takes c o change n
+
+  patches : (c : Client G) (o : Option (Playing G)) (entry : Entry) (ctx gone put : Data) (n : ℕ) → Rolls c (patched_by rules c o entry ctx gone put n)
+  patches c o entry ctx gone put n = takes_if c o (change_by rules o entry ctx gone put) n
+
+  changes : (c : Client G) (o : Option (Playing G)) (q : Option Entry) (ctx gone put : Data) (n : ℕ) → Rolls c (changed rules c o q ctx gone put n)
+  changes c o None ctx gone put n = λ e. cc
+  changes c o (Some entry) ctx gone put n = stepping c o n (patched_by rules c o entry ctx gone put n) (patches c o entry ctx gone put n)
+
   pub heard_rolls : (c : Client G) (m : ServerMsg) → Rolls c (hears rules c m)
-  heard_rolls c (message.Sync name seat snapshot) = syncs c name seat (snapshot_in rules snapshot)
+  heard_rolls c (message.Sync name seat protocol snapshot) = syncs c name seat (snapshot_in rules snapshot)
   heard_rolls c (message.Update ctx entry g number) = unless c.gone c _ (updates c c.playing (change_in rules ctx entry g) number)
+  heard_rolls c (message.Change ctx entry gone put number) = unless c.gone c _ (changes c c.playing (entry_in rules.sheet entry) ctx gone put number)
   heard_rolls c (message.Ok number t) = unless c.gone c _ (judged c c.playing t (Accepted t) refl (λ e. cc))
   heard_rolls c (message.No number r t) = unless c.gone c _ (judged c c.playing t (Refused t r) refl (λ e. cc))
   heard_rolls c (message.Again None) = unless c.gone c _ (λ e. cc)
   heard_rolls c (message.Again (Some t)) = unless c.gone c _ (judged c c.playing t (Again (Some t)) refl (λ e. cc))
-  heard_rolls c (message.Refused refusal) = unless c.gone c _ (λ e. cc)
   heard_rolls c (message.Bye why) = unless c.gone c _ (λ e. cc)
+  heard_rolls c message.Games = unless c.gone c _ (λ e. cc)
+  heard_rolls c (message.Matches rows) = unless c.gone c _ (λ e. cc)
+  heard_rolls c (message.Match row) = unless c.gone c _ (λ e. cc)
+  heard_rolls c (message.Created name) = unless c.gone c _ (λ e. cc)
+  heard_rolls c (message.Joined key name seat) = unless c.gone c _ (λ e. cc)
+  heard_rolls c (message.Renamed name seat) = unless c.gone c _ (λ e. cc)
+  heard_rolls c (message.Left name seat) = unless c.gone c _ (λ e. cc)
+  heard_rolls c (message.Asked name seat) = unless c.gone c _ (λ e. cc)
+  heard_rolls c (message.Refused refusal) = unless c.gone c _ (λ e. cc)
 
   line_rolls : (c : Client G) (r : Result ServerMsg Refusal) → Rolls c (hears_line rules c r)
   line_rolls c (Ok m) = heard_rolls c m

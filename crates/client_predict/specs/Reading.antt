@@ -8,7 +8,10 @@ use Rattle.sight_reading.specs.EntryReading.{entry_in}
 use Rattle.sight_reading.specs.Reading.{◌>>=◌}
 use Rattle.sight_reading.specs.SnapshotReading.{snapshot_in}
 use Rattle.player_sight.specs.declared.shown.Snapshot.{Snapshot}
-use Rattle.serde_json.specs.Data.{Data}
+use Rattle.move_log.specs.declared.entry.Entry.{Entry}
+use Rattle.player_sight.specs.Change.{patched}
+use Rattle.player_sight.specs.CtxData.{ctx_data}
+use Rattle.serde_json.specs.Data.{Data, array, no_items}
 use Rattle.wire_json.specs.Refusals.{Refusal}
 use Rattle.wire_json.specs.ServerReading.{server_read}
 use Rattle.wire_json.specs.declared.server.ServerMsg.{ServerMsg}
@@ -82,6 +85,30 @@ abbrev pub updated : {G : Type 0} → Client G → Option (Playing G) → Option
 updated c playing None number = lost c no.BadLine
 updated c playing (Some change) number = in_step c playing number (taken c playing change number)
 
+-- a change: the context and the state are those whose values are the settled ones', changed as the line says
+abbrev pub change_onto : {G : Type 0} → Rules G → Snapshot G → Entry → Data → Data → Data → Option (Change G)
+change_onto rules s entry ctx gone put =
+    ctx_in rules.sheet (patched (ctx_data rules.sheet s.ctx) (array no_items) ctx) >>= λ c.
+    rules.read (patched (rules.value s.g) gone put) >>= λ g.
+    Some (record { ctx = c; entry = entry; g = g })
+
+abbrev pub taken_if : {G : Type 0} → Client G → Option (Playing G) → Option (Change G) → ℕ → Heard G
+taken_if c playing None number = lost c no.BadLine
+taken_if c playing (Some change) number = taken c playing change number
+
+abbrev pub change_by : {G : Type 0} → Rules G → Option (Playing G) → Entry → Data → Data → Data → Option (Change G)
+change_by rules None entry ctx gone put = None
+change_by rules (Some p) entry ctx gone put = change_onto rules p.settled entry ctx gone put
+
+abbrev pub patched_by : {G : Type 0} → Rules G → Client G → Option (Playing G) → Entry → Data → Data → Data → ℕ → Heard G
+patched_by rules c playing entry ctx gone put number = taken_if c playing (change_by rules playing entry ctx gone put) number
+
+-- only its entry is read before its number is looked at
+abbrev pub changed : {G : Type 0} → Rules G → Client G → Option (Playing G) → Option Entry → Data → Data → Data → ℕ → Heard G
+changed rules c playing None ctx gone put number = lost c no.BadLine
+changed rules c playing (Some entry) ctx gone put number =
+    in_step c playing number (patched_by rules c playing entry ctx gone put number)
+
 -- ---- a verdict
 
 abbrev pub has_ticket : ℕ → Waiting → Bool
@@ -109,14 +136,17 @@ again c (Some ticket) = verdict c c.playing ticket (Again (Some ticket))
 abbrev pub unless_gone : {G : Type 0} → Client G → Heard G → Heard G
 unless_gone c heard = if c.gone then lost c no.Gone else heard
 
+-- a line of another kind is a direct answer, which changes nothing
 abbrev pub hears : {G : Type 0} → Rules G → Client G → ServerMsg → Heard G
-hears rules c (message.Sync name seat snapshot) = synced c name seat (snapshot_in rules snapshot)
+hears rules c (message.Sync name seat protocol snapshot) = synced c name seat (snapshot_in rules snapshot)
 hears rules c (message.Update ctx entry g number) = unless_gone c (updated c c.playing (change_in rules ctx entry g) number)
+hears rules c (message.Change ctx entry gone put number) =
+    unless_gone c (changed rules c c.playing (entry_in rules.sheet entry) ctx gone put number)
 hears rules c (message.Ok number ticket) = unless_gone c (verdict c c.playing ticket (Accepted ticket))
 hears rules c (message.No number reason ticket) = unless_gone c (verdict c c.playing ticket (Refused ticket reason))
 hears rules c (message.Again ticket) = unless_gone c (again c ticket)
-hears rules c (message.Refused refusal) = unless_gone c (only_told c Other)
 hears rules c (message.Bye why) = unless_gone c (ended c (Ended why))
+hears rules c other = unless_gone c (only_told c Other)
 
 abbrev pub hears_line : {G : Type 0} → Rules G → Client G → Result ServerMsg Refusal → Heard G
 hears_line rules c (Ok m) = hears rules c m

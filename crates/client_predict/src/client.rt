@@ -3,18 +3,19 @@
 ghost use Rattle.std.specs.Prelude.{◌≡◌, ◌≢◌, ℕ, position, IfOk, IfErr, IfNone, IfSome, OnErr, Ok, Some, option_map};
 ghost use Rattle.std.specs.Option.{option_copied};
 ghost use Rattle.wire_json.specs.Asking.{IsAskable};
+ghost use Rattle.sight_reading.specs.EntryReading.{entry_in};
 ghost use Rattle.sight_reading.specs.SnapshotReading.{snapshot_in};
 ghost use Rattle.client_predict.specs.Acting.{act_no, IsActed};
 ghost use Rattle.client_predict.specs.Client.{count_of, fresh, settled_in, shown_in};
-ghost use Rattle.client_predict.specs.Reading.{Heard, Hears, change_in, ended, has_ticket, hears, in_step, lost, only_told, reads, synced, taken, unless_gone, updated, verdict};
+ghost use Rattle.client_predict.specs.Reading.{Heard, Hears, change_by, change_in, changed, ended, has_ticket, hears, in_step, lost, only_told, patched_by, reads, synced, taken, unless_gone, updated, verdict};
 ghost use Rattle.client_predict.specs.Rollback.{IsRolledBack};
 ghost use Rattle.client_predict.specs.Stack.{snapshot_of};
 ghost use Rattle.wire_json.specs.declared.reason.Reason.{Reason};
 ghost use Rattle.client_predict.specs.declared.told.ActNo.TheVariants as unacted;
 ghost use Rattle.client_predict.specs.declared.told.FeedNo.TheVariants as no;
 
-use crate::change::{Change, change_of};
-use crate::part::{MOST_WAITING, Part};
+use crate::change::{Change, change_of, change_onto};
+use crate::part::{MOST_WAITING, Part, parts_of};
 use crate::shown::Shown;
 use crate::steps::{act, answer, settle};
 use crate::told::{ActNo, FeedNo, Predicted, Told};
@@ -22,8 +23,9 @@ use crate::waiting::Waiting;
 use game_sheet::{Bye, Key, MatchName, NoMemory, Number, Seat};
 use game_trait::Game;
 use json_tree::Tree;
+use move_log::Entry;
 use player_sight::Snapshot;
-use sight_reading::from_value;
+use sight_reading::{entry_of, from_value};
 use std::alloc::Global;
 use std::marker::Model;
 use wire_json::{Asked, ServerMsg, WireNo, read_server};
@@ -133,6 +135,7 @@ impl<X: Game + Drop> Client<X> {
                 name,
                 seat,
                 snapshot,
+                ..
             } => self.sync(*name, *seat, snapshot),
             ServerMsg::Update {
                 ctx,
@@ -140,6 +143,13 @@ impl<X: Game + Drop> Client<X> {
                 g,
                 number,
             } => self.update(ctx, entry, g, *number),
+            ServerMsg::Change {
+                ctx,
+                entry,
+                gone,
+                put,
+                number,
+            } => self.change(ctx, entry, gone, put, *number),
             ServerMsg::Ok { ticket, .. } => self.verdict(
                 *ticket,
                 Told::Accepted { ticket: *ticket },
@@ -162,8 +172,16 @@ impl<X: Game + Drop> Client<X> {
                     ticket: Some(*ticket),
                 },
             ),
-            ServerMsg::Refused(_) => self.only_told(Told::Other),
             ServerMsg::Bye(why) => self.end(*why),
+            ServerMsg::Games
+            | ServerMsg::Matches(_)
+            | ServerMsg::Match(_)
+            | ServerMsg::Created { .. }
+            | ServerMsg::Joined { .. }
+            | ServerMsg::Renamed { .. }
+            | ServerMsg::Left { .. }
+            | ServerMsg::Asked { .. }
+            | ServerMsg::Refused(_) => self.only_told(Told::Other),
         }
     }
 
@@ -260,6 +278,89 @@ impl<X: Game + Drop> Client<X> {
                 self.lose(why)
             }
         }
+    }
+
+    /// An accepted action, with what it changed.
+    fn change(
+        &mut self,
+        ctx: &Tree,
+        entry: &Tree,
+        gone: &Tree,
+        put: &Tree,
+        number: Number,
+    ) -> Result<Told, FeedNo>
+        ensures { Hears self.old result self.new (unless_gone self.old.client
+            (changed (X.rules self.old.game) self.old.client self.old.client.playing
+            (entry_in (X.rules self.old.game).sheet entry.now) ctx.now gone.now put.now number)) }
+    {
+        if self.gone {
+            return self.lose(FeedNo::Gone);
+        }
+        match entry_of(self.alloc, self.game.sheet(), entry.value()) {
+            Ok(Some(entry)) => self.change_to(entry, ctx, gone, put, number),
+            Ok(None) => self.lose(FeedNo::BadLine),
+            Err(NoMemory) => Err(FeedNo::NoMemory),
+        }
+    }
+
+    /// An accepted action of a number, with what it changed.
+    fn change_to(
+        &mut self,
+        entry: Entry,
+        ctx: &Tree,
+        gone: &Tree,
+        put: &Tree,
+        number: Number,
+    ) -> Result<Told, FeedNo>
+        ensures { Hears self.old result self.new (in_step self.old.client self.old.client.playing number
+            (patched_by (X.rules self.old.game) self.old.client self.old.client.playing entry ctx.now gone.now put.now number)) }
+    {
+        match self.out_of_step(number) {
+            None => self.patch_by(entry, ctx, gone, put, number),
+            Some(why) => {
+                drop(entry);
+                self.lose(why)
+            }
+        }
+    }
+
+    /// The next accepted action, with what it changed of the settled snapshot.
+    fn patch_by(
+        &mut self,
+        entry: Entry,
+        ctx: &Tree,
+        gone: &Tree,
+        put: &Tree,
+        number: Number,
+    ) -> Result<Told, FeedNo>
+        ensures { Hears self.old result self.new
+            (patched_by (X.rules self.old.game) self.old.client self.old.client.playing entry ctx.now gone.now put.now number) }
+    {
+        match self.read_change(entry, ctx, gone, put) {
+            Ok(Some(change)) => self.take_in(change, number),
+            Ok(None) => self.lose(FeedNo::BadLine),
+            Err(NoMemory) => Err(FeedNo::NoMemory),
+        }
+    }
+
+    /// What an entry and the changed parts show on the settled snapshot; none where no context or no state has their value.
+    fn read_change(
+        &self,
+        entry: Entry,
+        ctx: &Tree,
+        gone: &Tree,
+        put: &Tree,
+    ) -> Result<Option<Change<X::G>>, NoMemory>
+        ensures { IfOk result (λ change. change
+            ≡ change_by (X.rules self.now.game) self.now.client.playing entry ctx.now gone.now put.now) }
+    {
+        let Some(part) = &self.part else {
+            drop(entry);
+            return Ok(None);
+        };
+        let settled = parts_of(&part.settled);
+        let change = change_onto(self.alloc, &self.game, &settled, entry, ctx, gone, put)?;
+        Ok(change)
     }
 
     /// Why an action of a number isn't the next; none where it is.
