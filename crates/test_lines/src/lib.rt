@@ -10,6 +10,8 @@ mod messages;
 #[cfg(test)]
 mod read;
 #[cfg(test)]
+mod requests;
+#[cfg(test)]
 mod shown;
 #[cfg(test)]
 mod trees;
