@@ -6,6 +6,8 @@ mod answers;
 #[cfg(test)]
 mod auction;
 #[cfg(test)]
+mod changes;
+#[cfg(test)]
 mod messages;
 #[cfg(test)]
 mod read;

@@ -6,6 +6,7 @@ use game_sheet::{
     StageId,
 };
 use move_log::Entry;
+use player_sight::put_snapshot;
 use std::alloc::Global;
 use std::process::Abort;
 use std::test::Fail;
@@ -197,4 +198,59 @@ fn an_entry_shows_every_kind_of_action(rt: HostRuntime) -> Result<(), Fail> {
     let shown = entries_are_shown(&rt, rt.alloc(), &sheet);
     drop(sheet);
     Ok(shown?)
+}
+
+fn entry(seat: Seat, act: Act, number: u32) -> Entry {
+    Entry {
+        seat,
+        act,
+        hidden: false,
+        number,
+        turn: 1,
+        phase: None,
+        words: 3,
+    }
+}
+
+/// The bytes of a snapshot for seat 1, of a match with four seats on the map, a sealed bid of seat 0 and an undo.
+fn snapshot_bytes(
+    alloc: Global,
+    sheet: &Sheet,
+    ctx: Result<Ctx, NoMemory>,
+) -> Result<Vec<u8>, NoMemory> {
+    let ctx = ctx?;
+    let log = [entry(0, bid(), 0), entry(1, Act::Undo, 1)];
+    let mut out = Vec::new(alloc);
+    let done = put_snapshot(
+        alloc,
+        &mut out,
+        sheet,
+        2,
+        &ctx,
+        b"{\"pot\":5}",
+        &log,
+        Some(1),
+    );
+    drop(ctx);
+    drop(log);
+    done?;
+    Ok(out)
+}
+
+const SNAPSHOT: &str =
+    "{\"ctx\":{\"activePlayers\":{\"0\":\"secret\",\"1\":null,\"10\":\"secret\",\"2\":null},\"currentPlayer\":0,\"gameover\":null,\"numMoves\":0,\"numPlayers\":2,\"phase\":\"draw\",\"playOrder\":[0,1],\"playOrderPos\":0,\"turn\":1},\"g\":{\"pot\":5},\"log\":[{\"act\":{\"args\":null,\"kind\":\"move\",\"move\":\"bid\"},\"number\":0,\"phase\":null,\"seat\":0,\"turn\":1},{\"act\":{\"kind\":\"undo\"},\"number\":1,\"phase\":null,\"seat\":1,\"turn\":1}],\"number\":2}";
+
+fn snapshot_is_written(rt: &impl Abort, alloc: Global, sheet: &Sheet) -> Result<(), NoMemory> {
+    let bytes = snapshot_bytes(alloc, sheet, mapped(alloc))?;
+    assert!(rt; bytes.as_slice() == SNAPSHOT.as_bytes());
+    Ok(())
+}
+
+/// A bid that another seat may not see is hidden in the log, and seat 10 stands before seat 2.
+#[test]
+fn a_snapshot_is_written_as_bytes(rt: HostRuntime) -> Result<(), Fail> {
+    let sheet = auction(rt.alloc())?;
+    let written = snapshot_is_written(&rt, rt.alloc(), &sheet);
+    drop(sheet);
+    Ok(written?)
 }
