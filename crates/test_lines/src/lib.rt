@@ -8,6 +8,8 @@ mod auction;
 #[cfg(test)]
 mod changes;
 #[cfg(test)]
+mod lobby;
+#[cfg(test)]
 mod messages;
 #[cfg(test)]
 mod read;
