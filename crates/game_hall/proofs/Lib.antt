@@ -1,0 +1,6 @@
+pub mod Filling
+pub mod Moves
+pub mod Rooms
+pub mod RowTexts
+pub mod Running
+pub mod ShortTexts
