@@ -1,0 +1,21 @@
+-- What the matches of the words of `serve` ask for.
+use Rattle.std.proofs.Common.{◌≡◌, ℕ, List, [], codes, true, refl, sym, ap, ◌∙◌}
+use Rattle.clap.specs.Words.{HasMatchesOf, fault_of, first_value, found_of, is_simple, rows_of}
+use Rattle.clap.specs.declared.parser.matches.ArgMatches.{ArgMatches}
+use Rattle.clap.specs.declared.parser.matches.Found.{Found}
+use Rattle.clap.proofs.OnLiterals.{clap_on_literals}
+use Rattle.clap.proofs.WalkLemmas.{first_value-rows}
+use Rattle.command_words.specs.Serve.{serve_app, serve_from, serve_in, serve_of}
+
+is_simple_app : is_simple serve_app ≡ true
+unfolding clap_on_literals
+is_simple_app = refl
+
+by_values : (f : Found) → serve_in (rows_of f)
+    ≡ serve_of (first_value f (codes "listen")) (first_value f (codes "rooms")) (first_value f (codes "workers")) (first_value f (codes "sessions"))
+by_values f = rw (first_value-rows f (codes "listen"), first_value-rows f (codes "rooms"), first_value-rows f (codes "workers"), first_value-rows f (codes "sessions")) refl
+
+pub accepted : (texts : List (List ℕ)) (m : ArgMatches) → HasMatchesOf serve_app texts m → fault_of serve_app texts ≡ [] → serve_from texts
+    ≡ serve_of (first_value (found_of m) (codes "listen")) (first_value (found_of m) (codes "rooms")) (first_value (found_of m) (codes "workers")) (first_value (found_of m) (codes "sessions"))
+unfolding serve_from
+accepted texts m matches no_fault = rw (no_fault) (ap serve_in (sym (matches is_simple_app).0) ∙ by_values (found_of m))

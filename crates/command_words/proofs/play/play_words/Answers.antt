@@ -1,0 +1,18 @@
+use Rattle.std.proofs.Common.{map, string_bytes, subst, sym}
+use Rattle.clap.specs.Words.{fault_of, matches_of}
+use Rattle.command_words.specs.Answers.{Answers}
+use Rattle.command_words.specs.Play.{play_app, play_from, play_in}
+use Rattle.command_words.proofs.Refusals.{refused}
+use Rattle.command_words.proofs.Playing.{accepted}
+use Rattle.command_words.proofs.play.play_words.Goals as goal
+
+pub returns-in-Ok : goal.returns-in-Ok
+returns-in-Ok c =
+    let texts = map string_bytes c.args.words.now in
+    subst (λ asked. Answers asked c.words_in.result) (sym (accepted texts c.in-Ok.matches c.in-Ok.ensures.matches c.in-Ok.ensures.faults)) c.words_in.ensures
+
+pub returns-in-Err : goal.returns-in-Err
+unfolding play_from
+returns-in-Err c =
+    let texts = map string_bytes c.args.words.now in
+    refused (fault_of play_app texts) (play_in (matches_of play_app texts)) c.in-Err.error c.word_of.result c.in-Err.ensures.faults c.word_of.ensures

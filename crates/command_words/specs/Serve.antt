@@ -1,0 +1,43 @@
+-- What the words of `serve` ask for. They are those of a simple command: where to listen, and how many rooms, workers and sessions.
+use Rattle.std.specs.Prelude.{ℕ, List, [], ◌∷◌, Option, Some, None, codes, true}
+use Rattle.clap.specs.Words.{App, Row, Rule, fault_of, first_of, matches_of, new_app, new_rule, with_rule}
+use Rattle.clap.specs.Kinds.{Kinds}
+use Rattle.clap.specs.declared.builder.action.ArgAction.TheVariants.{Set}
+use Rattle.command_words.specs.Numbers.{number_or}
+use Rattle.command_words.specs.declared.serve.ServeWords.{ServeWords}
+
+abbrev pub listen_rule : Rule
+listen_rule = record (new_rule (codes "listen")) { long = Some (codes "listen"); required = true; action = Some Set }
+
+abbrev pub rooms_rule : Rule
+rooms_rule = record (new_rule (codes "rooms")) { long = Some (codes "rooms"); action = Some Set }
+
+abbrev pub workers_rule : Rule
+workers_rule = record (new_rule (codes "workers")) { long = Some (codes "workers"); action = Some Set }
+
+abbrev pub sessions_rule : Rule
+sessions_rule = record (new_rule (codes "sessions")) { long = Some (codes "sessions"); action = Some Set }
+
+abbrev pub serve_app : App
+serve_app = with_rule (with_rule (with_rule (with_rule (new_app (codes "serve")) listen_rule) rooms_rule) workers_rule) sessions_rule
+
+abbrev pub with_numbers : List ℕ → Option ℕ → Option ℕ → Option ℕ → Option ServeWords
+with_numbers listen (Some rooms) (Some workers) (Some sessions) = Some (record { listen = listen; rooms = rooms; workers = workers; sessions = sessions })
+with_numbers listen rooms workers sessions = None
+
+-- by the values of the options, where they are said
+abbrev pub serve_of : Option (List ℕ) → Option (List ℕ) → Option (List ℕ) → Option (List ℕ) → Option ServeWords
+serve_of None rooms workers sessions = None
+serve_of (Some listen) rooms workers sessions = with_numbers listen (number_or 1 64 16 rooms) (number_or 1 32 8 workers) (number_or 1 1000000 1000000 sessions)
+
+abbrev pub serve_in : List Row → Option ServeWords
+serve_in rows = serve_of (first_of (codes "listen") rows) (first_of (codes "rooms") rows) (first_of (codes "workers") rows) (first_of (codes "sessions") rows)
+
+-- nothing is asked for by words that the command refuses
+abbrev pub unless_refused : {A : Type 0} → Kinds → Option A → Option A
+unless_refused [] asked = asked
+unless_refused (kind ∷ kinds) asked = None
+
+-- what the words ask for, of which the first is the command's own; none where they are in no form
+unfoldable pub serve_from : List (List ℕ) → Option ServeWords
+serve_from words = unless_refused (fault_of serve_app words) (serve_in (matches_of serve_app words))

@@ -1,0 +1,121 @@
+//! The words of `play`: which server, game and match, and for whom.
+
+ghost use Rattle.std.specs.Prelude.{◌≡◌, IfOk, codes, map, option_map, string_bytes};
+ghost use Rattle.clap.specs.Words.{FailsBy, HasMatchesOf, fault_of, first_value, found_of};
+ghost use Rattle.any_game.specs.AnyRules.{named};
+ghost use Rattle.command_words.specs.Answers.{Answers};
+ghost use Rattle.command_words.specs.Play.{play_app, play_from, play_of, seat_from, viewer_from};
+
+use crate::words_no::{WordsNo, word_of};
+use any_game::{AnyGame, by_name};
+use clap::{Arg, ArgAction, ArgMatches, Command, Error};
+use game_sheet::{MatchName, Seat, Text, Viewer};
+use std::alloc::Global;
+use wire_json::{decimal_of, key_of, match_of};
+
+/// What `play` is asked for.
+#[derive(Drop)]
+pub struct PlayWords {
+    /// The server's address and port.
+    pub connect: Text,
+    /// The game of the match.
+    pub game: AnyGame,
+    /// The match.
+    pub name: MatchName,
+    /// The seat and its key; none for a spectator.
+    pub viewer: Viewer,
+}
+
+/// What the words of `play` ask for; the first word is the command's own.
+///
+/// `Usage` comes exactly where the words are in no form: an option that isn't there or stands twice, no `--connect`, `--game` or
+/// `--match`, a game that nobody knows, a match, seat or key in no form, or a seat without a key or the reverse.
+pub fn play_words(alloc: Global, words: &[String]) -> Result<PlayWords, WordsNo>
+    ensures { Answers (play_from (map string_bytes words.now)) result }
+{
+    match matches_of(alloc, words) {
+        Ok(matches) => words_in(alloc, &matches),
+        Err(error) => Err(word_of(&error)),
+    }
+}
+
+/// The matches of the words by `clap`.
+fn matches_of<'a>(alloc: Global, words: &'a [String]) -> Result<ArgMatches<'a>, Error>
+    ensures matches { IfOk result (HasMatchesOf play_app (map string_bytes words.entry.now)) }
+    ensures faults { FailsBy (fault_of play_app (map string_bytes words.entry.now)) result }
+{
+    let connect = Arg::new(alloc, "connect")
+        .long("connect")
+        .required(true)
+        .action(ArgAction::Set);
+    let game = Arg::new(alloc, "game")
+        .long("game")
+        .required(true)
+        .action(ArgAction::Set);
+    let name = Arg::new(alloc, "match")
+        .long("match")
+        .required(true)
+        .action(ArgAction::Set);
+    let seat = Arg::new(alloc, "seat").long("seat").action(ArgAction::Set);
+    let key = Arg::new(alloc, "key").long("key").action(ArgAction::Set);
+    let command = Command::new(alloc, "play")
+        .arg(connect)?
+        .arg(game)?
+        .arg(name)?
+        .arg(seat)?
+        .arg(key)?;
+    command.try_get_matches_from(words)
+}
+
+/// What the matches ask for.
+fn words_in(alloc: Global, matches: &ArgMatches) -> Result<PlayWords, WordsNo>
+    ensures { Answers (play_of (first_value (found_of matches.now) (codes "connect")) (first_value (found_of matches.now) (codes "game"))
+        (first_value (found_of matches.now) (codes "match")) (first_value (found_of matches.now) (codes "seat")) (first_value (found_of matches.now) (codes "key"))) result }
+{
+    let connect = matches.get_str("connect").ok_or(WordsNo::Usage)?;
+    let game = matches.get_str("game").ok_or(WordsNo::Usage)?;
+    let name = matches.get_str("match").ok_or(WordsNo::Usage)?;
+    let name = match_of(name).ok_or(WordsNo::Usage)?;
+    let viewer = viewer_of(matches.get_str("seat"), matches.get_str("key")).ok_or(WordsNo::Usage)?;
+    let connect = Text::from_str(alloc, connect)?;
+    let game = game_of(alloc, game)?;
+    Ok(PlayWords {
+        connect,
+        game,
+        name,
+        viewer,
+    })
+}
+
+/// The game of this name.
+fn game_of(alloc: Global, name: &str) -> Result<AnyGame, WordsNo>
+    ensures { Answers (named name.now) result }
+{
+    match by_name(alloc, name) {
+        Ok(Some(game)) => Ok(game),
+        Ok(None) => Err(WordsNo::Usage),
+        Err(_) => Err(WordsNo::NoMemory),
+    }
+}
+
+/// Who looks; none where the seat or the key is in no form, or one of them isn't said.
+fn viewer_of(seat: Option<&str>, key: Option<&str>) -> Option<Viewer>
+    ensures { result ≡ viewer_from (option_map (λ text. text.now) seat.entry) (option_map (λ text. text.now) key.entry) }
+{
+    match (seat, key) {
+        (None, None) => Some(None),
+        (Some(seat), Some(key)) => {
+            let seat = seat_of(seat)?;
+            let key = key_of(key)?;
+            Some(Some((seat, key)))
+        }
+        _ => None,
+    }
+}
+
+fn seat_of(word: &str) -> Option<Seat>
+    ensures { result ≡ seat_from word.now }
+{
+    let seat = decimal_of(word)?;
+    if seat < 16 { Some(seat as u8) } else { None }
+}

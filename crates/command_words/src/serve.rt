@@ -1,0 +1,84 @@
+//! The words of `serve`: where it listens, and how many rooms, workers and sessions it has.
+
+ghost use Rattle.std.specs.Prelude.{◌≡◌, IfOk, codes, map, string_bytes};
+ghost use Rattle.clap.specs.Words.{FailsBy, HasMatchesOf, fault_of, first_value, found_of};
+ghost use Rattle.command_words.specs.Answers.{Answers};
+ghost use Rattle.command_words.specs.Serve.{serve_app, serve_from, serve_of};
+
+use crate::numbers::number_or;
+use crate::words_no::{WordsNo, word_of};
+use clap::{Arg, ArgAction, ArgMatches, Command, Error};
+use game_sheet::Text;
+use std::alloc::Global;
+
+/// What `serve` is asked for.
+#[derive(Drop)]
+pub struct ServeWords {
+    /// Where it listens, as an address and a port.
+    pub listen: Text,
+    /// How many rooms it has, 1 to 64.
+    pub rooms: u8,
+    /// How many workers serve sessions, 1 to 32.
+    pub workers: u8,
+    /// How many sessions it serves before it ends, 1 to 1,000,000.
+    pub sessions: u32,
+}
+
+/// What the words of `serve` ask for; the first word is the command's own.
+///
+/// `Usage` comes exactly where the words are in no form: an option that isn't there or stands twice, no `--listen`, or a
+/// number that has a sign or a leading zero or is out of its bounds.
+pub fn serve_words(alloc: Global, words: &[String]) -> Result<ServeWords, WordsNo>
+    ensures { Answers (serve_from (map string_bytes words.now)) result }
+{
+    match matches_of(alloc, words) {
+        Ok(matches) => words_in(alloc, &matches),
+        Err(error) => Err(word_of(&error)),
+    }
+}
+
+/// The matches of the words by `clap`.
+fn matches_of<'a>(alloc: Global, words: &'a [String]) -> Result<ArgMatches<'a>, Error>
+    ensures matches { IfOk result (HasMatchesOf serve_app (map string_bytes words.entry.now)) }
+    ensures faults { FailsBy (fault_of serve_app (map string_bytes words.entry.now)) result }
+{
+    let listen = Arg::new(alloc, "listen")
+        .long("listen")
+        .required(true)
+        .action(ArgAction::Set);
+    let rooms = Arg::new(alloc, "rooms")
+        .long("rooms")
+        .action(ArgAction::Set);
+    let workers = Arg::new(alloc, "workers")
+        .long("workers")
+        .action(ArgAction::Set);
+    let sessions = Arg::new(alloc, "sessions")
+        .long("sessions")
+        .action(ArgAction::Set);
+    let command = Command::new(alloc, "serve")
+        .arg(listen)?
+        .arg(rooms)?
+        .arg(workers)?
+        .arg(sessions)?;
+    command.try_get_matches_from(words)
+}
+
+/// What the matches ask for.
+fn words_in(alloc: Global, matches: &ArgMatches) -> Result<ServeWords, WordsNo>
+    ensures { Answers (serve_of (first_value (found_of matches.now) (codes "listen")) (first_value (found_of matches.now) (codes "rooms"))
+        (first_value (found_of matches.now) (codes "workers")) (first_value (found_of matches.now) (codes "sessions"))) result }
+{
+    let listen = matches.get_str("listen").ok_or(WordsNo::Usage)?;
+    let rooms = number_or(matches.get_str("rooms"), 1, 64, 16).ok_or(WordsNo::Usage)?;
+    let workers = number_or(matches.get_str("workers"), 1, 32, 8).ok_or(WordsNo::Usage)?;
+    let sessions = number_or(matches.get_str("sessions"), 1, 1_000_000, 1_000_000).ok_or(
+        WordsNo::Usage,
+    )?;
+    let listen = Text::from_str(alloc, listen)?;
+    Ok(ServeWords {
+        listen,
+        rooms: rooms as u8,
+        workers: workers as u8,
+        sessions,
+    })
+}
