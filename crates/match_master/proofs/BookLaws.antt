@@ -1,9 +1,13 @@
--- What the private steps of a Book come to, in the words of its history.
-use Rattle.std.proofs.Common.{◌≡◌, ℕ, ◌+◌, List, [], ◌∷◌, ◌++◌, length, map, ◌==◌, Bool, true, false, if◌then◌else◌, MatchBool, IfSome, IsSome, is_some, nat_eq, Option, Some, None, option_map, Result, Ok, Err, refl, sym, ap, ◌∙◌, subst, add-one, arith}
-use Rattle.game_trait.specs.Rules.{Rules}
+-- What an accepted action makes of a Book, in the words of its history.
+use Rattle.std.proofs.Common.{◌≡◌, ℕ, ◌+◌, List, [], ◌∷◌, ◌++◌, length, map, Bool, true, false, if◌then◌else◌, IfSome, IsSome, MatchBool, is_some, nat_eq, ◌==◌, Option, Some, None, option_map, Result, Ok, Err, refl, sym, ap, ◌∙◌, subst, add-one}
+use Rattle.indexmap.specs.IndexMap.{insert_entry}
+use Rattle.std.specs.Map.{lookup}
+use Rattle.game_sheet.specs.Viewer.{Viewer, seat_of}
 use Rattle.game_sheet.specs.declared.sheet.Sheet.{Sheet}
+use Rattle.game_trait.specs.Rules.{Rules}
 use Rattle.move_log.specs.Redact.{redact}
 use Rattle.move_log.specs.declared.entry.Entry.{Entry}
+use Rattle.phase_flow.specs.Reached.{Reached}
 use Rattle.player_sight.specs.CtxData.{ctx_data}
 use Rattle.player_sight.specs.EntryData.{entry_data}
 use Rattle.reducer.specs.Accepted.{Accepted}
@@ -11,150 +15,181 @@ use Rattle.reducer.specs.Fold.{standing as standing_at}
 use Rattle.reducer.specs.Prepared.{Coming}
 use Rattle.reducer.specs.Standing.{Standing}
 use Rattle.reducer.specs.Steps.{state_after}
-use Rattle.phase_flow.specs.Reached.{Reached}
-use Rattle.serde_json.specs.Data.{Data}
-use Rattle.wire_json.specs.ServerText.{text}
-use Rattle.wire_json.specs.declared.server.ServerMsg.TheVariants as message
-use Rattle.wire_json.specs.declared.verdict.Verdict.TheVariants as verdict
-use Rattle.match_master.specs.declared.kept.Kept.{Kept}
-use Rattle.match_master.specs.declared.reply.RoomReply.{RoomReply}
-use Rattle.match_master.specs.declared.reply.RoomReply.TheVariants as answer
-use Rattle.wire_json.specs.declared.submission.Submission.{Submission}
-use Rattle.std.proofs.lemmas.Bool.Decides.{nat_tests}
-use Rattle.indexmap.specs.IndexMap.{insert_entry}
 use Rattle.seat_roster.specs.Player.{Seats}
-use Rattle.match_master.specs.Attachment.{Attachment, begun_by}
-use Rattle.match_master.specs.Calls.{verdict_reply, admit, attach, attach_at, attach_reply, serial_and_seats}
-use Rattle.match_master.specs.Does.{Does, SubmitDoes, update_text, grown, with_accepted, after_submission, after_attach, sync_text}
-use Rattle.match_master.specs.Held.{Held, kept_of, is_starved}
+use Rattle.serde_json.specs.Data.{Data}
+use Rattle.wire_json.specs.declared.protocol.Protocol.{Protocol}
+use Rattle.wire_json.specs.declared.protocol.Protocol.TheVariants.{One, Two}
+use Rattle.wire_json.specs.declared.submission.Submission.{Submission}
+use Rattle.wire_json.specs.declared.verdict.Verdict.TheVariants as verdict
+use Rattle.player_sight.specs.Change.{gone_part, put_part}
+use Rattle.game_sheet.specs.declared.act.Bye.{Bye}
+use Rattle.room_history.specs.Held.{attachment_state, new_attachment, state_by, update_for}
+use Rattle.room_history.specs.Match.{Match, number_of, table_of}
+use Rattle.room_history.specs.Message.{Change, Message, Ok as Accepts, Update, line}
+use Rattle.room_history.specs.Outbox.{Attachment}
+use Rattle.room_history.specs.Piece.{Closed, Ended, Open, State}
+use Rattle.room_history.specs.Reply.{Goes, attached_match, fate_by, lets_in, named_match, open_match, reply_by, submit_reply}
+use Rattle.room_history.specs.Showing.{newest_entry}
+use Rattle.room_history.specs.Shown.{entry_of, log_of, snapshot}
+use Rattle.room_history.specs.Verdict.{first_reason, match_accepting}
+use Rattle.room_history.specs.declared.reply.RoomReply.{RoomReply}
+use Rattle.room_history.specs.declared.reply.RoomReply.TheVariants as answer
+use Rattle.match_master.specs.declared.running_match.RunningMatch.{RunningMatch}
+use Rattle.match_master.specs.Attached.{all_told}
+use Rattle.match_master.specs.Does.{Does, SubmitDoes, after_fate, barred_by, grown, sync_at, unless_key, with_accepted, with_attachment}
+use Rattle.match_master.specs.Held.{Held, is_starved, running_of}
 use Rattle.match_master.specs.Judged.{IsAccepted}
-use Rattle.match_master.specs.Lines.{newest, ok_line}
-use Rattle.match_master.specs.Match.{Match, number_of, table_of, entry_on, log_of}
-use Rattle.match_master.specs.Shown.{Shown, begun, tell_all}
-use Rattle.game_sheet.specs.Viewer.{Viewer, seat_of}
-use Rattle.match_master.specs.Does.{sync_of, update_of}
-use Rattle.match_master.specs.Verdict.{broken}
-use Rattle.match_master.proofs.SessionLaws.{tell_same}
+use Rattle.match_master.specs.UpdateText.{action_line, action_message, value_seen}
+use Rattle.match_master.proofs.AttachedLaws.{told_same}
 
-pub newest_last : (sheet : Sheet) (log : List Entry) (e : Entry) → newest sheet (log ++ e ∷ []) ≡ entry_data sheet e
+newest_last : (sheet : Sheet) (log : List Entry) (e : Entry) → newest_entry sheet (log ++ e ∷ []) ≡ entry_data sheet e
 newest_last sheet [] e = refl
 newest_last sheet (x ∷ []) e = refl
 newest_last sheet (x ∷ y ∷ log) e = newest_last sheet (y ∷ log) e
 
-some_kept : {A : Type 0} (a b : A) → Some a ≡ Some b → a ≡ b
-some_kept a b h = cc
+some_is : {A : Type 0} (a b : A) → Some a ≡ Some b → a ≡ b
+some_is a b h = cc
 
-none_kept : {A : Type 0} (a : A) → Some a ≡ None → ⊥
-none_kept a h = cc
+none_is : {A : Type 0} (a : A) → Some a ≡ None → ⊥
+none_is a h = cc
 
 map-last : {A B : Type 0} (f : A → B) (xs : List A) (x : A) → map f (xs ++ x ∷ []) ≡ map f xs ++ f x ∷ []
 map-last f [] x = refl
 map-last f (y ∷ xs) x = ap (λ l. f y ∷ l) (map-last f xs x)
 
 module _ {X G : Type 0} (rules : X → Rules G) where
-  -- the update on what an accepted action leads to is that of the match that has grown by it
-  update_is : (room : ℕ) (m : Match X G) (viewer : Viewer) (s : Submission) (coming : Coming G) (entry : Entry) → IsAccepted rules room m viewer s coming entry → (seat : Option ℕ)
-      → update_text (rules m.game) coming entry seat ≡ update_of rules room (record m { accepted = coming.action ∷ m.accepted }) seat
-  update_is room m viewer s coming entry i seat =
-      let n : Match X G = record m { accepted = coming.action ∷ m.accepted } in
-      let sheet : Sheet = (rules m.game).sheet in
-      let told : Reached G → Data → ℕ → List ℕ = λ t d k. text (message.Update (ctx_data sheet t.ctx) d ((rules m.game).value ((rules m.game).view t.g t.ctx seat)) k) in
-      let added : Entry = entry_on (table_of rules m) (number_of m) coming.action in
-      let last : newest sheet (map (redact sheet seat) (log_of rules m ++ added ∷ [])) ≡ entry_data sheet (redact sheet seat added)
-      = ap (newest sheet) (map-last (redact sheet seat) (log_of rules m) added) ∙ newest_last sheet (map (redact sheet seat) (log_of rules m)) (redact sheet seat added) in
-      ap (λ e. told coming.table (entry_data sheet (redact sheet seat e)) coming.number) i.entry_is
-      ∙ ap (λ t. told t (entry_data sheet (redact sheet seat added)) coming.number) i.table_is
-      ∙ ap (λ k. told (table_of rules n) (entry_data sheet (redact sheet seat added)) k) (i.number_is ∙ add-one (number_of m))
-      ∙ sym (ap (λ d. told (table_of rules n) d (number_of n)) last)
+  -- ---- an accepted action
 
-  -- the state after an accepted action is that of one action more
-  next_state : (r : Rules G) (first : Reached G) (accepted : List Accepted) (a : Accepted) → state_after r (standing_at r first accepted) a ≡ standing_at r first (a ∷ accepted)
-  next_state r first accepted a = ap (λ n. record (standing_at r first (a ∷ accepted)) { number = n }) (add-one (length accepted))
+  module _ (room : ℕ) (m : Match X G) (viewer : Viewer) (s : Submission) (coming : Coming G) (entry : Entry) (i : IsAccepted rules room m viewer s coming entry) where
+    abbrev n : Match X G
+    n = record m { accepted = coming.action ∷ m.accepted }
 
-  -- what is kept after an accepted action is what is kept of the match that has grown by it
-  grown_is : (room : ℕ) (m : Match X G) (viewer : Viewer) (s : Submission) (coming : Coming G) (entry : Entry) → IsAccepted rules room m viewer s coming entry
-      → grown rules (kept_of rules m) coming entry ≡ kept_of rules (record m { accepted = coming.action ∷ m.accepted })
-  grown_is room m viewer s coming entry i =
-      let n : Match X G = record m { accepted = coming.action ∷ m.accepted } in
-      ap (λ e. grown rules (kept_of rules m) coming e) i.entry_is
-      ∙ ap (λ (st : Standing G). let k : Kept X G = record (kept_of rules n) { state = st } in k) (next_state (rules m.game) m.first m.accepted coming.action)
+    entry_is : entry ≡ entry_of (table_of rules m) (table_of rules n) (number_of m) coming.action
+    entry_is = i.entry_is ∙ ap (λ t. entry_of (table_of rules m) t (number_of m) coming.action) i.table_is
 
-  accepted_held : (old : Held X G) (pass : ℕ) (m : Match X G) (viewer : Viewer) (s : Submission) (coming : Coming G) (entry : Entry) → IsAccepted rules old.room m viewer s coming entry
-      → with_accepted rules old (kept_of rules m) pass coming entry s.ticket ≡ after_submission rules old pass m viewer s None
-  accepted_held old pass m viewer s coming entry i =
-      let n : Match X G = record m { accepted = coming.action ∷ m.accepted } in
-      let holding : Kept X G → List (ℕ × Shown) → Held X G = λ k sessions. record old { kept = Some k; sessions = sessions } in
-      ap (λ k. holding k (tell_all pass (ok_line coming.number s.ticket) (update_text (rules m.game) coming entry) old.sessions)) (grown_is old.room m viewer s coming entry i)
-      ∙ ap (λ j. holding (kept_of rules n) (tell_all pass (ok_line j s.ticket) (update_text (rules m.game) coming entry) old.sessions)) i.number_is
-      ∙ ap (holding (kept_of rules n)) (tell_same old.sessions pass (ok_line (number_of m + 1) s.ticket) (update_text (rules m.game) coming entry) (update_of rules old.room n) (update_is old.room m viewer s coming entry i))
-      ∙ ap (λ (x : Match X G). holding (kept_of rules x) (tell_all pass (ok_line (number_of m + 1) s.ticket) (update_of rules old.room x) old.sessions)) (sym i.match_is)
+    -- what is told of the action is told by the snapshot after it
+    told_by : (seat : Option ℕ) (tell : Reached G → Data → ℕ → Message)
+        → tell coming.table (entry_data (rules m.game).sheet (redact (rules m.game).sheet seat entry)) coming.number ≡ tell (table_of rules n) (newest_entry (rules m.game).sheet (snapshot rules n seat).log) (number_of n)
+    told_by seat tell =
+        let sheet : Sheet = (rules m.game).sheet in
+        let added : Entry = entry_of (table_of rules m) (table_of rules n) (number_of m) coming.action in
+        let last : newest_entry sheet (map (redact sheet seat) (log_of rules m ++ added ∷ [])) ≡ entry_data sheet (redact sheet seat added)
+        = ap (newest_entry sheet) (map-last (redact sheet seat) (log_of rules m) added) ∙ newest_last sheet (map (redact sheet seat) (log_of rules m)) (redact sheet seat added) in
+        ap (λ e. tell coming.table (entry_data sheet (redact sheet seat e)) coming.number) entry_is
+        ∙ ap (λ t. tell t (entry_data sheet (redact sheet seat added)) coming.number) i.table_is
+        ∙ ap (tell (table_of rules n) (entry_data sheet (redact sheet seat added))) (i.number_is ∙ add-one (number_of m))
+        ∙ sym (ap (λ d. tell (table_of rules n) d (number_of n)) last)
 
-  accept_does : (old : Held X G) (pass : ℕ) (m : Match X G) (viewer : Viewer) (s : Submission) (coming : Coming G) (entry : Entry) (reply : RoomReply) (new : Held X G) → IsAccepted rules old.room m viewer s coming entry
-      → Does old reply new (answer.Verdict (verdict.Ok coming.number)) (with_accepted rules old (kept_of rules m) pass coming entry s.ticket)
-      → Does old reply new (verdict_reply (number_of m) (broken rules old.room m viewer s)) (after_submission rules old pass m viewer s (broken rules old.room m viewer s))
-  accept_does old pass m viewer s coming entry reply new i d =
-      subst (λ o. Does old reply new (verdict_reply (number_of m) o) (after_submission rules old pass m viewer s o)) (sym i.unbroken)
-      (subst (λ h. Does old reply new (answer.Verdict (verdict.Ok (number_of m + 1))) h) (accepted_held old pass m viewer s coming entry i)
-      (subst (λ n. Does old reply new (answer.Verdict (verdict.Ok n)) (with_accepted rules old (kept_of rules m) pass coming entry s.ticket)) i.number_is d))
+    message_is : (seat : Option ℕ) (protocol : Protocol) → action_message (rules m.game) (running_of rules m).state coming entry seat protocol ≡ update_for rules m n seat protocol
+    message_is seat One = told_by seat (λ t d k. Update (ctx_data (rules m.game).sheet t.ctx) d (value_seen (rules m.game) t seat) k)
+    message_is seat Two = told_by seat (λ t d k.
+        Change (put_part (ctx_data (rules m.game).sheet (table_of rules m).ctx) (ctx_data (rules m.game).sheet t.ctx)) d
+        (gone_part (value_seen (rules m.game) (table_of rules m) seat) (value_seen (rules m.game) t seat)) (put_part (value_seen (rules m.game) (table_of rules m) seat) (value_seen (rules m.game) t seat)) k (number_of m))
 
-  -- an accepted submission, whatever match stands
-  pub submit_does : (old : Held X G) (pass : ℕ) (k : Kept X G) (viewer : Viewer) (s : Submission) (coming : Coming G) (entry : Entry) (reply : RoomReply) (new : Held X G) (standing : Option (Match X G))
-      → old.kept ≡ Some k → old.kept ≡ option_map (kept_of rules) standing → ((m : Match X G) → k ≡ kept_of rules m → IsAccepted rules old.room m viewer s coming entry)
-      → IfSome old.kept (λ held. Does old reply new (answer.Verdict (verdict.Ok coming.number)) (with_accepted rules old held pass coming entry s.ticket))
+    -- the state after an accepted action is that of one action more
+    next_state : (r : Rules G) (first : Reached G) (accepted : List Accepted) (a : Accepted) → state_after r (standing_at r first accepted) a ≡ standing_at r first (a ∷ accepted)
+    next_state r first accepted a = ap (λ k. record (standing_at r first (a ∷ accepted)) { number = k }) (add-one (length accepted))
+
+    grown_is : grown rules (running_of rules m) coming entry ≡ running_of rules n
+    grown_is =
+        ap (grown rules (running_of rules m) coming) entry_is
+        ∙ ap (λ (st : Standing G). let k : RunningMatch X G = record (running_of rules n) { state = st } in k) (next_state (rules m.game) m.first m.accepted coming.action)
+
+    accepted_held : (old : Held X G) (pass : ℕ) → with_accepted rules old (running_of rules m) pass coming entry s.ticket ≡ after_fate rules old pass s.ticket m (Goes (match_accepting rules m viewer s))
+    accepted_held old pass =
+        let holding : RunningMatch X G → List (ℕ × Attachment) → Held X G = λ k attachments. record old { running = Some k; attachments = attachments } in
+        ap (λ k. holding k (all_told pass (line (Accepts coming.number s.ticket)) (action_line (rules m.game) (running_of rules m).state coming entry) old.attachments)) grown_is
+        ∙ ap (λ j. holding (running_of rules n) (all_told pass (line (Accepts j s.ticket)) (action_line (rules m.game) (running_of rules m).state coming entry) old.attachments)) i.number_is
+        ∙ ap (holding (running_of rules n))
+        (told_same old.attachments pass (line (Accepts (number_of m + 1) s.ticket)) (action_line (rules m.game) (running_of rules m).state coming entry) (λ seat protocol. line (update_for rules m n seat protocol)) (λ seat protocol. ap line (message_is seat protocol)))
+        ∙ ap (λ (x : Match X G). after_fate rules old pass s.ticket m (Goes x)) (sym i.match_is)
+
+    reply_is : answer.Verdict (verdict.Ok coming.number) ≡ submit_reply (Goes (match_accepting rules m viewer s))
+    reply_is =
+        ap (λ k. answer.Verdict (verdict.Ok k)) (i.number_is ∙ add-one (number_of m))
+        ∙ ap (λ (x : Match X G). answer.Verdict (verdict.Ok (number_of x))) (sym i.match_is)
+
+    accept_does : (old : Held X G) → old.room ≡ room → (pass : ℕ) (reply : RoomReply) (new : Held X G)
+        → Does old reply new (answer.Verdict (verdict.Ok coming.number)) (with_accepted rules old (running_of rules m) pass coming entry s.ticket)
+        → Does old reply new (submit_reply (fate_by rules room m viewer s (first_reason rules room m viewer s))) (after_fate rules old pass s.ticket m (fate_by rules room m viewer s (first_reason rules room m viewer s)))
+    accept_does old same pass reply new d =
+        subst (λ o. Does old reply new (submit_reply (fate_by rules room m viewer s o)) (after_fate rules old pass s.ticket m (fate_by rules room m viewer s o))) (sym i.unbroken)
+        (subst (λ h. Does old reply new (submit_reply (Goes (match_accepting rules m viewer s))) h) (accepted_held old pass)
+        (subst (λ r. Does old reply new r (with_accepted rules old (running_of rules m) pass coming entry s.ticket)) reply_is d))
+
+  -- whatever match stands
+  pub submit_does : (old : Held X G) (pass : ℕ) (k : RunningMatch X G) (viewer : Viewer) (s : Submission) (coming : Coming G) (entry : Entry) (reply : RoomReply) (new : Held X G) (standing : Option (Match X G))
+      → old.running ≡ Some k → old.running ≡ option_map (running_of rules) standing → ((m : Match X G) → k ≡ running_of rules m → IsAccepted rules old.room m viewer s coming entry)
+      → IfSome old.running (λ held. Does old reply new (answer.Verdict (verdict.Ok coming.number)) (with_accepted rules old held pass coming entry s.ticket))
       → SubmitDoes rules old pass s reply new (Some viewer) standing
-  submit_does old pass k viewer s coming entry reply new None e h i d = absurd (none_kept k (sym e ∙ h))
+  submit_does old pass k viewer s coming entry reply new None e h i d = absurd (none_is k (sym e ∙ h))
   submit_does old pass k viewer s coming entry reply new (Some m) e h i d =
-      accept_does old pass m viewer s coming entry reply new (i m (some_kept k (kept_of rules m) (sym e ∙ h)))
+      accept_does old.room m viewer s coming entry (i m (some_is k (running_of rules m) (sym e ∙ h))) old refl pass reply new
       (subst (λ o. IfSome o (λ held. Does old reply new (answer.Verdict (verdict.Ok coming.number)) (with_accepted rules old held pass coming entry s.ticket))) h d)
 
-  abbrev place_in : Option (Kept X G) → Option (ℕ × Seats)
-  place_in kept = option_map (λ (k : Kept X G). (k.serial, k.roster)) kept
+  -- ---- who is let in
 
-  seats_kept : (st : Option (Match X G)) → place_in (option_map (kept_of rules) st) ≡ serial_and_seats st
-  seats_kept None = refl
-  seats_kept (Some m) = refl
+  abbrev place_in : Option (RunningMatch X G) → Option (ℕ × Seats)
+  place_in running = option_map (λ (r : RunningMatch X G). (r.serial, r.roster)) running
 
-  nobody : (at : Option Attachment) (serial : ℕ) (viewer v : Viewer) → attach_at None at serial viewer ≡ Ok v → ⊥
-  nobody None serial viewer v e = cc
-  nobody (Some a) serial viewer v e = cc
+  -- the match that a viewer is let in to, unless there is a reason not to
+  abbrev let_in_to : Option (Match X G) → Option RoomReply → Result (Match X G) RoomReply
+  let_in_to st (Some why) = Err why
+  let_in_to None None = Err answer.NoMatch
+  let_in_to (Some m) None = Ok m
 
-  one_serial : (n serial : ℕ) (b : Bool) → (n == serial) ≡ b → (r : Result Viewer RoomReply) (v : Viewer) → (if b then r else Err answer.NoMatch) ≡ Ok v → n ≡ serial
-  one_serial n serial true e r v h = grind (arith, nat_tests)
-  one_serial n serial false e r v h = cc
+  place_of : (st : Option (Match X G)) → place_in (option_map (running_of rules) st) ≡ option_map (λ (m : Match X G). (m.serial, m.roster)) st
+  place_of None = refl
+  place_of (Some m) = refl
 
-  serial_is : (m : Match X G) (at : Option Attachment) (serial : ℕ) (viewer v : Viewer) → attach (Some m) at serial viewer ≡ Ok v → m.serial ≡ serial
-  serial_is m None serial viewer v e = one_serial m.serial serial (m.serial == serial) refl (admit m.roster viewer) v e
-  serial_is m (Some a) serial viewer v e = cc
+  ended_or_not : (st : Option (Match X G)) (end : Option Bye) (serial : ℕ) (viewer : Viewer) → attached_match st (state_by end) serial viewer ≡ Err answer.AlreadyAttached
+  ended_or_not st None serial viewer = refl
+  ended_or_not st (Some why) serial viewer = refl
 
-  -- an Attach is let in to a match that is kept
-  pub is_kept : (kept : Option (Kept X G)) (at : Option Attachment) (serial : ℕ) (viewer v : Viewer) → attach_at (place_in kept) at serial viewer ≡ Ok v → IsSome kept
-  is_kept None at serial viewer v e = absurd (nobody at serial viewer v e)
-  is_kept (Some k) at serial viewer v e = refl
+  by_key : (m : Match X G) (b : Bool) → (if b then Ok m else Err answer.Unauthorized) ≡ let_in_to (Some m) (unless_key b)
+  by_key m true = refl
+  by_key m false = refl
 
-  attach_as : (old : Held X G) (at : Option Attachment) (serial : ℕ) (viewer : Viewer) (st : Option (Match X G)) → old.kept ≡ option_map (kept_of rules) st → attach_at (place_in old.kept) at serial viewer ≡ attach st at serial viewer
-  attach_as old at serial viewer st h = ap (λ o. attach_at (place_in o) at serial viewer) h ∙ ap (λ p. attach_at p at serial viewer) (seats_kept st)
+  by_serial : (m : Match X G) (viewer : Viewer) (b : Bool) → open_match viewer (if b then Ok m else Err answer.NoMatch) ≡ let_in_to (Some m) (if b then unless_key (lets_in m.roster viewer) else Some answer.NoMatch)
+  by_serial m viewer true = by_key m (lets_in m.roster viewer)
+  by_serial m viewer false = refl
 
-  pub let_in : (old : Held X G) (pass serial : ℕ) (viewer : Viewer) (reply : RoomReply) (new : Held X G) (at : Option Attachment) (st : Option (Match X G)) → old.kept ≡ option_map (kept_of rules) st
-      → attach_at (place_in old.kept) at serial viewer ≡ Ok viewer
-      → IfSome old.kept (λ k. Does old reply new answer.Attached (record old { sessions = insert_entry nat_eq old.sessions pass (begun (begun_by viewer k.serial) (sync_text rules old.room k (seat_of viewer))) }))
-      → Does old reply new (attach_reply (attach st at serial viewer)) (after_attach rules old pass serial st (attach st at serial viewer))
-  let_in old pass serial viewer reply new at None h e d = absurd (nobody at serial viewer viewer (sym (attach_as old at serial viewer None h) ∙ e))
-  let_in old pass serial viewer reply new at (Some m) h e d =
-      let admitted : attach (Some m) at serial viewer ≡ Ok viewer = sym (attach_as old at serial viewer (Some m) h) ∙ e in
-      subst (λ r. Does old reply new (attach_reply r) (after_attach rules old pass serial (Some m) r)) (sym admitted)
-      (subst (λ n. Does old reply new answer.Attached (record old { sessions = insert_entry nat_eq old.sessions pass (begun (begun_by viewer n) (sync_of rules old.room m (seat_of viewer))) }))
-      (serial_is m at serial viewer viewer admitted)
-      (subst (λ o. IfSome o (λ k. Does old reply new answer.Attached (record old { sessions = insert_entry nat_eq old.sessions pass (begun (begun_by viewer k.serial) (sync_text rules old.room k (seat_of viewer))) }))) h d))
+  attached_is : (st : Option (Match X G)) (a : Option Attachment) (serial : ℕ) (viewer : Viewer)
+      → attached_match st (attachment_state a) serial viewer ≡ let_in_to st (barred_by (place_in (option_map (running_of rules) st)) (is_some a) serial viewer)
+  attached_is st (Some a) serial viewer = ended_or_not st a.outbox.end serial viewer
+  attached_is None None serial viewer = refl
+  attached_is (Some m) None serial viewer = by_serial m viewer (m.serial == serial)
+
+  -- by the match that stands
+  attached_by : (old : Held X G) (st : Option (Match X G)) → old.running ≡ option_map (running_of rules) st → (a : Option Attachment) (serial : ℕ) (viewer : Viewer)
+      → attached_match st (attachment_state a) serial viewer ≡ let_in_to st (barred_by (place_in old.running) (is_some a) serial viewer)
+  attached_by old st e a serial viewer = attached_is st a serial viewer ∙ ap (λ r. let_in_to st (barred_by (place_in r) (is_some a) serial viewer)) (sym e)
+
+  abbrev Attaches : Held X G → ℕ → Viewer → Protocol → RoomReply → Held X G → Result (Match X G) RoomReply → Type 0
+  Attaches old pass viewer protocol reply new r = Does old reply new (reply_by (λ (m : Match X G). answer.Attached) r) (with_attachment rules old pass viewer protocol r)
 
   nothing_done : (b : Bool) (old : Held X G) (why : RoomReply) → MatchBool b (old ≡ old) ((why ≡ why) × (old ≡ old))
   nothing_done true old why = refl
   nothing_done false old why = (refl, refl)
 
-  unchanged : (old : Held X G) (pass serial : ℕ) (st : Option (Match X G)) (why : RoomReply) → Does old why old why (after_attach rules old pass serial st (Err why))
-  unchanged old pass serial None why = nothing_done (is_starved why) old why
-  unchanged old pass serial (Some m) why = nothing_done (is_starved why) old why
+  pub kept_out : (old : Held X G) (pass serial : ℕ) (viewer : Viewer) (protocol : Protocol) (why : RoomReply) (a : Option Attachment) (st : Option (Match X G)) → old.running ≡ option_map (running_of rules) st
+      → barred_by (place_in old.running) (is_some a) serial viewer ≡ Some why → Attaches old pass viewer protocol why old (attached_match st (attachment_state a) serial viewer)
+  kept_out old pass serial viewer protocol why a st e barred =
+      subst (Attaches old pass viewer protocol why old) (sym (attached_by old st e a serial viewer ∙ ap (let_in_to st) barred)) (nothing_done (is_starved why) old why)
 
-  pub kept_out : (old : Held X G) (pass serial : ℕ) (viewer : Viewer) (why : RoomReply) (at : Option Attachment) (st : Option (Match X G)) → old.kept ≡ option_map (kept_of rules) st
-      → attach_at (place_in old.kept) at serial viewer ≡ Err why → Does old why old (attach_reply (attach st at serial viewer)) (after_attach rules old pass serial st (attach st at serial viewer))
-  kept_out old pass serial viewer why at st h e =
-      subst (λ r. Does old why old (attach_reply r) (after_attach rules old pass serial st r)) (sym e ∙ attach_as old at serial viewer st h) (unchanged old pass serial st why)
+  nobody : (b : Bool) (serial : ℕ) (viewer : Viewer) → barred_by None b serial viewer ≡ None → ⊥
+  nobody true serial viewer h = cc
+  nobody false serial viewer h = cc
+
+  pub is_there : (running : Option (RunningMatch X G)) (b : Bool) (serial : ℕ) (viewer : Viewer) → barred_by (place_in running) b serial viewer ≡ None → IsSome running
+  is_there None b serial viewer h = absurd (nobody b serial viewer h)
+  is_there (Some r) b serial viewer h = refl
+
+  pub let_in : (old : Held X G) (pass serial : ℕ) (viewer : Viewer) (protocol : Protocol) (reply : RoomReply) (new : Held X G) (a : Option Attachment) (st : Option (Match X G)) → old.running ≡ option_map (running_of rules) st
+      → barred_by (place_in old.running) (is_some a) serial viewer ≡ None
+      → IfSome old.running (λ r. Does old reply new answer.Attached (record old { attachments = insert_entry nat_eq old.attachments pass (sync_at rules old.room r viewer protocol) }))
+      → Attaches old pass viewer protocol reply new (attached_match st (attachment_state a) serial viewer)
+  let_in old pass serial viewer protocol reply new a None e free d = absurd (nobody (is_some a) serial viewer (sym (ap (λ r. barred_by (place_in r) (is_some a) serial viewer) e) ∙ free))
+  let_in old pass serial viewer protocol reply new a (Some m) e free d =
+      subst (Attaches old pass viewer protocol reply new) (sym (attached_by old (Some m) e a serial viewer ∙ ap (let_in_to (Some m)) free))
+      (subst (λ o. IfSome o (λ r. Does old reply new answer.Attached (record old { attachments = insert_entry nat_eq old.attachments pass (sync_at rules old.room r viewer protocol) }))) e d)

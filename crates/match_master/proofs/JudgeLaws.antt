@@ -1,10 +1,10 @@
 -- What the answer of a step says of a submission, and that a resolved act is in its sheet.
-use Rattle.std.proofs.Common.{◌≡◌, ◌<◌, ℕ, nat_lt, List, ◌∷◌, length, position, Bool, true, false, if◌then◌else◌, Option, Some, None, option_map, refl, sym, ap, ◌∙◌, subst, arith}
+use Rattle.std.proofs.Common.{◌≡◌, ◌<◌, ◌≤◌, ◌+◌, ◌-◌, ◌%◌, ◌^◌, min, ℕ, nat_lt, List, ◌∷◌, length, position, Bool, true, false, if◌then◌else◌, Option, Some, None, option_map, refl, sym, ap, ◌∙◌, subst, arith}
 use Rattle.std.specs.List.{position_or_len}
 use Rattle.std.proofs.lemmas.Bool.Decides.{nat_tests}
 use Rattle.std.specs.Str.{bytes_eq}
 use Rattle.game_sheet.specs.declared.act.Act.{Act}
-use Rattle.game_sheet.specs.declared.act.Act.TheVariants.{Move, Event}
+use Rattle.game_sheet.specs.declared.act.Act.TheVariants.{Move, Event, Undo, Redo}
 use Rattle.game_sheet.specs.declared.args.Arg.{Arg}
 use Rattle.game_sheet.specs.declared.act.Event.{Event as Happening}
 use Rattle.game_sheet.specs.declared.act.Event.TheVariants.{SetPhase, SetStage}
@@ -25,12 +25,20 @@ use Rattle.wire_json.specs.declared.asked.Asked.TheVariants as asked
 use Rattle.wire_json.specs.declared.asked.AskedTo.{AskedTo}
 use Rattle.wire_json.specs.declared.asked.AskedTo.TheVariants as to
 use Rattle.wire_json.specs.declared.submission.Submission.{Submission}
-use Rattle.match_master.specs.declared.kept.Kept.{Kept}
-use Rattle.match_master.specs.Held.{kept_of}
-use Rattle.match_master.specs.Judged.{IsAccepted}
-use Rattle.match_master.specs.Match.{Match, number_of, table_of, entry_on}
+use Rattle.phase_flow.specs.Action.{acted, come_to, once, words_from}
+use Rattle.phase_flow.specs.Reached.{Reached, table_of as table_at}
+use Rattle.phase_flow.specs.Step.{At, Ends, Step}
+use Rattle.reducer.specs.Answer.{refusal}
+use Rattle.reducer.specs.Fold.{fold, standing as standing_at}
+use Rattle.reducer.specs.Folded.{unless_refused}
+use Rattle.reducer.specs.Steps.{state_after}
 use Rattle.game_sheet.specs.Viewer.{Viewer, seat_of}
-use Rattle.match_master.specs.Verdict.{broken, public_broken, game_broken, with_act, answered, or_else, reason_of}
+use Rattle.room_history.specs.Match.{Match, number_of, table_of}
+use Rattle.room_history.specs.Shown.{entry_of, words_drawn}
+use Rattle.room_history.specs.Verdict.{first_reason, public_reason, game_reason, with_act, game_rule, else_reason, reason_of}
+use Rattle.match_master.specs.declared.running_match.RunningMatch.{RunningMatch}
+use Rattle.match_master.specs.Held.{running_of}
+use Rattle.match_master.specs.Judged.{IsAccepted, entry_at}
 
 chosen : (b : Bool) (n i : ℕ) → (if b then Some n else None) ≡ Some i → (b ≡ true) × (n ≡ i)
 chosen true n i h = (refl, cc)
@@ -97,46 +105,80 @@ all_in_sheet sheet asked.Redo = tt
 pub act_in_sheet : (sheet : Sheet) (a : Asked) (act : Act) → act_of sheet a ≡ Some act → ActInSheet sheet act
 act_in_sheet sheet a act h = subst (SomeInSheet sheet) h (all_in_sheet sheet a)
 
+-- ---- an action draws few words
+
+place_few : (p d : ℕ) → d ≤ 256 → (p + d) % 2 ^ 64 - p ≤ 256
+place_few p d h = omega arith
+
+step_few : {G : Type 0} → (before : Reached G) (step : Step G) → refusal (come_to before.seed before.place step) ≡ None → (unless_refused before (come_to before.seed before.place step)).place - before.place ≤ 256
+step_few before (At t left tasks after) h = place_few before.place (256 - length left) (omega arith)
+step_few before (Ends rule) h = cc
+
+drawn_few : {G : Type 0} → (rules : Rules G) (before : Reached G) (seat : ℕ) (act : Act) → refusal (once rules before seat act) ≡ None → (unless_refused before (once rules before seat act)).place - before.place ≤ 256
+unfolding once
+drawn_few rules before seat act h = step_few before (acted rules (table_at before) seat act (words_from before.seed before.place)) h
+
+min_few : (n : ℕ) → n ≤ 256 → min n 256 ≡ n
+min_few n h = omega arith
+
+words_are : {G : Type 0} → (rules : Rules G) (first : Reached G) (accepted : List Accepted) (coming : Coming G) (seat : ℕ) (act : Act) → coming.action ≡ record { seat = seat; act = act }
+    → IsReady rules (standing_at rules first accepted) coming
+    → min (words_drawn act (fold rules first accepted).place coming.table.place) 256 ≡ words_drawn act (fold rules first accepted).place coming.table.place
+words_are rules first accepted coming seat Undo a ready = refl
+words_are rules first accepted coming seat Redo a ready = refl
+words_are {G} rules first accepted coming seat (Move id args) a ready =
+    let now : Reached G = fold rules first accepted in
+    let table : coming.table ≡ unless_refused now (once rules now seat (Move id args)) = ready.table ∙ ap (λ (d : Accepted). (state_after rules (standing_at rules first accepted) d).table) a in
+    let unrefused : refusal (once rules now seat (Move id args)) ≡ None = subst (λ (d : Accepted). answer_on rules (standing_at rules first accepted) d.seat d.act ≡ None) a ready.accepted in
+    min_few (coming.table.place - now.place) (subst (λ (t : Reached G). t.place - now.place ≤ 256) (sym table) (drawn_few rules now seat (Move id args) unrefused))
+words_are {G} rules first accepted coming seat (Event event) a ready =
+    let now : Reached G = fold rules first accepted in
+    let table : coming.table ≡ unless_refused now (once rules now seat (Event event)) = ready.table ∙ ap (λ (d : Accepted). (state_after rules (standing_at rules first accepted) d).table) a in
+    let unrefused : refusal (once rules now seat (Event event)) ≡ None = subst (λ (d : Accepted). answer_on rules (standing_at rules first accepted) d.seat d.act ≡ None) a ready.accepted in
+    min_few (coming.table.place - now.place) (subst (λ (t : Reached G). t.place - now.place ≤ 256) (sym table) (drawn_few rules now seat (Event event) unrefused))
+
 module _ {X G : Type 0} (rules : X → Rules G) (room : ℕ) where
   with_deed : (m : Match X G) (viewer : Option ℕ) (o : Option Act) (seat : ℕ) (act : Act) → viewer ≡ Some seat → o ≡ Some act → with_act rules m viewer o ≡ record m { accepted = record { seat = seat; act = act } ∷ m.accepted }
   with_deed m viewer o seat act p q = rw (p, q) refl
 
-  answered_is : (m : Match X G) (viewer : Option ℕ) (o : Option Act) (seat : ℕ) (act : Act) → viewer ≡ Some seat → o ≡ Some act → answered rules m viewer o ≡ answer_on (rules m.game) (kept_of rules m).state seat act
-  answered_is m viewer o seat act p q = rw (p, q) refl
+  rule_is : (m : Match X G) (viewer : Option ℕ) (o : Option Act) (seat : ℕ) (act : Act) → viewer ≡ Some seat → o ≡ Some act → game_rule rules m viewer o ≡ answer_on (rules m.game) (running_of rules m).state seat act
+  rule_is m viewer o seat act p q = rw (p, q) refl
 
   game_is : (m : Match X G) (viewer : Viewer) (s : Submission) (seat : ℕ) (act : Act) (r : Option GameRule) → seat_of viewer ≡ Some seat → act_of (rules m.game).sheet s.asked ≡ Some act
-      → answer_on (rules m.game) (kept_of rules m).state seat act ≡ r → public_broken rules room m viewer s ≡ None → broken rules room m viewer s ≡ option_map reason_of r
+      → answer_on (rules m.game) (running_of rules m).state seat act ≡ r → public_reason rules room m viewer s ≡ None → first_reason rules room m viewer s ≡ option_map reason_of r
   game_is m viewer s seat act r p q h n =
-      ap (λ b. or_else b (game_broken rules m viewer s)) n ∙ ap (option_map reason_of) (answered_is m (seat_of viewer) (act_of (rules m.game).sheet s.asked) seat act p q ∙ h)
+      ap (λ b. else_reason b (game_reason rules m viewer s)) n ∙ ap (option_map reason_of) (rule_is m (seat_of viewer) (act_of (rules m.game).sheet s.asked) seat act p q ∙ h)
 
   pub accepted_is : (m : Match X G) (viewer : Viewer) (s : Submission) (seat : ℕ) (act : Act) (coming : Coming G) (entry : Entry) → seat_of viewer ≡ Some seat → act_of (rules m.game).sheet s.asked ≡ Some act
-      → coming.action ≡ record { seat = seat; act = act } → IsReady (rules m.game) (kept_of rules m).state coming → entry ≡ entry_on (table_of rules m) (number_of m) (record { seat = seat; act = act })
-      → public_broken rules room m viewer s ≡ None → IsAccepted rules room m viewer s coming entry
+      → coming.action ≡ record { seat = seat; act = act } → IsReady (rules m.game) (running_of rules m).state coming → entry ≡ entry_at (running_of rules m).state coming.table.place (record { seat = seat; act = act })
+      → public_reason rules room m viewer s ≡ None → IsAccepted rules room m viewer s coming entry
   accepted_is m viewer s seat act coming entry p q a ready e n =
       let deed : Accepted = record { seat = seat; act = act } in
-      let unrefused : answer_on (rules m.game) (kept_of rules m).state seat act ≡ None = subst (λ (d : Accepted). answer_on (rules m.game) (kept_of rules m).state d.seat d.act ≡ None) a ready.accepted in
+      let unrefused : answer_on (rules m.game) (running_of rules m).state seat act ≡ None = subst (λ (d : Accepted). answer_on (rules m.game) (running_of rules m).state d.seat d.act ≡ None) a ready.accepted in
       record {
         unbroken = game_is m viewer s seat act None p q unrefused n;
         match_is = with_deed m (seat_of viewer) (act_of (rules m.game).sheet s.asked) seat act p q ∙ ap (λ (d : Accepted). let n : Match X G = record m { accepted = d ∷ m.accepted } in n) (sym a);
         number_is = ready.number;
         table_is = ready.table;
-        entry_is = e ∙ ap (entry_on (table_of rules m) (number_of m)) (sym a);
+        entry_is = e
+            ∙ ap (λ n. let x : Entry = record { seat = seat; act = act; hidden = false; number = number_of m; turn = (table_of rules m).ctx.turn; phase = (table_of rules m).ctx.phase; words = n } in x) (words_are (rules m.game) m.first m.accepted coming seat act a ready)
+            ∙ ap (entry_of (table_of rules m) coming.table (number_of m)) (sym a);
       }
 
   -- the same, of what is kept of the match
-  pub accepted_at : (m : Match X G) (kept : Kept X G) → kept_of rules m ≡ kept → (viewer : Viewer) (s : Submission) (seat : ℕ) (act : Act) (coming : Coming G) (entry : Entry) → seat_of viewer ≡ Some seat
-      → act_of (rules kept.game).sheet s.asked ≡ Some act → coming.action ≡ record { seat = seat; act = act } → IsReady (rules kept.game) kept.state coming
-      → entry ≡ entry_on kept.state.table kept.state.number (record { seat = seat; act = act }) → public_broken rules room m viewer s ≡ None → IsAccepted rules room m viewer s coming entry
-  accepted_at m kept e =
-      subst (λ (k : Kept X G). (viewer : Viewer) (s : Submission) (seat : ℕ) (act : Act) (coming : Coming G) (entry : Entry) → seat_of viewer ≡ Some seat
+  pub accepted_at : (m : Match X G) (running : RunningMatch X G) → running_of rules m ≡ running → (viewer : Viewer) (s : Submission) (seat : ℕ) (act : Act) (coming : Coming G) (entry : Entry) → seat_of viewer ≡ Some seat
+      → act_of (rules running.game).sheet s.asked ≡ Some act → coming.action ≡ record { seat = seat; act = act } → IsReady (rules running.game) running.state coming
+      → entry ≡ entry_at running.state coming.table.place (record { seat = seat; act = act }) → public_reason rules room m viewer s ≡ None → IsAccepted rules room m viewer s coming entry
+  accepted_at m running e =
+      subst (λ (k : RunningMatch X G). (viewer : Viewer) (s : Submission) (seat : ℕ) (act : Act) (coming : Coming G) (entry : Entry) → seat_of viewer ≡ Some seat
       → act_of (rules k.game).sheet s.asked ≡ Some act → coming.action ≡ record { seat = seat; act = act } → IsReady (rules k.game) k.state coming
-      → entry ≡ entry_on k.state.table k.state.number (record { seat = seat; act = act }) → public_broken rules room m viewer s ≡ None → IsAccepted rules room m viewer s coming entry) e
+      → entry ≡ entry_at k.state coming.table.place (record { seat = seat; act = act }) → public_reason rules room m viewer s ≡ None → IsAccepted rules room m viewer s coming entry) e
       (λ viewer s seat act coming entry. accepted_is m viewer s seat act coming entry)
 
   -- the game's refusal, of what is kept of the match
-  pub refused_at : (m : Match X G) (kept : Kept X G) → kept_of rules m ≡ kept → (viewer : Viewer) (s : Submission) (seat : ℕ) (act : Act) (r : GameRule) → seat_of viewer ≡ Some seat
-      → act_of (rules kept.game).sheet s.asked ≡ Some act → answer_on (rules kept.game) kept.state seat act ≡ Some r → public_broken rules room m viewer s ≡ None → broken rules room m viewer s ≡ Some (reason_of r)
-  refused_at m kept e =
-      subst (λ (k : Kept X G). (viewer : Viewer) (s : Submission) (seat : ℕ) (act : Act) (r : GameRule) → seat_of viewer ≡ Some seat
-      → act_of (rules k.game).sheet s.asked ≡ Some act → answer_on (rules k.game) k.state seat act ≡ Some r → public_broken rules room m viewer s ≡ None → broken rules room m viewer s ≡ Some (reason_of r)) e
+  pub refused_at : (m : Match X G) (running : RunningMatch X G) → running_of rules m ≡ running → (viewer : Viewer) (s : Submission) (seat : ℕ) (act : Act) (r : GameRule) → seat_of viewer ≡ Some seat
+      → act_of (rules running.game).sheet s.asked ≡ Some act → answer_on (rules running.game) running.state seat act ≡ Some r → public_reason rules room m viewer s ≡ None → first_reason rules room m viewer s ≡ Some (reason_of r)
+  refused_at m running e =
+      subst (λ (k : RunningMatch X G). (viewer : Viewer) (s : Submission) (seat : ℕ) (act : Act) (r : GameRule) → seat_of viewer ≡ Some seat
+      → act_of (rules k.game).sheet s.asked ≡ Some act → answer_on (rules k.game) k.state seat act ≡ Some r → public_reason rules room m viewer s ≡ None → first_reason rules room m viewer s ≡ Some (reason_of r)) e
       (λ viewer s seat act r p q h n. game_is m viewer s seat act (Some r) p q h n)

@@ -1,19 +1,19 @@
 //! The judgment of a submission.
 
-ghost use Rattle.std.specs.Prelude.{◌≡◌, ◌≤◌, IfOk, Option, None, true};
+ghost use Rattle.std.specs.Prelude.{◌≡◌, ◌≤◌, IfOk, Option, None, true, min};
 ghost use Rattle.reducer.specs.Sound.{IsSound};
-ghost use Rattle.match_master.specs.Match.{Match, entry_on};
-ghost use Rattle.match_master.specs.Admitted.{IsAdmitted};
-ghost use Rattle.match_master.specs.Held.{kept_of};
-ghost use Rattle.match_master.specs.Rule.{public};
-ghost use Rattle.match_master.specs.Judged.{IsJudged, JudgedReady};
-ghost use Rattle.match_master.specs.Verdict.{reason_of, is_named, public_broken};
-ghost use Rattle.match_master.specs.Viewer.{fits};
+ghost use Rattle.room_history.specs.Match.{Match};
+ghost use Rattle.room_history.specs.Rule.{public, has_key};
+ghost use Rattle.room_history.specs.Shown.{words_drawn};
+ghost use Rattle.room_history.specs.Verdict.{reason_of, is_named, public_reason};
+ghost use Rattle.room_history.proofs.RuleLaws.{IsAdmitted};
+ghost use Rattle.match_master.specs.Held.{running_of};
+ghost use Rattle.match_master.specs.Judged.{IsJudged, JudgedReady, entry_at};
 ghost use Rattle.game_sheet.specs.Viewer.{seat_of};
 ghost use Rattle.wire_json.specs.Resolve.{act_of};
 
-use crate::kept::Kept;
 use crate::rule::{Request, rule_for};
+use crate::running_match::RunningMatch;
 use game_sheet::{Act, GameNo, GameRule, Key, MatchName, NoMemory, Seat, Viewer, seat_of};
 use game_trait::Game;
 use move_log::Entry;
@@ -39,45 +39,45 @@ pub enum Judged<G> {
 pub fn judge<X: Game>(
     alloc: Global,
     room: u8,
-    kept: &Kept<X, X::G>,
+    running: &RunningMatch<X, X::G>,
     viewer: &Viewer,
     submission: &Submission,
 ) -> Result<Judged<X::G>, NoMemory>
-    requires { IsSound (X.rules kept.now.game) kept.now.state }
-    ensures ready { IfOk result (JudgedReady (X.rules kept.now.game) kept.now.state) }
-    ensures judged { IfOk result (λ judged. (m : Match X X.G) → kept.now ≡ kept_of X.rules m → IsJudged X.rules room m viewer.now submission.now judged) }
+    requires { IsSound (X.rules running.now.game) running.now.state }
+    ensures ready { IfOk result (JudgedReady (X.rules running.now.game) running.now.state) }
+    ensures judged { IfOk result (λ judged. (m : Match X X.G) → running.now ≡ running_of X.rules m → IsJudged X.rules room m viewer.now submission.now judged) }
 {
-    let act = resolve(kept.game.sheet(), &submission.asked);
-    match check(room, kept, viewer, submission, &act) {
+    let act = resolve(running.game.sheet(), &submission.asked);
+    match check(room, running, viewer, submission, &act) {
         Some(reason) => Ok(Judged::Refused(reason)),
-        None => play(alloc, room, kept, viewer, submission, act),
+        None => play(alloc, room, running, viewer, submission, act),
     }
 }
 
 /// The public rule that a submission breaks, if it breaks one, whose names stand for this action.
 fn check<X: Game>(
     room: u8,
-    kept: &Kept<X, X::G>,
+    running: &RunningMatch<X, X::G>,
     viewer: &Viewer,
     submission: &Submission,
     act: &Option<Act>,
 ) -> Option<Reason>
-    requires { act.now ≡ act_of (X.rules kept.now.game).sheet submission.now.asked }
-    ensures { result ≡ public (X.rules kept.now.game).sheet kept.now.state.table.ctx kept.now.state.number (is_named room kept.now.serial submission.now.name) (seat_of viewer.now) (fits viewer.now submission.now.key) submission.now.asked submission.now.number }
+    requires { act.now ≡ act_of (X.rules running.now.game).sheet submission.now.asked }
+    ensures { result ≡ public (X.rules running.now.game).sheet running.now.state.table.ctx running.now.state.number (is_named room running.now.serial submission.now.name) (seat_of viewer.now) (has_key viewer.now submission.now.key) submission.now.asked submission.now.number }
 {
-    let state = &kept.state;
+    let state = &running.state;
     let request = Request {
         asked: &submission.asked,
         act,
         number: submission.number,
     };
     rule_for(
-        kept.game.sheet(),
+        running.game.sheet(),
         state.ctx(),
         state.number(),
-        names(room, kept.serial, &submission.name),
+        names(room, running.serial, &submission.name),
         seat_of(viewer),
-        fits(viewer, &submission.key),
+        has_key(viewer, &submission.key),
         &request,
     )
 }
@@ -90,8 +90,8 @@ fn names(room: u8, serial: u64, name: &MatchName) -> bool
 }
 
 /// Whether a key is that of the viewer's seat; a spectator has none.
-fn fits(viewer: &Viewer, key: &Key) -> bool
-    ensures { result ≡ fits viewer.now key.now }
+fn has_key(viewer: &Viewer, key: &Key) -> bool
+    ensures { result ≡ has_key viewer.now key.now }
 {
     match viewer {
         None => false,
@@ -103,16 +103,16 @@ fn fits(viewer: &Viewer, key: &Key) -> bool
 fn play<X: Game>(
     alloc: Global,
     room: u8,
-    kept: &Kept<X, X::G>,
+    running: &RunningMatch<X, X::G>,
     viewer: &Viewer,
     submission: &Submission,
     act: Option<Act>,
 ) -> Result<Judged<X::G>, NoMemory>
-    requires resolved { act ≡ act_of (X.rules kept.now.game).sheet submission.now.asked }
-    requires sound { IsSound (X.rules kept.now.game) kept.now.state }
-    requires admitted { IsAdmitted (X.rules kept.now.game).sheet kept.now.state.table.ctx kept.now.state.number (seat_of viewer.now) submission.now.asked }
-    ensures ready { IfOk result (JudgedReady (X.rules kept.now.game) kept.now.state) }
-    ensures judged { IfOk result (λ judged. (m : Match X X.G) → kept.now ≡ kept_of X.rules m → public_broken X.rules room m viewer.now submission.now ≡ None → IsJudged X.rules room m viewer.now submission.now judged) }
+    requires resolved { act ≡ act_of (X.rules running.now.game).sheet submission.now.asked }
+    requires sound { IsSound (X.rules running.now.game) running.now.state }
+    requires admitted { IsAdmitted (X.rules running.now.game).sheet running.now.state.table.ctx running.now.state.number (seat_of viewer.now) submission.now.asked }
+    ensures ready { IfOk result (JudgedReady (X.rules running.now.game) running.now.state) }
+    ensures judged { IfOk result (λ judged. (m : Match X X.G) → running.now ≡ running_of X.rules m → public_reason X.rules room m viewer.now submission.now ≡ None → IsJudged X.rules room m viewer.now submission.now judged) }
 {
     let _room = room;
     let Some(seat) = seat_of(viewer) else {
@@ -121,9 +121,9 @@ fn play<X: Game>(
     let Some(act) = act else {
         unreachable!();
     };
-    match prepare(alloc, &kept.game, &kept.state, seat, &act) {
+    match prepare(alloc, &running.game, &running.state, seat, &act) {
         Ok(prepared) => {
-            let entry = entry_on(&kept.state, seat, act);
+            let entry = entry_of(&running.state, prepared.place(), seat, act);
             Ok(Judged::Accepted { prepared, entry })
         }
         Err(GameNo::Broken(rule)) => Ok(Judged::Refused(reason_for(rule))),
@@ -131,18 +131,28 @@ fn play<X: Game>(
     }
 }
 
-/// The log's entry of an action that is accepted on a state.
-fn entry_on<G>(state: &State<G>, seat: Seat, act: Act) -> Entry
-    ensures { result ≡ entry_on state.now.table state.now.number (record { seat = seat; act = act }) }
+/// The log's entry of an action that is accepted on a state and leads to a place in the words.
+fn entry_of<G>(state: &State<G>, after: u64, seat: Seat, act: Act) -> Entry
+    ensures { result ≡ entry_at state.now after (record { seat = seat; act = act }) }
 {
     Entry {
         seat,
+        words: words_drawn(&act, state.place(), after),
         act,
         hidden: false,
         number: state.number(),
         turn: state.ctx().turn,
         phase: state.ctx().phase,
-        words: 0,
+    }
+}
+
+/// How many words an action drew that led from one place in the words to another. It may draw 256; an undo or a redo draws none.
+fn words_drawn(act: &Act, before: u64, after: u64) -> u32
+    ensures { result ≡ min (words_drawn act.now before after) 256 }
+{
+    match act {
+        Act::Undo | Act::Redo => 0,
+        Act::Move { .. } | Act::Event(_) => after.saturating_sub(before).min(256) as u32,
     }
 }
 

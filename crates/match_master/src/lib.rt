@@ -1,21 +1,20 @@
-//! A room: one match, who is attached to it, and what each of them is sent.
+//! A room: one match, who is attached to it, and what waits for each of them.
 #![tactic(auto)]
 
+mod attaching;
+mod attachments;
 mod book;
-mod call;
 mod judge;
-mod kept;
-mod laws;
 mod line;
+mod lobby;
+mod made_lines;
 mod object;
 mod outbox;
-mod reply;
 mod rule;
-mod session;
-mod telling;
+mod running_match;
+mod staging;
+mod submitting;
 
 pub use book::Book;
-pub use call::RoomCall;
-pub use laws::{alike_sessions_are_told_the_same, sessions_are_told_by_what_they_see};
-pub use reply::RoomReply;
+pub use room_history::{RoomCall, RoomReply};
 pub use rule::public_rule;

@@ -3,14 +3,13 @@
 ghost use Rattle.std.specs.Prelude.{◌≡◌, ◌∷◌, true};
 
 use crate::book::Book;
-use crate::call::RoomCall;
-use crate::reply::RoomReply;
 use game_trait::Game;
+use room_history::{RoomCall, RoomReply};
 use room_object::Object;
 
 impl<X: Game + Drop> Object for Book<X> {
     ghost use Rattle.match_master.specs.Held.{StandsFor, is_starved, may_starve};
-    ghost use Rattle.match_master.specs.Reply.{reply};
+    ghost use Rattle.room_history.specs.Room.{reply};
 
     type Call = RoomCall<X>;
 

@@ -1,81 +1,138 @@
-//! The lines of one session until they are taken.
+//! What waits for one attachment until it is taken.
 
-ghost use Rattle.std.specs.Prelude.{◌≡◌, ◌+◌, ◌++◌, length, OnOk};
-ghost use Rattle.match_master.specs.Outgoing.{begun_with, nothing, sent};
+ghost use Rattle.std.specs.Prelude.{◌≡◌, ◌+◌, ◌≤◌, true, false, is_some, length, OnOk, IfOk};
+ghost use Rattle.std.specs.List.{concat};
+ghost use Rattle.game_sheet.specs.Lines.{is_line};
+ghost use Rattle.match_master.specs.Outgoing.{committed, emptied, unstaged, with_end, with_line, with_sync};
 
-use game_sheet::NoMemory;
+use game_sheet::{Bye, Bytes, NoMemory};
 use std::alloc::Global;
 use std::marker::Model;
 use std::mem;
+use std::sync::Arc;
 
-/// The pending output of a session with a staged tail: `prepare` replaces the tail, and `send` commits it. So a line that several sessions
-/// are told is staged at each before the first has it, and all or none are told when memory runs out. The sync line is the first that
-/// waits, and its bytes don't count as waiting.
+/// The most bytes that may wait for an attachment, its sync line not counted.
+const MOST_WAITING: usize = 4_194_304;
+
+/// The lines that wait, how many of their bytes count, and how the stream ended, if it has; and the same as it will be once what is
+/// staged is committed. So the lines of an action are staged at each attachment before the first has them, and all or none are told
+/// when memory runs out. Lines are shared with other outboxes.
 #[derive(Drop)]
 pub struct Outbox {
-    bytes: Vec<u8>,
-    sent: usize,
-    of_sync: usize,
+    lines: Vec<Arc<Vec<u8>>>,
+    waiting: usize,
+    count: usize,
+    end: Option<Bye>,
+    staged_count: usize,
+    staged_end: Option<Bye>,
 }
 
 impl Model for Outbox {
-    ghost use Rattle.std.specs.Prelude.{◌≤◌, drop, length, take};
+    ghost use Rattle.std.specs.Prelude.{◌≡◌, ◌≤◌, true, length, map, take};
+    ghost use Rattle.std.specs.List.{list_all};
+    ghost use Rattle.game_sheet.specs.Lines.{is_line};
     ghost use Rattle.match_master.specs.Outgoing.{Outgoing};
 
     ghost Value = { Outgoing };
 
-    ghost view = { λ o. record { waiting = take o.sent o.bytes.items; of_sync = o.of_sync; ready = drop o.sent o.bytes.items } };
+    ghost view = { λ o. record {
+      now = record { waiting = map (λ line. line.value.items) (take o.waiting o.lines.items); count = o.count; end = o.end };
+      next = record { waiting = map (λ line. line.value.items) o.lines.items; count = o.staged_count; end = o.staged_end };
+    } };
 
-    ghost invariant = { λ o. (o.of_sync ≤ o.sent) × (o.sent ≤ length o.bytes.items) };
+    ghost invariant = { λ o. (o.waiting ≤ length o.lines.items) × (o.count ≤ 4194304) × (o.staged_count ≤ 4194304)
+        × (list_all (λ line. is_line line.value.items) o.lines.items ≡ true) };
 }
 
 impl Outbox {
     /// An outbox in which a sync line waits.
-    pub fn with(sync: Vec<u8>) -> Self
-        ensures { result ≡ begun_with sync.items }
+    pub fn with(alloc: Global, sync: Arc<Vec<u8>>) -> Result<Self, NoMemory>
+        requires { is_line sync.value.items ≡ true }
+        ensures { IfOk result (λ o. o.now ≡ with_sync sync.value.items) }
     {
-        let length = sync.len();
-        Outbox {
-            bytes: sync,
-            sent: length,
-            of_sync: length,
-        }
+        let mut lines = Vec::new(alloc);
+        lines.push(sync)?;
+        Ok(Outbox {
+            lines,
+            waiting: 1,
+            count: 0,
+            end: None,
+            staged_count: 0,
+            staged_end: None,
+        })
     }
 
     /// How many of the bytes that wait count as waiting.
     pub fn count(&self) -> usize
-        ensures { result + self.now.of_sync ≡ length self.now.waiting }
+        ensures { result ≡ self.now.now.count }
     {
-        self.sent - self.of_sync
+        self.count
     }
 
-    /// Makes two lines ready, in place of what stood ready. Without memory nothing waits that didn't.
-    pub fn prepare(&mut self, line: &[u8], next: &[u8]) -> Result<(), NoMemory>
-        ensures waiting { self.new.waiting ≡ self.old.waiting }
-        ensures of_sync { self.new.of_sync ≡ self.old.of_sync }
-        ensures ready { OnOk result (self.new.ready ≡ line.now ++ next.now) }
+    /// How the stream ended, if it has.
+    pub fn end(&self) -> Option<Bye>
+        ensures { result ≡ self.now.now.end }
     {
-        self.bytes.truncate(self.sent);
-        self.bytes.extend_from_slice(line)?;
-        self.bytes.extend_from_slice(next)?;
+        self.end
+    }
+
+    /// Forgets what is staged.
+    pub fn unstage(&mut self)
+        ensures { self.new ≡ unstaged self.old }
+    {
+        self.lines.truncate(self.waiting);
+        self.staged_count = self.count;
+        self.staged_end = self.end;
+    }
+
+    /// Stages one more line, or, where too much would wait, the end. What waits is as before.
+    pub fn stage(&mut self, line: &Arc<Vec<u8>>) -> Result<(), NoMemory>
+        requires { is_line line.now.value.items ≡ true }
+        ensures now { self.new.now ≡ self.old.now }
+        ensures next { OnOk result (self.new.next ≡ with_line line.now.value.items self.old.next) }
+    {
+        if self.staged_end.is_some() {
+            return Ok(());
+        }
+        let count = self.staged_count + line.len();
+        if count > MOST_WAITING {
+            self.staged_end = Some(Bye::Lagging);
+            return Ok(());
+        }
+        let shared = Arc::try_clone(line)?;
+        self.lines.push(shared)?;
+        self.staged_count = count;
         Ok(())
     }
 
-    /// Lets the lines that stand ready wait. It takes no memory.
-    pub fn send(&mut self)
-        ensures { self.new ≡ sent self.old }
+    /// Lets wait what is staged. It takes no memory.
+    pub fn commit(&mut self)
+        ensures { self.new ≡ committed self.old }
     {
-        self.sent = self.bytes.len();
+        self.waiting = self.lines.len();
+        self.count = self.staged_count;
+        self.end = self.staged_end;
     }
 
-    /// Takes out what waits, and forgets what stands ready. It takes no memory.
-    pub fn take(&mut self, alloc: Global) -> Vec<u8>
-        ensures taken { result.items ≡ self.old.waiting }
-        ensures nothing { self.new ≡ nothing }
+    /// Ends the stream, unless it has ended. It takes no memory.
+    pub fn close(&mut self, why: Bye)
+        ensures { self.new.now ≡ with_end why self.old.now }
     {
-        self.bytes.truncate(self.sent);
-        self.sent = 0;
-        self.of_sync = 0;
-        mem::replace(&mut self.bytes, Vec::new(alloc))
+        if self.end.is_none() {
+            self.end = Some(why);
+        }
+    }
+
+    /// Takes out the lines that wait, with the end of the stream, if it has ended. It takes no memory.
+    pub fn take(&mut self, alloc: Global) -> (Bytes, Option<Bye>)
+        ensures bytes { result.0 ≡ concat self.old.now.waiting }
+        ensures end { result.1 ≡ self.old.now.end }
+        ensures emptied { self.new.now ≡ emptied self.old.now }
+    {
+        self.unstage();
+        let lines = mem::replace(&mut self.lines, Vec::new(alloc));
+        self.waiting = 0;
+        self.count = 0;
+        (Bytes::from_lines(lines), self.end)
     }
 }

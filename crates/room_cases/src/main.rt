@@ -1,6 +1,6 @@
 //! Plays rooms by the rows of standard input, call by call, and prints each row and what comes of it.
 //!
-//! A case, up to an empty line, begins with its room: `blind-bid 8`, `countdown 2`, `high-hand 2` or `dealt 2 5`, whose match
+//! A case, up to an empty line, begins with its room: `blind-bid 8`, `countdown 2`, `tic-tac-toe 2`, `high-hand 2` or `dealt 2 5`, whose match
 //! has a player at each seat and the seed of zeros; the last is High Hand for two with the pack in order, but for the cards at
 //! two places. The rows are what passes do. A case `sight GAME` has no rows: it tells what a spectator is shown of a match.
 #![tactic(auto)]

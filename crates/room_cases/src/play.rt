@@ -2,7 +2,7 @@
 
 ghost use Rattle.std.specs.Prelude.{◌<◌};
 
-use crate::reply::print_reply;
+use crate::reply::{print_reply, print_size};
 use crate::room::key_of;
 use crate::row::{Row, What, row_of};
 use game_sheet::{Arg, Args, MatchName, Seat, Text};
@@ -10,7 +10,7 @@ use game_trait::Game;
 use match_master::{Book, RoomCall, RoomReply};
 use std::alloc::Global;
 use std::io;
-use wire_json::{Asked, AskedTo, Submission, Verdict};
+use wire_json::{Asked, AskedTo, Protocol, Submission, Verdict};
 
 /// Plays each row.
 pub fn play_rows<X: Game + Drop>(
@@ -32,6 +32,17 @@ fn play_row<X: Game + Drop>(rt: &HostRuntime, book: &mut Book<X>, line: &str) ->
     match row_of(line) {
         None => println!(rt; "  in no form"),
         Some(Row::Waiting(pass)) => print_waiting(rt, book.waiting(pass)),
+        Some(Row::Pieces(pass)) => print_size(rt, &book.apply(pass, RoomCall::Take)),
+        Some(
+            Row::Refusals {
+                seat,
+                count,
+                ticket,
+            },
+        ) => println!(rt;
+            "  {} refused",
+            refusals(book, rt.alloc(), seat, count, ticket)
+        ),
         Some(Row::Boasts(count)) => println!(rt; "  {} accepted", boasts(book, rt.alloc(), count)),
         Some(row) => match call_of(rt.alloc(), row) {
             Some((pass, call)) => print_reply(rt, &book.apply(pass, call)),
@@ -50,8 +61,16 @@ fn print_waiting(rt: &HostRuntime, waiting: Option<usize>) -> io::Result<()> {
 /// The pass and the call of a row; none where the row is no call.
 fn call_of<X>(alloc: Global, row: Row<'_>) -> Option<(u32, RoomCall<X>)> {
     match row {
-        Row::Attach(seat) => Some((u32::from(seat), attach(Some(seat)))),
-        Row::Watch(pass) => Some((pass, attach(None))),
+        Row::Attach(seat) => Some((u32::from(seat), attach(Some(seat), Protocol::One))),
+        Row::Second(seat) => Some((u32::from(seat), attach(Some(seat), Protocol::Two))),
+        Row::Watch(pass) => Some((pass, attach(None, Protocol::One))),
+        Row::Leave(seat) => Some((33, leave(seat))),
+        Row::Look(serial) => Some((
+            33,
+            RoomCall::Look {
+                serial: Some(serial),
+            },
+        )),
         Row::Detach(pass) => Some((pass, RoomCall::Detach)),
         Row::Take(pass) => Some((pass, RoomCall::Take)),
         Row::Move {
@@ -61,31 +80,44 @@ fn call_of<X>(alloc: Global, row: Row<'_>) -> Option<(u32, RoomCall<X>)> {
             argument,
         } => Some((
             u32::from(seat),
-            submit(seat, number, move_of(alloc, name, argument)?),
+            submit(seat, number, 1, move_of(alloc, name, argument)?),
         )),
         Row::Ask { seat, number, what } => {
-            Some((u32::from(seat), submit(seat, number, asked_of(what))))
+            Some((u32::from(seat), submit(seat, number, 1, asked_of(what))))
         }
-        Row::Waiting(_) | Row::Boasts(_) => None,
+        Row::Waiting(_) | Row::Pieces(_) | Row::Refusals { .. } | Row::Boasts(_) => None,
     }
 }
 
 /// Attaches as the player of a seat, or as a spectator.
-fn attach<X>(seat: Option<Seat>) -> RoomCall<X> {
+fn attach<X>(seat: Option<Seat>, protocol: Protocol) -> RoomCall<X> {
     let viewer = match seat {
         Some(seat) => Some((seat, key_of(seat))),
         None => None,
     };
-    RoomCall::Attach { serial: 1, viewer }
+    RoomCall::Attach {
+        serial: 1,
+        viewer,
+        protocol,
+    }
+}
+
+/// Leaves a seat with its key.
+fn leave<X>(seat: Seat) -> RoomCall<X> {
+    RoomCall::Leave {
+        serial: 1,
+        seat,
+        key: key_of(seat),
+    }
 }
 
 /// Submits an action with the seat's key.
-fn submit<X>(seat: Seat, number: u32, asked: Asked) -> RoomCall<X> {
+fn submit<X>(seat: Seat, number: u32, ticket: u32, asked: Asked) -> RoomCall<X> {
     RoomCall::Submit(Submission {
         name: MatchName::new(0, 1),
         key: key_of(seat),
         number,
-        ticket: 1,
+        ticket,
         asked,
     })
 }
@@ -126,8 +158,35 @@ fn boasts<X: Game + Drop>(book: &mut Book<X>, alloc: Global, count: u32) -> u32 
 fn is_boasted<X: Game + Drop>(book: &mut Book<X>, alloc: Global, number: u32) -> bool {
     match move_of(alloc, "boast", Some(1)) {
         Some(asked) => matches!(
-            book.apply(0, submit(0, number, asked)),
+            book.apply(0, submit(0, number, 1, asked)),
             RoomReply::Verdict(Verdict::Ok { .. })
+        ),
+        None => false,
+    }
+}
+
+/// How many of so many boasts of a seat on a number that no match comes to are refused.
+fn refusals<X: Game + Drop>(
+    book: &mut Book<X>,
+    alloc: Global,
+    seat: Seat,
+    count: u32,
+    ticket: u32,
+) -> u32 {
+    for done in 0..count {
+        if !is_refused(book, alloc, seat, ticket) {
+            return done;
+        }
+    }
+    count
+}
+
+/// Whether a boast on a number that no match comes to is refused.
+fn is_refused<X: Game + Drop>(book: &mut Book<X>, alloc: Global, seat: Seat, ticket: u32) -> bool {
+    match move_of(alloc, "boast", Some(1)) {
+        Some(asked) => matches!(
+            book.apply(u32::from(seat), submit(seat, 9999, ticket, asked)),
+            RoomReply::Verdict(Verdict::No { .. })
         ),
         None => false,
     }

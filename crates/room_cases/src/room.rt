@@ -9,7 +9,7 @@ use game_trait::Game;
 use match_master::{Book, RoomCall};
 use std::alloc::Global;
 use std::io;
-use table_games::Countdown;
+use table_games::{Countdown, TicTacToe};
 
 /// Plays rows in a room of a game.
 pub fn play_room(rt: &HostRuntime, game: &str, places: &str, rows: &str) -> io::Result<()> {
@@ -18,6 +18,7 @@ pub fn play_room(rt: &HostRuntime, game: &str, places: &str, rows: &str) -> io::
         "high-hand" => play_cards(rt, places, rows),
         "dealt" => play_dealt(rt, places, rows),
         "countdown" => play_heap(rt, places, rows),
+        "tic-tac-toe" => play_board(rt, places, rows),
         _ => println!(rt; "  in no form"),
     }
 }
@@ -33,6 +34,14 @@ fn play_bids(rt: &HostRuntime, seats: &str, rows: &str) -> io::Result<()> {
 /// In a room of Countdown.
 fn play_heap(rt: &HostRuntime, seats: &str, rows: &str) -> io::Result<()> {
     match Countdown::new(rt.alloc()) {
+        Ok(game) => play_game(rt, game, seats, rows),
+        Err(NoMemory) => println!(rt; "  no memory"),
+    }
+}
+
+/// In a room of Tic-tac-toe.
+fn play_board(rt: &HostRuntime, seats: &str, rows: &str) -> io::Result<()> {
+    match TicTacToe::new(rt.alloc()) {
         Ok(game) => play_game(rt, game, seats, rows),
         Err(NoMemory) => println!(rt; "  no memory"),
     }

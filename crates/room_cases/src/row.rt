@@ -7,12 +7,29 @@ use game_sheet::{EventKind, Seat};
 pub enum Row<'a> {
     /// `attach S`: the pass of a seat's number attaches as its player.
     Attach(Seat),
+    /// `second S`: the same in protocol 2.
+    Second(Seat),
     /// `watch P`: a pass attaches as a spectator.
     Watch(u32),
+    /// `leave S`: the player of a seat leaves it.
+    Leave(Seat),
+    /// `look N`: what everybody may see of the match of a serial.
+    Look(u64),
     /// `detach P`: a pass ends its attachment.
     Detach(u32),
     /// `take P`: a pass takes its lines.
     Take(u32),
+    /// `pieces P`: a pass takes its lines, of which only the count, the bytes and the end are told.
+    Pieces(u32),
+    /// `refusals S C T`: a seat's pass submits so many boasts on a wrong number, each with the ticket T.
+    Refusals {
+        /// The seat.
+        seat: Seat,
+        /// How many.
+        count: u32,
+        /// The ticket.
+        ticket: u32,
+    },
     /// `waiting P`: how many bytes wait for a pass.
     Waiting(u32),
     /// `boasts C`: seat 0 boasts so often, each time on the number that the match has come to.
@@ -56,7 +73,11 @@ pub fn row_of(line: &str) -> Option<Row<'_>> {
     match verb {
         "move" => move_of(rest),
         "ask" => ask_of(rest),
+        "refusals" => refusals_of(rest),
         "attach" => Some(Row::Attach(rest.parse::<u8>().ok()?)),
+        "second" => Some(Row::Second(rest.parse::<u8>().ok()?)),
+        "leave" => Some(Row::Leave(rest.parse::<u8>().ok()?)),
+        "look" => Some(Row::Look(rest.parse::<u64>().ok()?)),
         _ => counted(verb, rest.parse::<u32>().ok()?),
     }
 }
@@ -67,6 +88,7 @@ fn counted<'a>(verb: &str, number: u32) -> Option<Row<'a>> {
         "watch" => Some(Row::Watch(number)),
         "detach" => Some(Row::Detach(number)),
         "take" => Some(Row::Take(number)),
+        "pieces" => Some(Row::Pieces(number)),
         "waiting" => Some(Row::Waiting(number)),
         "boasts" => Some(Row::Boasts(number)),
         _ => None,
@@ -85,6 +107,17 @@ fn move_of(rest: &str) -> Option<Row<'_>> {
         number,
         name,
         argument,
+    })
+}
+
+/// Refused boasts, behind their verb.
+fn refusals_of(rest: &str) -> Option<Row<'_>> {
+    let (seat, count, rest) = place_of(rest)?;
+    let ticket = rest.parse::<u32>().ok()?;
+    Some(Row::Refusals {
+        seat,
+        count,
+        ticket,
     })
 }
 

@@ -1,7 +1,7 @@
 -- The lines that are told to a session alone: its direct answers, and the end of its stream. Each stands behind the session's number.
 use Rattle.std.specs.Prelude.{ℕ, List, ◌∷◌, ◌++◌, decimal, Option, Some, None}
-use Rattle.match_master.specs.declared.reply.RoomReply.{RoomReply}
-use Rattle.match_master.specs.declared.reply.RoomReply.TheVariants as reply
+use Rattle.room_history.specs.declared.reply.RoomReply.{RoomReply}
+use Rattle.room_history.specs.declared.reply.RoomReply.TheVariants as reply
 use Rattle.wire_json.specs.ServerText.{text}
 use Rattle.wire_json.specs.declared.refusal.Refusal.TheVariants as refusal
 use Rattle.wire_json.specs.declared.server.ServerMsg.{ServerMsg}

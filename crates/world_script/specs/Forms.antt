@@ -4,7 +4,7 @@
 use Rattle.std.specs.Prelude.{ℕ, Bool, true, false, if◌then◌else◌, List, Option, Some, None, option_and_then, unwrap_or, Result, Ok, Err}
 use Rattle.any_game.specs.AnyRules.{any_rules, named}
 use Rattle.any_game.specs.GameKind.{GameKind}
-use Rattle.match_master.specs.Calls.{seats_fit}
+use Rattle.room_history.specs.Reply.{seats_fit}
 use Rattle.wire_json.specs.ClientReading.{client_read}
 use Rattle.wire_json.specs.Refusals.{Refusal}
 use Rattle.wire_json.specs.declared.client.ClientMsg.{ClientMsg}

@@ -1,6 +1,6 @@
 -- The transcript of a script: what its lines print, one after another, by the history that they make of the room. The marks say, line by
 -- line, how the lines of sessions went: one for which there was no memory is answered so, and may be made again.
-use Rattle.std.specs.Prelude.{ℕ, zero, suc, ◌+◌, ◌==◌, Bool, true, false, is_some, replicate, decimal, drop, List, [], ◌∷◌, ◌++◌, codes, if◌then◌else◌, Option, Some, None, Result, Ok, Err}
+use Rattle.std.specs.Prelude.{ℕ, zero, suc, ◌+◌, ◌==◌, Bool, true, false, replicate, decimal, drop, List, [], ◌∷◌, ◌++◌, codes, if◌then◌else◌, Option, Some, None, Result, Ok, Err}
 use Rattle.std.specs.List.{flat_map}
 use Rattle.game_sheet.specs.Lines.{lines}
 use Rattle.game_sheet.specs.MatchName.{Name}
@@ -9,13 +9,14 @@ use Rattle.any_game.specs.AnyRules.{any_rules}
 use Rattle.any_game.specs.GameKind.{GameKind}
 use Rattle.room_object.specs.Entry.{Entry}
 use Rattle.wire_json.specs.MatchText.{match_text}
-use Rattle.match_master.specs.declared.call.RoomCall.{RoomCall}
-use Rattle.match_master.specs.declared.call.RoomCall.TheVariants as call
-use Rattle.match_master.specs.declared.reply.RoomReply.{RoomReply}
-use Rattle.match_master.specs.declared.reply.RoomReply.TheVariants as reply_of
+use Rattle.room_history.specs.declared.call.RoomCall.{RoomCall}
+use Rattle.room_history.specs.declared.call.RoomCall.TheVariants as call
+use Rattle.room_history.specs.declared.reply.RoomReply.{RoomReply}
+use Rattle.room_history.specs.declared.reply.RoomReply.TheVariants as reply_of
+use Rattle.wire_json.specs.declared.protocol.Protocol.TheVariants.{One}
 use Rattle.wire_json.specs.declared.submission.Submission.{Submission}
-use Rattle.match_master.specs.History.{attached}
-use Rattle.match_master.specs.Reply.{reply}
+use Rattle.room_history.specs.Presence.{is_attached as attached}
+use Rattle.room_history.specs.Room.{reply}
 use Rattle.game_sheet.specs.Viewer.{Viewer}
 use Rattle.world_script.specs.Answers.{answer_line, answer_of}
 use Rattle.world_script.specs.Forms.{step_of, stage_after}
@@ -75,13 +76,13 @@ abbrev pub calls : Bool → ℕ → RoomCall GameKind → Entry (RoomCall GameKi
 calls starved session call = record { pass = session; call = call; starved = starved }
 
 abbrev pub is_attached : History → ℕ → Bool
-is_attached h session = is_some (attached any_rules 0 h session)
+is_attached h session = attached any_rules 0 h session
 
 -- the call that a sync makes, or the answer to it without one. The one room has number 0.
 abbrev pub sync_call : History → ℕ → Name → Viewer → Result (RoomCall GameKind) Answer
 sync_call h session name viewer =
     if is_attached h session then Err AlreadyAttached
-    else (if name.room == 0 then Ok (call.Attach name.serial viewer) else Err NoMatch)
+    else (if name.room == 0 then Ok (call.Attach name.serial viewer One) else Err NoMatch)
 
 -- an act goes to the room that its session is attached to, whatever match it names
 abbrev pub act_call : History → ℕ → Submission → Result (RoomCall GameKind) Answer

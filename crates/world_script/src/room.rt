@@ -2,7 +2,7 @@
 
 ghost use Rattle.std.specs.Prelude.{◌≡◌, ◌∷◌, ◌++◌, [], IfOk, OnOk, if◌then◌else◌, true, codes, None};
 ghost use Rattle.match_master.specs.Held.{is_starved};
-ghost use Rattle.match_master.specs.declared.reply.RoomReply.TheVariants as reply;
+ghost use Rattle.room_history.specs.declared.reply.RoomReply.TheVariants as reply;
 ghost use Rattle.world_script.specs.Answers.{answer_line};
 ghost use Rattle.world_script.specs.Printing.{bytes_of};
 ghost use Rattle.world_script.specs.Transcript.{behind, to_session, opened_text, end_text, taken_text, told, seat_key};
@@ -17,7 +17,7 @@ use arrayvec::ArrayString;
 use game_sheet::{Bye, Bytes, Key, MatchName, NoMemory, Seat, Text, Viewer};
 use match_master::{Book, RoomCall, RoomReply};
 use std::alloc::Global;
-use wire_json::Submission;
+use wire_json::{Protocol, Submission};
 
 /// The room of a script.
 #[derive(Drop)]
@@ -258,6 +258,7 @@ impl Room {
             Ok(RoomCall::Attach {
                 serial: name.serial(),
                 viewer,
+                protocol: Protocol::One,
             })
         } else {
             Err(Answer::NoMatch)

@@ -1,0 +1,59 @@
+//! The lines that tell everybody of an action, staged at each attachment.
+
+ghost use Rattle.std.specs.Prelude.{◌≡◌, ◌<◌, length, true, OnOk};
+ghost use Rattle.game_sheet.specs.Lines.{is_line};
+ghost use Rattle.match_master.specs.Attached.{all_held, all_ready, all_told, staged};
+ghost use Rattle.match_master.specs.Places.{at_place};
+ghost use Rattle.match_master.specs.UpdateText.{AreMade, action_line};
+
+use crate::attachments::{Attachments, stage_at, viewer_at};
+use crate::line::Action;
+use crate::made_lines::{MadeLine, line_for};
+use game_sheet::NoMemory;
+use game_trait::Game;
+use std::alloc::Global;
+use std::sync::Arc;
+
+/// Stages at each attachment the line for its viewer and, at the pass's own, the verdict behind that. What waits is as before.
+pub fn stage_all<X: Game>(
+    alloc: Global,
+    action: &Action<'_, X, X::G>,
+    attachments: &mut Attachments,
+    pass: u32,
+    verdict: &Arc<Vec<u8>>,
+) -> Result<(), NoMemory>
+    requires { is_line verdict.now.value.items ≡ true }
+    ensures same { all_held attachments.new.entries ≡ all_held attachments.old.entries }
+    ensures staged { OnOk result (all_ready attachments.new.entries
+        ≡ all_told pass verdict.now.value.items (action_line (X.rules action.now.game.now) action.now.state.now action.now.prepared.now action.now.entry.now) (all_held attachments.old.entries)) }
+{
+    let mut made = Vec::new(alloc);
+    let count = attachments.len();
+    for place in 0..count {
+        stage_place(alloc, action, &mut made, attachments, place, pass, verdict)?;
+    }
+    Ok(())
+}
+
+/// Stages the lines at the attachment at a place.
+fn stage_place<X: Game>(
+    alloc: Global,
+    action: &Action<'_, X, X::G>,
+    made: &mut Vec<MadeLine>,
+    attachments: &mut Attachments,
+    place: usize,
+    pass: u32,
+    verdict: &Arc<Vec<u8>>,
+) -> Result<(), NoMemory>
+    requires within { place < length attachments.old.entries }
+    requires verdict { is_line verdict.now.value.items ≡ true }
+    requires made { AreMade (action_line (X.rules action.now.game.now) action.now.state.now action.now.prepared.now action.now.entry.now) made.old.items }
+    ensures made { AreMade (action_line (X.rules action.now.game.now) action.now.state.now action.now.prepared.now action.now.entry.now) made.new.items }
+    ensures same { all_held attachments.new.entries ≡ all_held attachments.old.entries }
+    ensures staged { OnOk result (attachments.new.entries
+        ≡ at_place place (staged pass verdict.now.value.items (action_line (X.rules action.now.game.now) action.now.state.now action.now.prepared.now action.now.entry.now)) attachments.old.entries) }
+{
+    let (seat, protocol) = viewer_at(attachments, place);
+    let line = line_for(alloc, action, made, seat, protocol)?;
+    stage_at(attachments, place, pass, verdict, &line)
+}

@@ -1,0 +1,114 @@
+//! The actions that are submitted to a room.
+
+ghost use Rattle.std.specs.Prelude.{◌≡◌, ◌+◌, ℕ, Option, IsSome, IfSome, option_map, nat_eq};
+ghost use Rattle.std.specs.Map.{lookup};
+ghost use Rattle.reducer.specs.Prepared.{IsReady};
+ghost use Rattle.wire_json.specs.declared.verdict.Verdict.TheVariants as verdict;
+ghost use Rattle.room_history.specs.Match.{Match};
+ghost use Rattle.room_history.specs.declared.reply.RoomReply.TheVariants as answer;
+ghost use Rattle.match_master.specs.Attached.{open_viewer};
+ghost use Rattle.match_master.specs.Does.{Does, SubmitDoes, with_accepted, with_refused};
+ghost use Rattle.match_master.specs.Held.{running_of};
+
+use crate::attachments;
+use crate::book::Book;
+use crate::judge::{Judged, judge};
+use crate::line::{self, Action};
+use crate::staging::stage_all;
+use game_sheet::Number;
+use game_trait::Game;
+use move_log::Entry;
+use reducer::Prepared;
+use room_history::RoomReply;
+use std::sync::Arc;
+use wire_json::{Reason, Submission, Verdict};
+
+impl<X: Game + Drop> Book<X> {
+    /// Judges an action, and tells what became of it.
+    pub(crate) fn submit(&mut self, pass: u32, submission: &Submission) -> RoomReply
+        ensures room { self.new.room ≡ self.old.room }
+        ensures does { (standing : Option (Match X X.G)) → self.old.running ≡ option_map (running_of X.rules) standing
+            → SubmitDoes X.rules self.old pass submission.now result self.new (open_viewer (lookup (nat_eq pass) self.old.attachments)) standing }
+    {
+        let Some(viewer) = attachments::open_viewer(&self.attachments, pass) else {
+            return RoomReply::NotAttached;
+        };
+        let Some(running) = &self.running else {
+            return RoomReply::NotAttached;
+        };
+        let number = running.state.number();
+        match judge(self.alloc, self.room, running, viewer, submission) {
+            Err(_) => RoomReply::NoMemory,
+            Ok(Judged::Refused(reason)) => self.refuse(pass, number, reason, submission.ticket),
+            Ok(Judged::Accepted { prepared, entry }) => self.accept(
+                pass,
+                prepared,
+                entry,
+                submission.ticket,
+            ),
+        }
+    }
+
+    /// Tells a pass that its action was refused.
+    fn refuse(&mut self, pass: u32, number: Number, reason: Reason, ticket: u32) -> RoomReply
+        ensures room { self.new.room ≡ self.old.room }
+        ensures does { Does self.old result self.new (answer.Verdict (verdict.No number reason)) (with_refused self.old pass number reason ticket) }
+    {
+        let Ok(line) = line::no(self.alloc, number, reason, ticket) else {
+            return RoomReply::NoMemory;
+        };
+        let Ok(line) = Arc::new(self.alloc, line) else {
+            return RoomReply::NoMemory;
+        };
+        match attachments::tell_own(&mut self.attachments, pass, &line) {
+            Err(_) => RoomReply::NoMemory,
+            Ok(()) => RoomReply::Verdict(Verdict::No { number, reason }),
+        }
+    }
+
+    /// Takes an accepted action in, and tells everybody.
+    fn accept(
+        &mut self,
+        pass: u32,
+        prepared: Prepared<X::G>,
+        entry: Entry,
+        ticket: u32,
+    ) -> RoomReply
+        requires running { IsSome self.old.running }
+        requires ready { IfSome self.old.running (λ r. IsReady (X.rules r.game) r.state prepared) }
+        ensures room { self.new.room ≡ self.old.room }
+        ensures does { IfSome self.old.running (λ r. Does self.old result self.new (answer.Verdict (verdict.Ok prepared.number)) (with_accepted X.rules self.old r pass prepared entry ticket)) }
+    {
+        let number = prepared.number();
+        let Ok(verdict) = line::ok(self.alloc, number, ticket) else {
+            drop(prepared);
+            return RoomReply::NoMemory;
+        };
+        let Ok(verdict) = Arc::new(self.alloc, verdict) else {
+            drop(prepared);
+            return RoomReply::NoMemory;
+        };
+        let Some(running) = &self.running else {
+            unreachable!();
+        };
+        let action = Action {
+            game: &running.game,
+            state: &running.state,
+            prepared: &prepared,
+            entry: &entry,
+        };
+        let staged = stage_all(self.alloc, &action, &mut self.attachments, pass, &verdict);
+        if staged.is_err() {
+            drop(prepared);
+            return RoomReply::NoMemory;
+        }
+        let Some(running) = &mut self.running else {
+            unreachable!();
+        };
+        let Ok(()) = running.advance(prepared, entry) else {
+            return RoomReply::NoMemory;
+        };
+        attachments::commit_all(&mut self.attachments);
+        RoomReply::Verdict(Verdict::Ok { number })
+    }
+}
