@@ -97,11 +97,10 @@ impl<X: Game + Drop> Book<X> {
             prepared: &prepared,
             entry: &entry,
         };
-        let staged = stage_all(self.alloc, &action, &mut self.attachments, pass, &verdict);
-        if staged.is_err() {
+        let Ok(()) = stage_all(self.alloc, &action, &mut self.attachments, pass, &verdict) else {
             drop(prepared);
             return RoomReply::NoMemory;
-        }
+        };
         let Some(running) = &mut self.running else {
             unreachable!();
         };
