@@ -180,12 +180,15 @@ fn asks(session: u8, message: ClientMsg) -> Option<Step>
         ClientMsg::Sync {
             name,
             viewer,
-            protocol: Protocol::One,
-        } => Some(Step::Syncs {
-            session,
-            name,
-            viewer,
-        }),
+            protocol,
+        } => match protocol {
+            Protocol::One => Some(Step::Syncs {
+                session,
+                name,
+                viewer,
+            }),
+            Protocol::Two => None,
+        },
         ClientMsg::Act(submission) => Some(Step::Acts {
             session,
             submission,
