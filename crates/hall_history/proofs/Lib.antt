@@ -1,0 +1,12 @@
+pub mod Adds
+pub mod Asking
+pub mod Clauses
+pub mod Delivering
+pub mod Filling
+pub mod Giving
+pub mod Handing
+pub mod Opens
+pub mod Placing
+pub mod Rooming
+pub mod Telling
+pub mod WorldPlacing

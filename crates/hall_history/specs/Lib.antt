@@ -1,0 +1,17 @@
+pub mod Adding
+pub mod Counts
+pub mod Creating
+pub mod Freeing
+pub mod Hall
+pub mod Mark
+pub mod Opening
+pub mod Placed
+pub mod Rooms
+pub mod Script
+pub mod Tapes
+pub mod Told
+pub mod Words
+pub mod Workload
+pub mod World
+pub mod WorldScript
+pub mod WorldTold
