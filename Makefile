@@ -1,12 +1,26 @@
-.PHONY: demo test
+.PHONY: program demo test bench
 
-# Plays the example matches and prints their transcripts. The first time it proves and builds the program and what it stands on.
-demo:
-	@cd crates/board_server && rt run -- script < ../../examples/tic-tac-toe.script
-	@cd crates/board_server && rt run -- script < ../../examples/countdown.script
-	@cd crates/board_server && rt run -- script < ../../examples/blind-bid.script
-	@cd crates/board_server && rt run -- script < ../../examples/captions.script
+SHELL := bash
+.SHELLFLAGS := -o pipefail -c
+JOBS ?= $(shell nproc)
+
+# Proves the program and each crate that it stands on, one job a crate and so many crates side by side, and builds it. What was proved
+# before is not proved again.
+program:
+	@cd crates/board_server && rt all check --jobs $(JOBS) | grep -Ev '^(crate|fn|library|logic|only=|so far|statements)'
+	@cd crates/board_server && rt run -- script </dev/null
+
+# Plays the example matches and prints their transcripts.
+demo: program
+	@cd crates/board_server && rt run -- script <../../examples/tic-tac-toe.script
+	@cd crates/board_server && rt run -- script <../../examples/countdown.script
+	@cd crates/board_server && rt run -- script <../../examples/blind-bid.script
+	@cd crates/board_server && rt run -- script <../../examples/captions.script
 
 # Proves and tests everything: the gate.
 test:
 	rt ci
+
+# Times the program on long scripts, beside what JSON alone costs in Node.
+bench: program
+	@bench/run.sh crates/board_server/out/board_server

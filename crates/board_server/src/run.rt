@@ -4,7 +4,7 @@ ghost use Rattle.std.specs.Prelude.{◌≡◌, ◌≤◌, IsSome, true, false};
 ghost use Rattle.board_links.specs.Pieces.{told_bytes};
 ghost use Rattle.world_script.specs.Running.{Ends, ExitRaises};
 ghost use Rattle.world_script.specs.declared.exit.Exit.TheVariants.{Usage};
-ghost use Rattle.board_server.specs.Words.{asks_script, status};
+ghost use Rattle.board_server.specs.Words.{asks_script};
 
 use board_links::{Sink, Source};
 use std::alloc::Global;
@@ -42,21 +42,5 @@ fn is_script(words: &[String]) -> bool
     match words {
         [word] => word.as_bytes() == b"script".as_slice(),
         _ => false,
-    }
-}
-
-/// The status that a process ends with after a run.
-pub fn status(exit: Exit) -> u8
-    ensures { result ≡ status exit }
-{
-    match exit {
-        Exit::Done => 0,
-        Exit::Usage => 1,
-        Exit::ReadFault => 2,
-        Exit::WriteFault => 3,
-        Exit::BadLine { .. } => 4,
-        Exit::TooLong { .. } => 5,
-        Exit::TooMany => 6,
-        Exit::NoMemory => 7,
     }
 }

@@ -1,6 +1,7 @@
 //! Runs in memory: of another word, and with reads and writes that fail.
 
-use crate::run::{run, status};
+use crate::process::status;
+use crate::run::run;
 use board_links::{MemorySink, MemorySource};
 use game_sheet::{List, NoMemory};
 use std::alloc::Global;

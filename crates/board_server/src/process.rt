@@ -1,0 +1,74 @@
+//! What goes between the program and its caller: the words that it is called with, and what it says at its end.
+
+ghost use Rattle.std.specs.Prelude.{◌≡◌, ◌≤◌, ◌++◌, ◌∷◌, [], IfOk, decimal, drop, length};
+ghost use Rattle.std_alloc.specs.Vec.{into_iter_items};
+ghost use Rattle.board_server.specs.Words.{report, status};
+
+use arrayvec::ArrayString;
+use itoa::Buffer;
+use std::alloc::{AllocError, Global};
+use std::env::Args;
+use world_script::Exit;
+
+/// The words that a program is called with: all but the first, which is its name.
+pub fn after_name(alloc: Global, all: Args) -> Result<Vec<String>, AllocError>
+    ensures { IfOk result (λ words. words.items ≡ drop 1 (into_iter_items all)) }
+{
+    let mut words = Vec::new(alloc);
+    for word in all.skip(1) {
+        words.push(word)?;
+    }
+    Ok(words)
+}
+
+/// The status that a process ends with after a run.
+pub fn status(exit: Exit) -> u8
+    ensures { result ≡ status exit }
+{
+    match exit {
+        Exit::Done => 0,
+        Exit::Usage => 1,
+        Exit::ReadFault => 2,
+        Exit::WriteFault => 3,
+        Exit::BadLine { .. } => 4,
+        Exit::TooLong { .. } => 5,
+        Exit::TooMany => 6,
+        Exit::NoMemory => 7,
+    }
+}
+
+/// The line that a process ends with on standard error, with its newline; nothing where the run was done.
+pub fn report(exit: Exit) -> ArrayString<40>
+    ensures { result.bytes ≡ report exit }
+{
+    match exit {
+        Exit::Done => ArrayString::new(),
+        Exit::Usage => whole("usage\n"),
+        Exit::ReadFault => whole("read fault\n"),
+        Exit::WriteFault => whole("write fault\n"),
+        Exit::BadLine { line } => numbered("bad line ", line),
+        Exit::TooLong { line } => numbered("long line ", line),
+        Exit::TooMany => whole("too many lines\n"),
+        Exit::NoMemory => whole("no memory\n"),
+    }
+}
+
+fn whole(text: &str) -> ArrayString<40>
+    requires { length text.now ≤ 40 }
+    ensures { result.bytes ≡ text.now }
+{
+    let mut line = ArrayString::new();
+    line.push_str(text);
+    line
+}
+
+fn numbered(text: &str, line: u32) -> ArrayString<40>
+    requires { length text.now ≤ 20 }
+    ensures { result.bytes ≡ text.now ++ decimal line ++ 10 ∷ [] }
+{
+    let mut report = whole(text);
+    let mut digits = Buffer::new();
+    report.push_str(digits.format(line));
+    report.push_str("\n");
+    report
+}
