@@ -16,7 +16,12 @@ fn main(rt: HostRuntime) -> ExitCode {
         Ok(words) => {
             let mut source = ReaderSource::new(rt.reader());
             let mut sink = WriterSink::new(rt.stdout());
-            run(rt.alloc(), words.as_slice(), &mut source, &mut sink)
+            run(
+                rt.alloc(),
+                after_name(words.as_slice()),
+                &mut source,
+                &mut sink,
+            )
         }
         Err(error) if error.kind() == io::ErrorKind::OutOfMemory => Exit::NoMemory,
         Err(_) => Exit::Usage,
@@ -26,9 +31,12 @@ fn main(rt: HostRuntime) -> ExitCode {
     ExitCode::from(status(exit))
 }
 
+/// All words of the call, of which the first is the program's name.
 fn words(rt: &HostRuntime) -> io::Result<Vec<String>> {
-    let all = env::args(rt)?;
-    let words = after_name(rt.alloc(), all)?;
+    let mut words = Vec::new(rt.alloc());
+    for word in env::args(rt)? {
+        words.push(word)?;
+    }
     Ok(words)
 }
 

@@ -1,24 +1,20 @@
 //! What goes between the program and its caller: the words that it is called with, and what it says at its end.
 
-ghost use Rattle.std.specs.Prelude.{◌≡◌, ◌≤◌, ◌++◌, ◌∷◌, [], IfOk, decimal, drop, length};
-ghost use Rattle.std_alloc.specs.Vec.{into_iter_items};
+ghost use Rattle.std.specs.Prelude.{◌≡◌, ◌≤◌, ◌++◌, ◌∷◌, [], decimal, drop, length};
 ghost use Rattle.board_server.specs.Words.{report, status};
 
 use arrayvec::ArrayString;
 use itoa::Buffer;
-use std::alloc::{AllocError, Global};
-use std::env::Args;
 use world_script::Exit;
 
-/// The words that a program is called with: all but the first, which is its name.
-pub fn after_name(alloc: Global, all: Args) -> Result<Vec<String>, AllocError>
-    ensures { IfOk result (λ words. words.items ≡ drop 1 (into_iter_items all)) }
+/// The words after the program's name.
+pub fn after_name(words: &[String]) -> &[String]
+    ensures { result.now ≡ drop 1 words.now }
 {
-    let mut words = Vec::new(alloc);
-    for word in all.skip(1) {
-        words.push(word)?;
+    match words {
+        [] => words,
+        [_, rest @ ..] => rest,
     }
-    Ok(words)
 }
 
 /// The status that a process ends with after a run.
