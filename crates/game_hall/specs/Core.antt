@@ -1,5 +1,5 @@
 -- A session's core: a machine from a session's lines and the rooms' replies to calls of rooms and direct answers.
-use Rattle.std.specs.Prelude.{◌≡◌, ℕ, List, [], Option, Some, None, IsSome, Result}
+use Rattle.std.specs.Prelude.{◌≡◌, ℕ, List, [], Bool, true, false, Option, Some, None, IsSome, Result}
 use Rattle.wire_json.specs.Refusals.{Refusal as Fault}
 use Rattle.room_history.specs.declared.call.RoomCall.{RoomCall}
 use Rattle.room_history.specs.declared.reply.RoomReply.{RoomReply}
@@ -60,6 +60,11 @@ asked c = record c { call = None }
 abbrev pub text_said : Option Answer → List ℕ
 text_said None = []
 text_said (Some answer) = line_of answer
+
+-- a line that met a want of memory is answered so
+abbrev pub is_again : Option Answer → Bool
+is_again (Some (Again ticket)) = true
+is_again said = false
 
 -- the line of the direct answer
 abbrev pub written : {X : Type 0} → Core X → List ℕ

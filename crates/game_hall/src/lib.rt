@@ -21,3 +21,4 @@ pub use laws::{
     creates_are_full_where_rooms_are_busy, lists_have_a_row_for_each_room, requests_end,
 };
 pub use session::SessionCore;
+pub use words::match_seed;

@@ -3,7 +3,7 @@
 ghost use Rattle.std.specs.Prelude.{◌≡◌, ◌≤◌, ◌<◌, None, IsSome, IsOk, IsErr, IfSome, OnOk, OnErr, IfOk};
 ghost use Rattle.any_game.specs.AnyRules.{named};
 ghost use Rattle.wire_json.specs.ClientReading.{client_read};
-ghost use Rattle.game_hall.specs.Core.{IsSettled, answered, asked, fresh, heard, moved, plain, released, starved, ticket_of, written};
+ghost use Rattle.game_hall.specs.Core.{IsSettled, answered, asked, fresh, heard, is_again, moved, plain, released, starved, ticket_of, written};
 ghost use Rattle.room_history.specs.declared.reply.RoomReply.TheVariants.{NoMemory as NoMemoryThere};
 ghost use Rattle.game_hall.specs.Kept.{IsNamed, MayWantMemory, NextIn};
 ghost use Rattle.game_hall.specs.Words.{drawn, next_action, seed_left_by, words_drawn_by};
@@ -130,6 +130,16 @@ impl SessionCore {
         };
         let next = next(alloc, self.rooms, request, reply);
         self.go_on(next)
+    }
+
+    /// Whether the direct answer that waits is `again`. It takes no memory.
+    pub fn is_again(&self) -> bool
+        ensures { result ≡ is_again self.now.said }
+    {
+        match &self.said {
+            Some(answer) => answer.is_again(),
+            None => false,
+        }
     }
 
     /// Hands out the line of the direct answer; no bytes where there is none. It takes no memory.

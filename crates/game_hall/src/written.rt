@@ -2,6 +2,7 @@
 
 ghost use Rattle.std.specs.Prelude.{◌≡◌, IfOk};
 ghost use Rattle.game_hall.specs.Answers.{line_of};
+ghost use Rattle.game_hall.specs.Core.{is_again};
 ghost use Rattle.game_hall.specs.declared.answer.Answer.TheVariants as answer;
 
 use crate::answer::Answer;
@@ -132,6 +133,16 @@ impl WrittenAnswer {
         WrittenAnswer {
             answer: Answer::Refused(refusal),
             line: short(&refused_line(refusal)),
+        }
+    }
+
+    /// Whether it says that there was no memory.
+    pub fn is_again(&self) -> bool
+        ensures { result ≡ is_again (Some self.now) }
+    {
+        match &self.answer {
+            Answer::Again { .. } => true,
+            _ => false,
         }
     }
 

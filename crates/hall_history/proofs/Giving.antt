@@ -4,7 +4,7 @@ use Rattle.game_trait.specs.Rules.{Rules}
 use Rattle.wire_json.specs.ClientReading.{client_read}
 use Rattle.wire_json.specs.Refusals.{Refusal as Fault}
 use Rattle.wire_json.specs.declared.client.ClientMsg.{ClientMsg}
-use Rattle.game_hall.specs.Core.{Core, moved}
+use Rattle.game_hall.specs.Core.{Core, is_again, moved}
 use Rattle.game_hall.specs.Requests.{hears}
 use Rattle.game_hall.specs.Words.{seed_left_by, words_drawn_by}
 use Rattle.game_hall.specs.declared.answer.Answer.{Answer}
@@ -13,7 +13,7 @@ use Rattle.game_hall.specs.declared.next.Next.{Next}
 use Rattle.game_hall.specs.declared.next.Next.TheVariants.{Says}
 use Rattle.game_hall.proofs.Running.{answer_alone, line_ends, went}
 use Rattle.hall_history.specs.Adding.{Adds, IsAsking}
-use Rattle.hall_history.specs.Hall.{Hall, after_line, begun, core_of, is_again, request, runs, ticket_in}
+use Rattle.hall_history.specs.Hall.{Hall, after_line, begun, core_of, request, runs, ticket_in}
 use Rattle.hall_history.specs.Mark.{Luck, Lucky, Mark, Served, Unread, Starved, ask_rooms}
 use Rattle.hall_history.proofs.Adds.{adds_none, run_adds}
 use Rattle.hall_history.proofs.Asking.{NextFits, call_asks, hears_stays, next_fits, stays_fits}

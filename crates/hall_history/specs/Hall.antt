@@ -1,12 +1,11 @@
 -- What the lines of sessions make of a server: of its rooms, of who is attached where, of the words that are left, and of a seed that
 -- stands ready; and how each line is answered.
-use Rattle.std.specs.Prelude.{[], replicate, ℕ, zero, suc, ◌+◌, ◌==◌, List, length, if◌then◌else◌, Bool, true, false, Option, Some, None, Result, Ok}
+use Rattle.std.specs.Prelude.{[], replicate, ℕ, zero, suc, ◌+◌, ◌==◌, List, length, if◌then◌else◌, Option, Some, None, Result, Ok}
 use Rattle.game_trait.specs.Rules.{Rules}
-use Rattle.game_hall.specs.Core.{Core, fresh, starved, heard}
+use Rattle.game_hall.specs.Core.{Core, fresh, starved, heard, is_again}
 use Rattle.game_hall.specs.Run.{run}
 use Rattle.game_hall.specs.Words.{words_drawn_by, seed_left_by}
 use Rattle.game_hall.specs.declared.answer.Answer.{Answer}
-use Rattle.game_hall.specs.declared.answer.Answer.TheVariants.{Again}
 use Rattle.wire_json.specs.ClientReading.{client_read}
 use Rattle.wire_json.specs.Refusals.{Refusal}
 use Rattle.wire_json.specs.declared.client.ClientMsg.{ClientMsg}
@@ -29,11 +28,6 @@ new_hall rooms = record { rooms = replicate rooms []; at = λ pass. None; place 
 
 abbrev pub attached_to : ℕ → Option ℕ → (ℕ → Option ℕ) → ℕ → Option ℕ
 attached_to pass room at other = if pass == other then room else at other
-
--- a line that met a want of memory is answered so
-abbrev pub is_again : Option Answer → Bool
-is_again (Some (Again ticket)) = true
-is_again said = false
 
 -- the ticket with which it comes back: that of an act that was read
 abbrev pub ticket_in : Result ClientMsg Refusal → Option ℕ

@@ -12,6 +12,7 @@ use Rattle.player_sight.specs.Seen.{snap_of}
 use Rattle.player_sight.specs.SnapshotData.{snapshot_data}
 use Rattle.player_sight.specs.declared.shown.Snapshot.{Snapshot}
 use Rattle.game_hall.specs.Answers.{line_of}
+use Rattle.game_hall.specs.Core.{is_again}
 use Rattle.game_hall.specs.Requests.{refusal_by}
 use Rattle.game_hall.specs.declared.answer.Answer.{Answer}
 use Rattle.room_history.specs.Session.{bytes_handed_out}
@@ -28,7 +29,7 @@ use Rattle.wire_json.specs.declared.client.ClientMsg.TheVariants.{Sync, Act}
 use Rattle.wire_json.specs.declared.protocol.Protocol.{Protocol}
 use Rattle.wire_json.specs.declared.refusal.Refusal.TheVariants.{NoMatch}
 use Rattle.hall_history.specs.Freeing.{frees}
-use Rattle.hall_history.specs.Hall.{Hall, after_line, is_again}
+use Rattle.hall_history.specs.Hall.{Hall, after_line}
 use Rattle.hall_history.specs.Mark.{Mark, Served, Unread, Starved}
 use Rattle.hall_history.specs.Opening.{after_open, opened_text, own_entry, seat_key}
 use Rattle.hall_history.specs.Rooms.{reply_in, with_entry}
