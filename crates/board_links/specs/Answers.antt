@@ -12,10 +12,10 @@ use Rattle.board_links.specs.Faults.{HasRisen}
 abbrev pub AreLines : List ℕ → Type 0
 AreLines bytes = (before : List ℕ) × (bytes ≡ before ++ 10 ∷ [])
 
--- a receive fails only where the count of faults rose
+-- the count of faults rose at a receive that fails, and stayed at any other
 abbrev pub CameRaises : Came → ℕ → ℕ → Type 0
 CameRaises came.Failed old new = HasRisen old new
-CameRaises answer old new = Unit {0}
+CameRaises answer old new = new ≡ old
 
 -- a line that comes has no more bytes than the limit
 abbrev pub IsWithin : ℕ → Came → Type 0
@@ -37,10 +37,10 @@ with_answer answer told = told ++ answer ∷ []
 abbrev pub answers_after : Came → Option (List Came) → Option (List Came)
 answers_after answer told = option_map (with_answer answer) told
 
--- a send fails only where the count of faults rose
+-- the count of faults rose at a send that fails, and stayed at any other
 abbrev pub OutRaises : Out → ℕ → ℕ → Type 0
 OutRaises out.Failed old new = HasRisen old new
-OutRaises answer old new = Unit {0}
+OutRaises answer old new = new ≡ old
 
 -- with these bytes sent: the new ones go to the end, and where they weren't all taken some first part of them
 abbrev pub Sends : Out → List ℕ → List ℕ → Option (List ℕ) → Type 0

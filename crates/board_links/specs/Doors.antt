@@ -33,10 +33,10 @@ module _ {L : Type 0} where
   links_in (visit.Came link) = link ∷ []
   links_in answer = []
 
-  -- a door fails only where the count of faults rose
+  -- the count of faults rose where a door fails, and stayed otherwise
   abbrev pub VisitRaises : Visit L → ℕ → ℕ → Type 0
   VisitRaises visit.Failed old new = HasRisen old new
-  VisitRaises answer old new = Unit {0}
+  VisitRaises answer old new = new ≡ old
 
   -- a link that comes has had no fault
   abbrev pub ComesFresh : (L → ℕ) → Visit L → Type 0

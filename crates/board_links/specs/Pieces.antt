@@ -16,10 +16,10 @@ HasSize (Got n) room = (1 ≤ n) × (n ≤ room)
 HasSize End room = Unit {0}
 HasSize Failed room = Unit {0}
 
--- a read fails only where the count of faults rose
+-- the count of faults rose at a read that fails, and stayed at any other
 abbrev pub ReadRaises : Piece → ℕ → ℕ → Type 0
-ReadRaises (Got n) old new = Unit {0}
-ReadRaises End old new = Unit {0}
+ReadRaises (Got n) old new = new ≡ old
+ReadRaises End old new = new ≡ old
 ReadRaises Failed old new = HasRisen old new
 
 -- with these bytes left: those of a piece come off the front, the end comes where there are none, and a fault takes none
@@ -28,9 +28,9 @@ Reads (Got n) buf left after = (n ≤ length left) × (take n buf ≡ take n lef
 Reads End buf left after = (left ≡ []) × (after ≡ Some [])
 Reads Failed buf left after = after ≡ Some left
 
--- a write fails only where the count of faults rose
+-- the count of faults rose at a write that fails, and stayed at any other
 abbrev pub WriteRaises : sink.Put → ℕ → ℕ → Type 0
-WriteRaises put.Done old new = Unit {0}
+WriteRaises put.Done old new = new ≡ old
 WriteRaises put.Failed old new = HasRisen old new
 
 -- with these bytes held: a piece goes to the end, and of a piece that fails some first part
