@@ -1,0 +1,13 @@
+pub mod Rows
+pub mod Values
+pub mod Texts
+pub mod Messages
+pub mod Plains
+pub mod Grounds
+pub mod Grounding
+pub mod Steps
+pub mod Stories
+pub mod Streams
+pub mod Reading
+pub mod Likes
+pub mod Clauses

@@ -1,0 +1,7 @@
+pub mod Calls
+pub mod Views
+pub mod Grounded
+pub mod Lines
+pub mod Following
+pub mod Seeing
+pub mod Doing
