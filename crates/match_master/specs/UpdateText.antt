@@ -1,5 +1,5 @@
 -- The line that tells a viewer of an accepted action, by what is held of the match before it and what it comes to.
-use Rattle.std.specs.Prelude.{◌≡◌, ℕ, List, [], ◌∷◌, codes, Option}
+use Rattle.std.specs.Prelude.{◌≡◌, ℕ, List, [], ◌∷◌, Option}
 use Rattle.game_trait.specs.Rules.{Rules}
 use Rattle.move_log.specs.Redact.{redact}
 use Rattle.move_log.specs.declared.entry.Entry.{Entry}
@@ -8,29 +8,13 @@ use Rattle.player_sight.specs.CtxData.{ctx_data}
 use Rattle.player_sight.specs.EntryData.{entry_data}
 use Rattle.reducer.specs.Prepared.{Coming}
 use Rattle.reducer.specs.Standing.{Standing}
-use Rattle.serde_json.specs.Data.{Data, string, Members, member, no_members}
-use Rattle.sheet_json.specs.Seats.{natural}
-use Rattle.wire_json.specs.ServerText.{of_type}
+use Rattle.serde_json.specs.Data.{Data}
 use Rattle.wire_json.specs.declared.protocol.Protocol.{Protocol}
 use Rattle.wire_json.specs.declared.protocol.Protocol.TheVariants.{One, Two}
 use Rattle.player_sight.specs.Change.{gone_part, put_part}
 use Rattle.room_history.specs.Message.{Change, Message, Update, line}
 use Rattle.match_master.specs.Attached.{Lines}
 use Rattle.match_master.specs.declared.made_lines.MadeLine.{MadeLine}
-
--- the members of a change line, by the value of its parts
-abbrev pub change_members : Data → Data → Data → ℕ → ℕ → Members
-change_members ctx entry g number was =
-    member (codes "ctx") ctx (member (codes "entry") entry (member (codes "g") g
-    (member (codes "number") (natural number) (member (codes "type") (string (codes "change")) (member (codes "was") (natural was) no_members)))))
-
--- and those of a sync line, by protocol
-abbrev pub sync_members : List ℕ → Data → Data → Members
-sync_members name seat snapshot = member (codes "match") (string name) (member (codes "seat") seat (member (codes "snapshot") snapshot (of_type (codes "sync"))))
-
-abbrev pub second_sync_members : List ℕ → Data → Data → Members
-second_sync_members name seat snapshot =
-    member (codes "match") (string name) (member (codes "protocol") (natural 2) (member (codes "seat") seat (member (codes "snapshot") snapshot (of_type (codes "sync")))))
 
 -- the value of what a viewer sees of a state
 abbrev pub value_seen : {G : Type 0} → Rules G → Reached G → Option ℕ → Data

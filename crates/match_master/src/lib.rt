@@ -1,6 +1,7 @@
 //! A room: one match, who is attached to it, and what waits for each of them.
 #![tactic(auto)]
 
+mod action;
 mod attaching;
 mod attachments;
 mod book;

@@ -1,41 +1,33 @@
 //! The lines of an attachment, made of the state of the match.
 
-ghost use Rattle.std.specs.Prelude.{◌≡◌, codes, false, IfOk};
+ghost use Rattle.std.specs.Prelude.{◌≡◌, ◌-◌, false, IfOk};
+ghost use Rattle.serde_json.specs.Data.{Data};
 ghost use Rattle.serde_json.specs.View.{view};
-ghost use Rattle.serde_json.specs.Data.{object, member, no_members};
-ghost use Rattle.serde_json.specs.Written.{has_float};
+ghost use Rattle.serde_json.specs.Written.{compact_text, has_float};
 ghost use Rattle.move_log.specs.Redact.{redact};
 ghost use Rattle.player_sight.specs.EntryData.{entry_data};
 ghost use Rattle.player_sight.specs.CtxData.{ctx_data};
 ghost use Rattle.player_sight.specs.SnapshotData.{snapshot_data};
 ghost use Rattle.player_sight.specs.Change.{put_part, gone_part};
-ghost use Rattle.room_history.specs.Message.{Change, Message, No, Ok as Accepts, Sync, Update, line, members_of};
+ghost use Rattle.room_history.specs.Message.{Change, No, Ok as Accepts, Sync, Update, line};
 ghost use Rattle.match_master.specs.Does.{seen_at};
-ghost use Rattle.match_master.specs.UpdateText.{action_line, change_members, second_sync_members, sync_members, value_seen};
+ghost use Rattle.match_master.specs.UpdateText.{action_line, value_seen};
 
+use crate::action::Action;
 use game_sheet::{Ctx, MatchName, NoMemory, Number, Seat, Sheet};
 use game_trait::Game;
-use json_tree::line_of;
 use move_log::Entry;
-use player_sight::{changed, ctx_value, entry_value, snapshot, to_value};
-use reducer::{Prepared, State};
-use serde_json::{Value, json};
-use sheet_json::seat_value;
-use std::alloc::{AllocError, Global};
-use wire_json::{Protocol, Reason, text_of_match};
+use player_sight::{changed, ctx_value, put_ctx, put_entry, put_snapshot};
+use reducer::State;
+use serde_json::Value;
+use std::alloc::Global;
+use wire_json::{Protocol, Reason, put_change, put_no, put_ok, put_sync, put_update};
 
-/// An action that a state of a match has accepted and not yet taken in, with what it comes to and its entry of the log.
-#[derive(Drop)]
-pub struct Action<'a, X, G> {
-    /// The game.
-    pub game: &'a X,
-    /// The state before it.
-    pub state: &'a State<G>,
-    /// What it comes to.
-    pub prepared: &'a Prepared<G>,
-    /// Its entry of the log.
-    pub entry: &'a Entry,
-}
+/// What most parts of a line take, in bytes. Longer ones grow.
+const PART: usize = 512;
+
+/// What a line takes besides the texts of its parts, in bytes, at most.
+const FRAME: usize = 96;
 
 /// The line that begins a session: the whole state as its viewer sees it, and the log.
 pub fn sync<X: Game>(
@@ -49,79 +41,239 @@ pub fn sync<X: Game>(
 ) -> Result<Vec<u8>, NoMemory>
     ensures { IfOk result (λ l. l.items ≡ line (Sync name seat protocol (snapshot_data (X.rules game.now).sheet (seen_at (X.rules game.now) state.now log.now seat)))) }
 {
-    let shown = snapshot(
+    let snapshot = snapshot_text(alloc, game, seat, state, log)?;
+    sync_line(alloc, &name, seat, protocol, snapshot.as_slice())
+}
+
+/// The text of the whole state as a viewer sees it, with the log.
+fn snapshot_text<X: Game>(
+    alloc: Global,
+    game: &X,
+    seat: Option<Seat>,
+    state: &State<X::G>,
+    log: &[Entry],
+) -> Result<Vec<u8>, NoMemory>
+    ensures { IfOk result (λ t. t.items ≡ compact_text (snapshot_data (X.rules game.now).sheet (seen_at (X.rules game.now) state.now log.now seat))) }
+{
+    let g = seen_text(alloc, game, state.g(), state.ctx(), seat)?;
+    let mut text = Vec::with_capacity(alloc, PART)?;
+    put_snapshot(
         alloc,
-        game,
+        &mut text,
+        game.sheet(),
         state.number(),
         state.ctx(),
-        state.g(),
+        g.as_slice(),
         log,
         seat,
     )?;
-    let value = to_value(alloc, game, &shown)?;
-    sync_line(alloc, name, seat, protocol, value)
+    Ok(text)
+}
+
+#[tactic(auto, using(crate::proofs::LineLaws::sync_is))]
+fn sync_line(
+    alloc: Global,
+    name: &MatchName,
+    seat: Option<Seat>,
+    protocol: Protocol,
+    snapshot: &[u8],
+) -> Result<Vec<u8>, NoMemory>
+    ensures { (s : Data) → snapshot.now ≡ compact_text s → IfOk result (λ l. l.items ≡ line (Sync name.now seat protocol s)) }
+{
+    let mut line = Vec::with_capacity(alloc, FRAME.saturating_add(snapshot.len()))?;
+    put_sync(alloc, &mut line, name, seat, protocol, snapshot)?;
+    Ok(line)
+}
+
+/// The text of a context.
+pub fn ctx_text(alloc: Global, sheet: &Sheet, ctx: &Ctx) -> Result<Vec<u8>, NoMemory>
+    ensures { IfOk result (λ t. t.items ≡ compact_text (ctx_data sheet.now ctx.now)) }
+{
+    let mut text = Vec::with_capacity(alloc, PART)?;
+    put_ctx(alloc, &mut text, sheet, ctx)?;
+    Ok(text)
 }
 
 /// The line of an accepted action as a viewer sees it, whole or by what it changed.
 pub fn update<X: Game>(
     alloc: Global,
-    action: &Action<'_, X, X::G>,
+    action: &Action<'_, X>,
     seat: Option<Seat>,
     protocol: Protocol,
 ) -> Result<Vec<u8>, NoMemory>
     ensures { IfOk result (λ l. l.items ≡ action_line (X.rules action.now.game.now) action.now.state.now action.now.prepared.now action.now.entry.now seat protocol) }
 {
-    let sheet = action.game.sheet();
-    let entry = shown_entry(alloc, sheet, action.entry, seat)?;
-    let after = seen(
+    let entry = entry_text(alloc, action.game.sheet(), action.entry, seat)?;
+    match protocol {
+        Protocol::One => whole(alloc, action, seat, entry.as_slice()),
+        Protocol::Two => change(alloc, action, seat, entry.as_slice()),
+    }
+}
+
+/// The line of an accepted action with all that it comes to.
+fn whole<X: Game>(
+    alloc: Global,
+    action: &Action<'_, X>,
+    seat: Option<Seat>,
+    entry: &[u8],
+) -> Result<Vec<u8>, NoMemory>
+    ensures { (e : Data) → entry.now ≡ compact_text e → IfOk result (λ l. l.items ≡ line (Update (ctx_data (X.rules action.now.game.now).sheet action.now.prepared.now.table.ctx) e
+        (value_seen (X.rules action.now.game.now) action.now.prepared.now.table seat) action.now.prepared.now.number)) }
+{
+    let g = seen_text(
         alloc,
         action.game,
         action.prepared.g(),
         action.prepared.ctx(),
         seat,
     )?;
-    let ctx = ctx_value(alloc, sheet, action.prepared.ctx())?;
-    match protocol {
-        Protocol::One => update_line(alloc, ctx, entry, after, action.prepared.number()),
-        Protocol::Two => change(alloc, action, seat, ctx, entry, after),
+    update_line(
+        alloc,
+        action.ctx,
+        entry,
+        g.as_slice(),
+        action.prepared.number(),
+    )
+}
+
+#[tactic(auto, using(crate::proofs::LineLaws::update_is))]
+fn update_line(
+    alloc: Global,
+    ctx: &[u8],
+    entry: &[u8],
+    g: &[u8],
+    number: Number,
+) -> Result<Vec<u8>, NoMemory>
+    ensures { (c e s : Data) → ctx.now ≡ compact_text c → entry.now ≡ compact_text e → g.now ≡ compact_text s
+        → IfOk result (λ l. l.items ≡ line (Update c e s number)) }
+{
+    let room = FRAME.saturating_add(ctx.len()).saturating_add(entry.len());
+    let mut line = Vec::with_capacity(alloc, room.saturating_add(g.len()))?;
+    put_update(&mut line, ctx, entry, g, number)?;
+    Ok(line)
+}
+
+/// The line of what an accepted action changed for a viewer.
+fn change<X: Game>(
+    alloc: Global,
+    action: &Action<'_, X>,
+    seat: Option<Seat>,
+    entry: &[u8],
+) -> Result<Vec<u8>, NoMemory>
+    ensures { (e : Data) → entry.now ≡ compact_text e → IfOk result (λ l. l.items ≡ line (Change
+        (put_part (ctx_data (X.rules action.now.game.now).sheet action.now.state.now.table.ctx) (ctx_data (X.rules action.now.game.now).sheet action.now.prepared.now.table.ctx)) e
+        (gone_part (value_seen (X.rules action.now.game.now) action.now.state.now.table seat) (value_seen (X.rules action.now.game.now) action.now.prepared.now.table seat))
+        (put_part (value_seen (X.rules action.now.game.now) action.now.state.now.table seat) (value_seen (X.rules action.now.game.now) action.now.prepared.now.table seat))
+        action.now.prepared.now.number action.now.state.now.number)) }
+{
+    let ctx = changed_ctx(alloc, action)?;
+    let g = changed_state(alloc, action, seat)?;
+    change_line(
+        alloc,
+        ctx.put.as_slice(),
+        entry,
+        g.gone.as_slice(),
+        g.put.as_slice(),
+        action.prepared.number(),
+    )
+}
+
+#[tactic(auto, using(crate::proofs::LineLaws::change_is))]
+fn change_line(
+    alloc: Global,
+    ctx: &[u8],
+    entry: &[u8],
+    gone: &[u8],
+    put: &[u8],
+    number: Number,
+) -> Result<Vec<u8>, NoMemory>
+    ensures { (c e n p : Data) → ctx.now ≡ compact_text c → entry.now ≡ compact_text e → gone.now ≡ compact_text n → put.now ≡ compact_text p
+        → IfOk result (λ l. l.items ≡ line (Change c e n p number (number - 1))) }
+{
+    let room = FRAME.saturating_add(ctx.len()).saturating_add(entry.len());
+    let room = room.saturating_add(gone.len()).saturating_add(put.len());
+    let mut line = Vec::with_capacity(alloc, room)?;
+    put_change(&mut line, ctx, entry, gone, put, number)?;
+    Ok(line)
+}
+
+/// The texts of what a value has that an older one had not or had otherwise, and of the names that it has no more.
+#[derive(Drop)]
+struct Changed {
+    put: Vec<u8>,
+    gone: Vec<u8>,
+}
+
+/// What an accepted action changed in the context.
+fn changed_ctx<X: Game>(alloc: Global, action: &Action<'_, X>) -> Result<Changed, NoMemory>
+    ensures { IfOk result (λ t. t.put.items ≡ compact_text (put_part (ctx_data (X.rules action.now.game.now).sheet action.now.state.now.table.ctx)
+        (ctx_data (X.rules action.now.game.now).sheet action.now.prepared.now.table.ctx))) }
+{
+    let sheet = action.game.sheet();
+    let before = ctx_value(alloc, sheet, action.state.ctx())?;
+    match ctx_value(alloc, sheet, action.prepared.ctx()) {
+        Ok(after) => changed_texts(alloc, before, after),
+        Err(no) => {
+            drop(before);
+            Err(no)
+        }
     }
 }
 
-/// The line of what an accepted action changed for a viewer, by the values after it.
-fn change<X: Game>(
+/// What an accepted action changed in what a viewer sees of the game's state.
+fn changed_state<X: Game>(
     alloc: Global,
-    action: &Action<'_, X, X::G>,
+    action: &Action<'_, X>,
     seat: Option<Seat>,
-    ctx: Value,
-    entry: Value,
-    after: Value,
-) -> Result<Vec<u8>, NoMemory>
-    requires ctx { has_float (view ctx) ≡ false }
-    requires entry { has_float (view entry) ≡ false }
-    requires after { has_float (view after) ≡ false }
-    ensures { IfOk result (λ l. l.items ≡ line (Change (put_part (ctx_data (X.rules action.now.game.now).sheet action.now.state.now.table.ctx) (view ctx)) (view entry)
-        (gone_part (value_seen (X.rules action.now.game.now) action.now.state.now.table seat) (view after)) (put_part (value_seen (X.rules action.now.game.now) action.now.state.now.table seat) (view after))
-        action.now.prepared.now.number action.now.state.now.number)) }
+) -> Result<Changed, NoMemory>
+    ensures put { IfOk result (λ t. t.put.items ≡ compact_text (put_part (value_seen (X.rules action.now.game.now) action.now.state.now.table seat)
+        (value_seen (X.rules action.now.game.now) action.now.prepared.now.table seat))) }
+    ensures gone { IfOk result (λ t. t.gone.items ≡ compact_text (gone_part (value_seen (X.rules action.now.game.now) action.now.state.now.table seat)
+        (value_seen (X.rules action.now.game.now) action.now.prepared.now.table seat))) }
 {
-    let before = seen(
+    let game = action.game;
+    let before = seen(alloc, game, action.state.g(), action.state.ctx(), seat)?;
+    match seen(
         alloc,
-        action.game,
-        action.state.g(),
-        action.state.ctx(),
+        game,
+        action.prepared.g(),
+        action.prepared.ctx(),
         seat,
-    )?;
-    let (put, gone) = changed(alloc, &before, &after)?;
-    let old_ctx = ctx_value(alloc, action.game.sheet(), action.state.ctx())?;
-    let (new_ctx, _gone) = changed(alloc, &old_ctx, &ctx)?;
-    change_line(
-        alloc,
-        new_ctx,
-        entry,
-        gone,
-        put,
-        action.prepared.number(),
-        action.state.number(),
-    )
+    ) {
+        Ok(after) => changed_texts(alloc, before, after),
+        Err(no) => {
+            drop(before);
+            Err(no)
+        }
+    }
+}
+
+fn changed_texts(alloc: Global, before: Value, after: Value) -> Result<Changed, NoMemory>
+    requires before { has_float (view before) ≡ false }
+    requires after { has_float (view after) ≡ false }
+    ensures put { IfOk result (λ t. t.put.items ≡ compact_text (put_part (view before) (view after))) }
+    ensures gone { IfOk result (λ t. t.gone.items ≡ compact_text (gone_part (view before) (view after))) }
+{
+    let parts = changed(alloc, &before, &after);
+    drop(before);
+    drop(after);
+    let (put, gone) = parts?;
+    let put = text_of(alloc, put);
+    let gone = text_of(alloc, gone);
+    Ok(Changed {
+        put: put?,
+        gone: gone?,
+    })
+}
+
+/// The text of a value.
+fn text_of(alloc: Global, value: Value) -> Result<Vec<u8>, NoMemory>
+    requires { has_float (view value) ≡ false }
+    ensures { IfOk result (λ t. t.items ≡ compact_text (view value)) }
+{
+    let text = value.to_vec(alloc);
+    drop(value);
+    Ok(text?)
 }
 
 /// The value of what a viewer sees of a state.
@@ -139,160 +291,53 @@ fn seen<X: Game>(
     game.to_value(alloc, &shown)
 }
 
-/// The value of an entry of the log as a viewer sees it.
-fn shown_entry(
+/// The text of what a viewer sees of a state.
+fn seen_text<X: Game>(
+    alloc: Global,
+    game: &X,
+    g: &X::G,
+    ctx: &Ctx,
+    seat: Option<Seat>,
+) -> Result<Vec<u8>, NoMemory>
+    ensures { IfOk result (λ t. t.items ≡ compact_text ((X.rules game.now).value ((X.rules game.now).view g.now ctx.now seat))) }
+{
+    let shown = game.view(alloc, g, ctx, seat)?;
+    let mut text = Vec::with_capacity(alloc, PART)?;
+    game.write(alloc, &mut text, &shown)?;
+    Ok(text)
+}
+
+/// The text of an entry of the log as a viewer sees it.
+fn entry_text(
     alloc: Global,
     sheet: &Sheet,
     entry: &Entry,
     seat: Option<Seat>,
-) -> Result<Value, NoMemory>
-    ensures value { IfOk result (λ v. view v ≡ entry_data sheet.now (redact sheet.now seat entry.now)) }
-    ensures no_float { IfOk result (λ v. has_float (view v) ≡ false) }
+) -> Result<Vec<u8>, NoMemory>
+    ensures { IfOk result (λ t. t.items ≡ compact_text (entry_data sheet.now (redact sheet.now seat entry.now))) }
 {
     let shown = entry.redacted(sheet, seat);
-    entry_value(alloc, sheet, &shown)
+    let mut text = Vec::with_capacity(alloc, PART)?;
+    put_entry(alloc, &mut text, sheet, &shown)?;
+    Ok(text)
 }
 
 /// The line that tells a session that its action was accepted.
+#[tactic(auto, using(crate::proofs::LineLaws::ok_is))]
 pub fn ok(alloc: Global, number: Number, ticket: u32) -> Result<Vec<u8>, NoMemory>
     ensures { IfOk result (λ l. l.items ≡ line (Accepts number ticket)) }
 {
-    let value = json!(in alloc; {"number": number, "ticket": ticket, "type": "ok"})?;
-    line_from(alloc, value)
+    let mut line = Vec::with_capacity(alloc, FRAME)?;
+    put_ok(&mut line, number, ticket)?;
+    Ok(line)
 }
 
 /// The line that tells a session that its action was refused, and why.
+#[tactic(auto, using(crate::proofs::LineLaws::no_is))]
 pub fn no(alloc: Global, number: Number, reason: Reason, ticket: u32) -> Result<Vec<u8>, NoMemory>
     ensures { IfOk result (λ l. l.items ≡ line (No number reason ticket)) }
 {
-    let value = no_value(alloc, number, reason, ticket)?;
-    line_from(alloc, value)
-}
-
-fn no_value(alloc: Global, number: Number, reason: Reason, ticket: u32) -> Result<Value, NoMemory>
-    ensures value { IfOk result (λ v. view v ≡ object (members_of (No number reason ticket))) }
-    ensures no_float { IfOk result (λ v. has_float (view v) ≡ false) }
-{
-    let value =
-        json!(in alloc; {"number": number, "reason": reason.name(), "ticket": ticket, "type": "no"})?;
-    Ok(value)
-}
-
-fn sync_line(
-    alloc: Global,
-    name: MatchName,
-    seat: Option<Seat>,
-    protocol: Protocol,
-    snapshot: Value,
-) -> Result<Vec<u8>, NoMemory>
-    requires { has_float (view snapshot) ≡ false }
-    ensures { IfOk result (λ l. l.items ≡ line (Sync name seat protocol (view snapshot))) }
-{
-    let name = text_of_match(alloc, &name)?;
-    let seat = seat_value(seat);
-    match protocol {
-        Protocol::One => {
-            let value = sync_object(alloc, name.as_str(), seat, snapshot)?;
-            line_from(alloc, value)
-        }
-        Protocol::Two => {
-            let value = second_sync_object(alloc, name.as_str(), seat, snapshot)?;
-            line_from(alloc, value)
-        }
-    }
-}
-
-fn sync_object(alloc: Global, name: &str, seat: Value, snapshot: Value) -> Result<Value, AllocError>
-    ensures { IfOk result (λ v. view v ≡ object (sync_members name.now (view seat) (view snapshot))) }
-{
-    json!(in alloc; {"match": name, "seat": seat, "snapshot": snapshot, "type": "sync"})
-}
-
-fn second_sync_object(
-    alloc: Global,
-    name: &str,
-    seat: Value,
-    snapshot: Value,
-) -> Result<Value, AllocError>
-    ensures { IfOk result (λ v. view v ≡ object (second_sync_members name.now (view seat) (view snapshot))) }
-{
-    json!(in alloc; {"match": name, "protocol": 2u32, "seat": seat, "snapshot": snapshot, "type": "sync"})
-}
-
-fn update_line(
-    alloc: Global,
-    ctx: Value,
-    entry: Value,
-    g: Value,
-    number: Number,
-) -> Result<Vec<u8>, NoMemory>
-    requires ctx { has_float (view ctx) ≡ false }
-    requires entry { has_float (view entry) ≡ false }
-    requires g { has_float (view g) ≡ false }
-    ensures { IfOk result (λ l. l.items ≡ line (Update (view ctx) (view entry) (view g) number)) }
-{
-    let value = update_object(alloc, ctx, entry, g, number)?;
-    line_from(alloc, value)
-}
-
-fn update_object(
-    alloc: Global,
-    ctx: Value,
-    entry: Value,
-    g: Value,
-    number: Number,
-) -> Result<Value, AllocError>
-    ensures { IfOk result (λ v. view v ≡ object (members_of (Update (view ctx) (view entry) (view g) number))) }
-{
-    json!(in alloc; {"ctx": ctx, "entry": entry, "g": g, "number": number, "type": "update"})
-}
-
-fn change_line(
-    alloc: Global,
-    ctx: Value,
-    entry: Value,
-    gone: Value,
-    put: Value,
-    number: Number,
-    was: Number,
-) -> Result<Vec<u8>, NoMemory>
-    requires ctx { has_float (view ctx) ≡ false }
-    requires entry { has_float (view entry) ≡ false }
-    requires gone { has_float (view gone) ≡ false }
-    requires put { has_float (view put) ≡ false }
-    ensures { IfOk result (λ l. l.items ≡ line (Change (view ctx) (view entry) (view gone) (view put) number was)) }
-{
-    let g = parts_object(alloc, gone, put)?;
-    let value = change_object(alloc, ctx, entry, g, number, was)?;
-    line_from(alloc, value)
-}
-
-fn parts_object(alloc: Global, gone: Value, put: Value) -> Result<Value, AllocError>
-    ensures { IfOk result (λ v. view v ≡ object (member (codes "gone") (view gone) (member (codes "put") (view put) no_members))) }
-{
-    json!(in alloc; {"gone": gone, "put": put})
-}
-
-fn change_object(
-    alloc: Global,
-    ctx: Value,
-    entry: Value,
-    g: Value,
-    number: Number,
-    was: Number,
-) -> Result<Value, AllocError>
-    ensures { IfOk result (λ v. view v ≡ object (change_members (view ctx) (view entry) (view g) number was)) }
-{
-    json!(in alloc; {"ctx": ctx, "entry": entry, "g": g, "number": number, "type": "change", "was": was})
-}
-
-#[tactic(auto, unfolding(room_history::specs::Message::line))]
-fn line_from(alloc: Global, value: Value) -> Result<Vec<u8>, NoMemory>
-    requires { has_float (view value) ≡ false }
-    ensures { (m : Message) → view value ≡ object (members_of m) → IfOk result (λ l. l.items ≡ line m) }
-{
-    match line_of(alloc, &value) {
-        Ok(line) => Ok(line),
-        Err(_) => Err(NoMemory),
-    }
+    let mut line = Vec::with_capacity(alloc, FRAME)?;
+    put_no(&mut line, number, reason, ticket)?;
+    Ok(line)
 }

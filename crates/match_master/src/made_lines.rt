@@ -4,7 +4,8 @@ ghost use Rattle.std.specs.Prelude.{◌≡◌, true, IfOk, IfSome};
 ghost use Rattle.match_master.specs.Attached.{Lines};
 ghost use Rattle.match_master.specs.UpdateText.{AreMade, action_line};
 
-use crate::line::{self, Action};
+use crate::action::Action;
+use crate::line;
 use game_sheet::{NoMemory, Seat};
 use game_trait::Game;
 use std::alloc::Global;
@@ -25,7 +26,7 @@ pub struct MadeLine {
 /// The line for a seat and a protocol, from among those that were made; it is made where it isn't there.
 pub fn line_for<X: Game>(
     alloc: Global,
-    action: &Action<'_, X, X::G>,
+    action: &Action<'_, X>,
     made: &mut Vec<MadeLine>,
     seat: Option<Seat>,
     protocol: Protocol,

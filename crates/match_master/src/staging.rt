@@ -6,8 +6,8 @@ ghost use Rattle.match_master.specs.Attached.{all_held, all_ready, all_told, sta
 ghost use Rattle.match_master.specs.Places.{at_place};
 ghost use Rattle.match_master.specs.UpdateText.{AreMade, action_line};
 
+use crate::action::Action;
 use crate::attachments::{Attachments, stage_at, viewer_at};
-use crate::line::Action;
 use crate::made_lines::{MadeLine, line_for};
 use game_sheet::NoMemory;
 use game_trait::Game;
@@ -17,7 +17,7 @@ use std::sync::Arc;
 /// Stages at each attachment the line for its viewer and, at the pass's own, the verdict behind that. What waits is as before.
 pub fn stage_all<X: Game>(
     alloc: Global,
-    action: &Action<'_, X, X::G>,
+    action: &Action<'_, X>,
     attachments: &mut Attachments,
     pass: u32,
     verdict: &Arc<Vec<u8>>,
@@ -38,7 +38,7 @@ pub fn stage_all<X: Game>(
 /// Stages the lines at the attachment at a place.
 fn stage_place<X: Game>(
     alloc: Global,
-    action: &Action<'_, X, X::G>,
+    action: &Action<'_, X>,
     made: &mut Vec<MadeLine>,
     attachments: &mut Attachments,
     place: usize,

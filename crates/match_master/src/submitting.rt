@@ -1,25 +1,27 @@
 //! The actions that are submitted to a room.
 
-ghost use Rattle.std.specs.Prelude.{◌≡◌, ◌+◌, ℕ, Option, IsSome, IfSome, option_map, nat_eq};
+ghost use Rattle.std.specs.Prelude.{◌≡◌, ◌+◌, ℕ, Option, IsSome, IfOk, IfSome, option_map, nat_eq};
 ghost use Rattle.std.specs.Map.{lookup};
 ghost use Rattle.reducer.specs.Prepared.{IsReady};
 ghost use Rattle.wire_json.specs.declared.verdict.Verdict.TheVariants as verdict;
 ghost use Rattle.room_history.specs.Match.{Match};
+ghost use Rattle.room_history.specs.Message.{Ok as Accepts, line};
 ghost use Rattle.room_history.specs.declared.reply.RoomReply.TheVariants as answer;
 ghost use Rattle.match_master.specs.Attached.{open_viewer};
 ghost use Rattle.match_master.specs.Does.{Does, SubmitDoes, with_accepted, with_refused};
 ghost use Rattle.match_master.specs.Held.{running_of};
 
-use crate::attachments;
+use crate::action::Action;
 use crate::book::Book;
 use crate::judge::{Judged, judge};
-use crate::line::{self, Action};
 use crate::staging::stage_all;
-use game_sheet::Number;
+use crate::{attachments, line};
+use game_sheet::{NoMemory, Number};
 use game_trait::Game;
 use move_log::Entry;
 use reducer::Prepared;
 use room_history::RoomReply;
+use std::alloc::Global;
 use std::sync::Arc;
 use wire_json::{Reason, Submission, Verdict};
 
@@ -80,22 +82,23 @@ impl<X: Game + Drop> Book<X> {
         ensures does { IfSome self.old.running (λ r. Does self.old result self.new (answer.Verdict (verdict.Ok prepared.number)) (with_accepted X.rules self.old r pass prepared entry ticket)) }
     {
         let number = prepared.number();
-        let Ok(verdict) = line::ok(self.alloc, number, ticket) else {
-            drop(prepared);
-            return RoomReply::NoMemory;
-        };
-        let Ok(verdict) = Arc::new(self.alloc, verdict) else {
+        let Ok(verdict) = accepted_line(self.alloc, number, ticket) else {
             drop(prepared);
             return RoomReply::NoMemory;
         };
         let Some(running) = &self.running else {
             unreachable!();
         };
+        let Ok(ctx) = line::ctx_text(self.alloc, running.game.sheet(), prepared.ctx()) else {
+            drop(prepared);
+            return RoomReply::NoMemory;
+        };
         let action = Action {
             game: &running.game,
             state: &running.state,
             prepared: &prepared,
             entry: &entry,
+            ctx: ctx.as_slice(),
         };
         let Ok(()) = stage_all(self.alloc, &action, &mut self.attachments, pass, &verdict) else {
             drop(prepared);
@@ -110,4 +113,12 @@ impl<X: Game + Drop> Book<X> {
         attachments::commit_all(&mut self.attachments);
         RoomReply::Verdict(Verdict::Ok { number })
     }
+}
+
+/// The line that tells a session that its action was accepted, as outboxes hold it.
+fn accepted_line(alloc: Global, number: Number, ticket: u32) -> Result<Arc<Vec<u8>>, NoMemory>
+    ensures { IfOk result (λ told. told.value.items ≡ line (Accepts number ticket)) }
+{
+    let line = line::ok(alloc, number, ticket)?;
+    Ok(Arc::new(alloc, line)?)
 }

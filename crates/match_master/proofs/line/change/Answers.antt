@@ -1,24 +1,20 @@
-use Rattle.std.proofs.Common.{◌≡◌, IfOk, ap, ◌∙◌, subst}
+use Rattle.std.proofs.Common.{◌≡◌, ◌-◌, IfOk, ◌∙◌, subst, arith}
 use Rattle.player_sight.specs.Change.{gone_part, put_part}
 use Rattle.player_sight.specs.CtxData.{ctx_data}
-use Rattle.serde_json.specs.View.{view}
 use Rattle.room_history.specs.Message.{Change, line}
 use Rattle.match_master.specs.UpdateText.{value_seen}
 use Rattle.match_master.proofs.line.change.Goals as goal
 
 pub returns : goal.returns
-returns g c =
+returns g c = λ entry told.
     let rules = g.X.Game.rules c.args.action.now.game.now in
-    let state = c.args.action.now.state.now in
-    let old_ctx = rw (c.sheet.ensures.value, c.ctx-2.ensures) at c.in_ok-old_ctx.ensures.value in
-    let before = rw (c.g.ensures, c.ctx.ensures) at c.in_ok-before.ensures.value in
-    let new_ctx = c.in_ok-new_ctx.ensures.put ∙ ap (λ d. put_part d (view c.args.ctx)) old_ctx in
-    let gone = c.in_ok-put.ensures.gone ∙ ap (λ d. gone_part d (view c.args.after)) before in
-    let put = c.in_ok-put.ensures.put ∙ ap (λ d. put_part d (view c.args.after)) before in
-    subst (λ m. IfOk c.change_line.result (λ l. l.items ≡ line m))
-    (ap (λ d. Change d (view c.args.entry) (view c.in_ok-put.gone) (view c.in_ok-put.put) c.number.result c.number-2.result) new_ctx
-    ∙ ap (λ d. Change (put_part (ctx_data rules.sheet state.table.ctx) (view c.args.ctx)) (view c.args.entry) d (view c.in_ok-put.put) c.number.result c.number-2.result) gone
-    ∙ ap (λ d. Change (put_part (ctx_data rules.sheet state.table.ctx) (view c.args.ctx)) (view c.args.entry) (gone_part (value_seen rules state.table c.args.seat) (view c.args.after)) d c.number.result c.number-2.result) put
-    ∙ ap (λ n. Change (put_part (ctx_data rules.sheet state.table.ctx) (view c.args.ctx)) (view c.args.entry) (gone_part (value_seen rules state.table c.args.seat) (view c.args.after)) (put_part (value_seen rules state.table c.args.seat) (view c.args.after)) n c.number-2.result) c.number.ensures
-    ∙ ap (Change (put_part (ctx_data rules.sheet state.table.ctx) (view c.args.ctx)) (view c.args.entry) (gone_part (value_seen rules state.table c.args.seat) (view c.args.after)) (put_part (value_seen rules state.table c.args.seat) (view c.args.after)) c.args.action.now.prepared.now.number) c.number-2.ensures)
-    c.change_line.ensures
+    let before = c.args.action.now.state.now in
+    let after = c.args.action.now.prepared.now in
+    let ctx = put_part (ctx_data rules.sheet before.table.ctx) (ctx_data rules.sheet after.table.ctx) in
+    let gone = gone_part (value_seen rules before.table c.args.seat) (value_seen rules after.table c.args.seat) in
+    let put = put_part (value_seen rules before.table c.args.seat) (value_seen rules after.table c.args.seat) in
+    let was : after.number - 1 ≡ before.number = omega (arith, c.args.action.now.follows) in
+    subst (λ n. IfOk c.change_line.result (λ l. l.items ≡ line (Change ctx entry gone put after.number n))) was
+    (subst (λ n. IfOk c.change_line.result (λ l. l.items ≡ line (Change ctx entry gone put n (n - 1)))) c.number.ensures
+    (c.change_line.ensures ctx entry gone put (c.as_slice.ensures.value ∙ c.in_ok-ctx.ensures) told
+    (c.as_slice-2.ensures.value ∙ c.in_ok-g.ensures.gone) (c.as_slice-3.ensures.value ∙ c.in_ok-g.ensures.put)))
