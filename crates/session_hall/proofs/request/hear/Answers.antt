@@ -1,0 +1,17 @@
+use Rattle.std.proofs.Common.{◌∙◌, ap, subst}
+use Rattle.any_game.specs.GameKind.{GameKind}
+use Rattle.game_hall.specs.Core.{Core, is_again, plain, written}
+use Rattle.wire_json.specs.ClientReading.{client_read}
+use Rattle.session_hall.proofs.Hearing.{hears_as, hears_served, hears_unread}
+use Rattle.session_hall.proofs.request.hear.Goals.{in-Ok, in-Err}
+use Rattle.session_hall.proofs.request.hear.Goals as goal
+
+pub returns-clause-heard : goal.returns-clause-heard
+returns-clause-heard c = λ words h pass r. elim c.match-on_line.branch [
+  | in-Ok w ↦ hears_as words h pass (client_read c.args.line.now) w.run.new.core c.written.new.self c.match-on_line.books w.run.new.books c.written.result c.is_again.result
+      (hears_served words h pass (client_read c.args.line.now) c.args.core.now c.args.books.now _ c.args.seed.now r w.run.new.books c.on_line.new.self w.run.new.core w.in-Ok.ensures.heard (w.run.ensures h.rooms r.are_books))
+      (c.written.ensures.plain ∙ ap (λ x. plain x) w.core-is) (c.written.ensures.line ∙ ap (λ x. written x) w.core-is) (c.is_again.ensures ∙ ap (λ (x : Core GameKind). is_again x.said) w.core-is) w.books-is
+  | in-Err w ↦ hears_as words h pass (client_read c.args.line.now) c.on_line.new.self c.written.new.self c.match-on_line.books c.args.books.now c.written.result c.is_again.result
+      (hears_unread words h pass (client_read c.args.line.now) c.args.core.now c.args.books.now _ c.args.seed.now r c.on_line.new.self w.in-Err.ensures.starved)
+      (c.written.ensures.plain ∙ ap (λ x. plain x) w.core-is) (c.written.ensures.line ∙ ap (λ x. written x) w.core-is) (c.is_again.ensures ∙ ap (λ (x : Core GameKind). is_again x.said) w.core-is) w.books-is
+]

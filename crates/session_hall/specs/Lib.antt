@@ -1,0 +1,4 @@
+pub mod Answered
+pub mod Held
+pub mod Opens
+pub mod Requests

@@ -1,0 +1,10 @@
+//! The rooms and the sessions of one process: what each line of a session makes of them, and how it is answered.
+#![tactic(auto)]
+
+mod attached;
+mod hall;
+mod opening;
+mod request;
+
+pub use hall::SessionHall;
+pub use request::Said;
