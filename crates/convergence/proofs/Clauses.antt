@@ -39,11 +39,14 @@ use Rattle.convergence.specs.Following.{followed, has_bye, has_sync, reads_all, 
 use Rattle.convergence.specs.Grounded.{IsGrounded}
 use Rattle.convergence.specs.Lines.{AllLines, IsShallow, ReadsBack}
 use Rattle.convergence.specs.Seeing.{SeesAt}
+use Rattle.convergence.specs.Shallow.{StatesAreShallow}
 use Rattle.convergence.specs.Views.{view_at}
 use Rattle.convergence.proofs.Grounding.{AllFit, SessionFits, grounded, sessions_fit, standing_grounded}
 use Rattle.convergence.proofs.Grounds.{StaysSound}
 use Rattle.convergence.proofs.Messages.{bye_reads}
-use Rattle.convergence.proofs.Reading.{AllMay, all_read, items_fit, shown_may, stream_may}
+use Rattle.convergence.proofs.Pieces.{AllHave, ItemsFit, items_fit, stream_have}
+use Rattle.convergence.proofs.Reading.{AllMay, all_read, shown_may, stream_may}
+use Rattle.convergence.proofs.Shallow.{no_shallow, ok_shallow, shown_shallow}
 use Rattle.convergence.proofs.Steps.{seeing}
 use Rattle.convergence.proofs.Stories.{AllRead, SeesSome, SeesTold, SeesWhere, later_read, lines_of, reads_last, sees_older, sees_told}
 use Rattle.convergence.proofs.Streams.{Parted, ToMark, bye_told, last_bye, last_in, mark_older, news_read, older_lines, one_bye, open_lines, open_news, part_lines, stream_told, sync_told, to_mark, told_append}
@@ -95,19 +98,31 @@ module _ {X G : Type 0} (rules : X → Rules G) (room : ℕ) (low : room ≤ 63)
         fits = fits_among ((room_of rules room h).sessions pass) s (sessions_fit rules room low lawful stays h f pass) (among j ((room_of rules room h).sessions pass) s e);
       }
 
-  seen_reads : (h : List (Entry (RoomCall X))) (s : Session) → Seen h s → AllLines IsShallow (stream_of s) → AllLines ReadsBack (stream_of s)
-  seen_reads h s k shallow =
+  seen_items : (h : List (Entry (RoomCall X))) (s : Session) → Seen h s → ItemsFit s.own
+  seen_items h s k =
       let x : SeesMatch rules room h s = k.sees in
       let low_number : number_in s.sight ≤ 4096 = subst (λ l. number_in l ≤ 4096) (sym x.sight) (
       let a : number_in (snapshots (rules x.m.game) x.m.first (seat_of s.viewer) x.many x.accepted) ≤ length x.accepted = number_low x.many (rules x.m.game) x.m.first (seat_of s.viewer) x.accepted in
       let b : length x.accepted ≤ length (x.later ++ x.accepted) = part_low x.later x.accepted in
       let c : length (x.later ++ x.accepted) ≤ 4096 = subst (λ (l : List Accepted). length l ≤ 4096) x.in_order k.ground.few in
       omega arith) in
+      items_fit (number_in s.sight) s.own low_number k.good.came k.good.order k.fits.tickets
+
+  seen_reads : (h : List (Entry (RoomCall X))) (s : Session) → Seen h s → AllLines IsShallow (stream_of s) → AllLines ReadsBack (stream_of s)
+  seen_reads h s k shallow =
+      let x : SeesMatch rules room h s = k.sees in
       let shown = shown_may rules room lawful stays x.m k.ground s.name (subst IsName (sym x.name) k.ground.name) s.viewer k.fits.seat s.protocol x.many x.later x.accepted x.in_order in
       all_read (stream_of s)
       (stream_may s (subst (λ sheet. AllMay (showings s.name sheet s.viewer s.protocol s.sight)) (sym x.sheet)
-      (subst (λ sight. AllMay (showings s.name (rules x.m.game).sheet s.viewer s.protocol sight)) (sym x.sight) shown))
-      (items_fit (number_in s.sight) s.own low_number k.good.came k.good.order k.fits.tickets)) shallow
+      (subst (λ sight. AllMay (showings s.name (rules x.m.game).sheet s.viewer s.protocol sight)) (sym x.sight) shown)) (seen_items h s k)) shallow
+
+  pub are_shallow : StatesAreShallow rules → (h : List (Entry (RoomCall X))) → CallsFit h → (pass j : ℕ) (s : Session) → session rules room h pass j ≡ Some s → AllLines IsShallow (stream_of s)
+  are_shallow flat h f pass j s e =
+      let k : Seen h s = seen h f pass j s e in
+      let x : SeesMatch rules room h s = k.sees in
+      let shown = shown_shallow rules room lawful stays flat x.m k.ground s.name s.viewer s.protocol x.many x.later x.accepted x.in_order in
+      stream_have IsShallow ok_shallow no_shallow s (subst (λ sheet. AllHave IsShallow (showings s.name sheet s.viewer s.protocol s.sight)) (sym x.sheet)
+      (subst (λ sight. AllHave IsShallow (showings s.name (rules x.m.game).sheet s.viewer s.protocol sight)) (sym x.sight) shown)) (seen_items h s k)
 
   pub reads_back : (h : List (Entry (RoomCall X))) → CallsFit h → (pass j : ℕ) (s : Session) → session rules room h pass j ≡ Some s → AllLines IsShallow (stream_of s) → AllLines ReadsBack (stream_of s)
   reads_back h f pass j s e shallow = seen_reads h s (seen h f pass j s e) shallow

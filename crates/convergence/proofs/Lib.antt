@@ -8,6 +8,9 @@ pub mod Grounding
 pub mod Steps
 pub mod Stories
 pub mod Streams
+pub mod Pieces
 pub mod Reading
+pub mod Shallow
+pub mod States
 pub mod Likes
 pub mod Clauses

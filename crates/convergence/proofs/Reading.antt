@@ -1,9 +1,7 @@
 -- Each line of a session's stream that is nested at most 127 deep reads back.
-use Rattle.std.proofs.Common.{◌≡◌, ◌⊎◌, inl, inr, ◌≤◌, ◌+◌, ℕ, zero, suc, Bool, true, false, nat_lt, if◌then◌else◌, List, [], ◌∷◌, ◌++◌, length, Option, Some, None, IsSome, arith, refl, sym, ◌∙◌, subst, append_assoc}
+use Rattle.std.proofs.Common.{◌≡◌, ◌⊎◌, inl, inr, ◌≤◌, ℕ, zero, suc, true, false, List, [], ◌∷◌, ◌++◌, length, IsSome, refl, sym, ◌∙◌, subst, append_assoc}
 use Rattle.game_sheet.specs.MatchName.{Name}
 use Rattle.game_sheet.specs.Viewer.{Viewer, seat_of}
-use Rattle.game_sheet.specs.declared.act.Bye.TheVariants as bye
-use Rattle.game_sheet.specs.declared.sheet.Sheet.{Sheet}
 use Rattle.game_trait.specs.Lawful.{Lawful}
 use Rattle.game_trait.specs.Rules.{Rules}
 use Rattle.json_tree.specs.Writable.{IsWritable}
@@ -12,15 +10,13 @@ use Rattle.player_sight.specs.PlainSnapshot.{IsPlain}
 use Rattle.player_sight.specs.Change.{gone_part, lost_names, members_in, put_part}
 use Rattle.player_sight.specs.SnapshotData.{Snap, snapshot_data}
 use Rattle.reducer.specs.Accepted.{Accepted}
-use Rattle.room_history.specs.Item.{GameAnswer, Starved, Unasked, Accepted as IsAccepted, Refused, Item, Submitted, Took, Left, Detached, number_after}
 use Rattle.room_history.specs.Match.{Match}
-use Rattle.room_history.specs.Message.{Message, Sync}
-use Rattle.room_history.specs.Piece.{Piece, Line, Mark, End, State, Open, Ended, Closed, counted_size, state_of, waiting_size}
+use Rattle.room_history.specs.Message.{Message, No, Sync}
+use Rattle.room_history.specs.Message as room
+use Rattle.room_history.specs.Piece.{Piece, Line, Mark, End}
 use Rattle.room_history.specs.Session.{Session, stream_of}
-use Rattle.room_history.specs.Showing.{Showing, newest_entry, showings, showings_above, showings_up_to, snapshot_of_number, update_message}
+use Rattle.room_history.specs.Showing.{Showing, newest_entry, showings, update_message}
 use Rattle.room_history.specs.Shown.{snapshot_at, snapshots}
-use Rattle.room_history.specs.Stream.{cut, game_pieces, item_pieces, line_or_end, lines_of_showings, long_list, most_waiting, public_reason_on, stream, verdict_pieces, with_piece}
-use Rattle.room_history.proofs.Growing.{CameTo, InOrder, number_at}
 use Rattle.serde_json.specs.Data.{Data, null, boolean, number, string, array, object}
 use Rattle.serde_json.specs.Find.{as_object}
 use Rattle.sheet_json.specs.Seats.{IsWithin}
@@ -32,9 +28,9 @@ use Rattle.wire_json.specs.declared.reason.Reason.{Reason}
 use Rattle.convergence.specs.Grounded.{IsGrounded}
 use Rattle.convergence.specs.Lines.{AllLines, IsShallow, ReadsBack}
 use Rattle.convergence.specs.Views.{view_at}
-use Rattle.convergence.proofs.Grounding.{TicketsFit}
 use Rattle.convergence.proofs.Grounds.{StaysSound, view_plain}
 use Rattle.convergence.proofs.Messages.{change_reads, no_reads, ok_reads, sync_reads, update_reads}
+use Rattle.convergence.proofs.Pieces.{AllHave, ItemsFit, stream_have}
 use Rattle.convergence.proofs.Texts.{all_texts, gone_writable, put_writable}
 use Rattle.convergence.proofs.Values.{ctx_ok, newest_ok, snapshot_ok}
 
@@ -54,9 +50,14 @@ put_object old (object ms) h = refl
 
 -- ---- what was shown
 
+verdict_ok : (n ticket : ℕ) → n ≤ 4294967295 → ticket ≤ 4294967295 → May (room.Ok n ticket)
+verdict_ok n ticket h t = λ deep. ok_reads n ticket h t
+
+verdict_no : (n : ℕ) (reason : Reason) (ticket : ℕ) → n ≤ 4294967295 → ticket ≤ 4294967295 → May (No n reason ticket)
+verdict_no n reason ticket h t = λ deep. no_reads n reason ticket h t
+
 abbrev pub AllMay : List Showing → Type 0
-AllMay [] = Unit {0}
-AllMay (t ∷ shown) = May t.message × AllMay shown
+AllMay shown = AllHave May shown
 
 module _ {X G : Type 0} (rules : X → Rules G) (room : ℕ) (lawful : (game : X) → Lawful (rules game)) (stays : StaysSound rules) (m : Match X G) (g : IsGrounded rules room m)
     (name : Name) (named : IsName name) (viewer : Viewer) (within : IsWithin 255 (seat_of viewer)) (protocol : Protocol) where
@@ -116,125 +117,8 @@ module _ {X G : Type 0} (rules : X → Rules G) (room : ℕ) (lawful : (game : X
       by (inr some) before =
           subst (λ l. AllMay (shown_at (snap (a ∷ accepted) ∷ l))) (sym some.1) (update_may protocol later a accepted e, subst (λ l. AllMay (shown_at l)) some.1 before)
 
--- ---- the long list
-
-above_may : (n : ℕ) (shown : List Showing) → AllMay shown → AllMay (showings_above n shown)
-above_may n [] h = tt
-above_may n (t ∷ shown) h = by (nat_lt n t.snapshot.number) (above_may n shown h.1)
-  where
-    by : (b : Bool) → AllMay (showings_above n shown) → AllMay (if b then t ∷ showings_above n shown else [])
-    by true later = (h.0, later)
-    by false later = tt
-
-up_to_may : (n : ℕ) (shown : List Showing) → AllMay shown → AllMay (showings_up_to n shown)
-up_to_may n [] h = tt
-up_to_may n (t ∷ shown) h = by (nat_lt n t.snapshot.number) (up_to_may n shown h.1)
-  where
-    by : (b : Bool) → AllMay (showings_up_to n shown) → AllMay (if b then showings_up_to n shown else t ∷ shown)
-    by true later = later
-    by false later = h
-
-append_lines : (xs ys : List Piece) → AllLines May xs → AllLines May ys → AllLines May (xs ++ ys)
-append_lines [] ys h k = k
-append_lines (Line m ∷ xs) ys h k = (h.0, append_lines xs ys h.1 k)
-append_lines (Mark ∷ xs) ys h k = append_lines xs ys h k
-append_lines (End why ∷ xs) ys h k = append_lines xs ys h k
-
-shown_lines : (shown : List Showing) → AllMay shown → AllLines May (lines_of_showings shown)
-shown_lines [] h = tt
-shown_lines (t ∷ shown) h = (h.0, shown_lines shown h.1)
-
-game_lines : (n ticket : ℕ) (answer : GameAnswer) → n + 1 ≤ 4294967295 → ticket ≤ 4294967295 → AllLines May (game_pieces n ticket answer)
-game_lines n ticket IsAccepted h t = (λ deep. ok_reads (n + 1) ticket h t, tt)
-game_lines n ticket (Refused reason) h t = (λ deep. no_reads n reason ticket (omega arith) t, tt)
-game_lines n ticket Starved h t = tt
-game_lines n ticket Unasked h t = tt
-
-verdict_lines : (n ticket : ℕ) (reason : Option Reason) (answer : GameAnswer) → n + 1 ≤ 4294967295 → ticket ≤ 4294967295 → AllLines May (verdict_pieces n ticket reason answer)
-verdict_lines n ticket None IsAccepted h t = game_lines n ticket IsAccepted h t
-verdict_lines n ticket None (Refused reason) h t = game_lines n ticket (Refused reason) h t
-verdict_lines n ticket None Unasked h t = tt
-verdict_lines n ticket reason Starved h t = tt
-verdict_lines n ticket (Some reason) IsAccepted h t = (λ deep. no_reads n reason ticket (omega arith) t, tt)
-verdict_lines n ticket (Some reason) (Refused other) h t = (λ deep. no_reads n reason ticket (omega arith) t, tt)
-verdict_lines n ticket (Some reason) Unasked h t = (λ deep. no_reads n reason ticket (omega arith) t, tt)
-
--- each submission fell at a low number, with a ticket of its type
-abbrev pub ItemsFit : List Item → Type 0
-ItemsFit [] = Unit {0}
-ItemsFit (Submitted n s answer ∷ own) = (n + 1 ≤ 4294967295) × (s.ticket ≤ 4294967295) × ItemsFit own
-ItemsFit (item ∷ own) = ItemsFit own
-
-module _ (name : Name) (sheet : Sheet) (viewer : Viewer) where
-  long_lines : (shown : List Showing) (own : List Item) → AllMay shown → ItemsFit own → AllLines May (long_list name sheet viewer shown own)
-  long_lines shown [] h f = shown_lines shown h
-  long_lines shown (Submitted n s answer ∷ own) h f =
-      let at : ℕ = number_after (Submitted n s answer) in
-      append_lines (lines_of_showings (showings_above at shown)) (item_pieces name sheet viewer (Submitted n s answer) shown ++ long_list name sheet viewer (showings_up_to at shown) own)
-      (shown_lines (showings_above at shown) (above_may at shown h))
-      (append_lines (item_pieces name sheet viewer (Submitted n s answer) shown) (long_list name sheet viewer (showings_up_to at shown) own)
-      (verdict_lines n s.ticket (public_reason_on name sheet viewer (snapshot_of_number n shown) s) answer f.0 f.1)
-      (long_lines (showings_up_to at shown) own (up_to_may at shown h) f.2))
-  long_lines shown (Took n ∷ own) h f =
-      append_lines (lines_of_showings (showings_above n shown)) (Mark ∷ long_list name sheet viewer (showings_up_to n shown) own)
-      (shown_lines (showings_above n shown) (above_may n shown h)) (long_lines (showings_up_to n shown) own (up_to_may n shown h) f)
-  long_lines shown (Left n ∷ own) h f =
-      append_lines (lines_of_showings (showings_above n shown)) (End bye.Left ∷ long_list name sheet viewer (showings_up_to n shown) own)
-      (shown_lines (showings_above n shown) (above_may n shown h)) (long_lines (showings_up_to n shown) own (up_to_may n shown h) f)
-  long_lines shown (Detached n ∷ own) h f =
-      append_lines (lines_of_showings (showings_above n shown)) (long_list name sheet viewer (showings_up_to n shown) own)
-      (shown_lines (showings_above n shown) (above_may n shown h)) (long_lines (showings_up_to n shown) own (up_to_may n shown h) f)
-
--- ---- the cut
-
-line_put : (b : Bool) (m : Message) (ps : List Piece) → May m → AllLines May ps → AllLines May (line_or_end b m ps)
-line_put true m ps h k = k
-line_put false m ps h k = (h, k)
-
-piece_put : (st : State) (p : Piece) (ps : List Piece) → AllLines May (p ∷ []) → AllLines May ps → AllLines May (with_piece st p ps)
-piece_put Open (Line m) ps h k = line_put (nat_lt most_waiting (waiting_size ps + counted_size m)) m ps h.0 k
-piece_put Open Mark ps h k = k
-piece_put Open (End why) ps h k = k
-piece_put (Ended by) (Line m) ps h k = k
-piece_put (Ended by) Mark ps h k = k
-piece_put (Ended by) (End why) ps h k = k
-piece_put Closed (Line m) ps h k = k
-piece_put Closed Mark ps h k = k
-piece_put Closed (End why) ps h k = k
-
-cut_lines : (ps : List Piece) → AllLines May ps → AllLines May (cut ps)
-cut_lines [] h = tt
-cut_lines (Line m ∷ ps) h = piece_put (state_of (cut ps)) (Line m) (cut ps) (h.0, tt) (cut_lines ps h.1)
-cut_lines (Mark ∷ ps) h = piece_put (state_of (cut ps)) Mark (cut ps) tt (cut_lines ps h)
-cut_lines (End why ∷ ps) h = piece_put (state_of (cut ps)) (End why) (cut ps) tt (cut_lines ps h)
-
--- ---- numbers of items
-
-low_before : (n k : ℕ) (own : List Item) → k ≤ n → CameTo k own → CameTo n own
-low_before n k [] h c = tt
-low_before n k (item ∷ own) h c = omega (arith, h, c)
-
-after_at : (item : Item) → number_at item ≤ number_after item
-after_at (Submitted n s IsAccepted) = omega arith
-after_at (Submitted n s (Refused reason)) = omega arith
-after_at (Submitted n s Starved) = omega arith
-after_at (Submitted n s Unasked) = omega arith
-after_at (Took n) = omega arith
-after_at (Left n) = omega arith
-after_at (Detached n) = omega arith
-
-pub items_fit : (n : ℕ) (own : List Item) → n ≤ 4096 → CameTo n own → InOrder own → TicketsFit own → ItemsFit own
-items_fit n [] h c o t = tt
-items_fit n (Submitted k s answer ∷ own) h c o t =
-    let low : k ≤ n = omega (arith, after_at (Submitted k s answer), c) in
-    (omega (arith, low, h), t.0, items_fit n own h (low_before n k own low o.0) o.1 t.1)
-items_fit n (Took k ∷ own) h c o t = items_fit n own h (low_before n k own c o.0) o.1 t
-items_fit n (Left k ∷ own) h c o t = items_fit n own h (low_before n k own c o.0) o.1 t
-items_fit n (Detached k ∷ own) h c o t = items_fit n own h (low_before n k own c o.0) o.1 t
-
 pub stream_may : (s : Session) → AllMay (showings s.name s.sheet s.viewer s.protocol s.sight) → ItemsFit s.own → AllLines May (stream_of s)
-unfolding stream
-stream_may s h f = cut_lines (long_list s.name s.sheet s.viewer (showings s.name s.sheet s.viewer s.protocol s.sight) s.own) (long_lines s.name s.sheet s.viewer (showings s.name s.sheet s.viewer s.protocol s.sight) s.own h f)
+stream_may s h f = stream_have May verdict_ok verdict_no s h f
 
 pub all_read : (ps : List Piece) → AllLines May ps → AllLines IsShallow ps → AllLines ReadsBack ps
 all_read [] h k = tt

@@ -5,3 +5,4 @@ pub mod Lines
 pub mod Following
 pub mod Seeing
 pub mod Doing
+pub mod Shallow

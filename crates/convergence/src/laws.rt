@@ -1,6 +1,8 @@
 //! Laws of what clients come to, over every history of a room and every session of it. There is nothing to run.
 
 ghost use Rattle.std.specs.Prelude.{◌≡◌, ◌≤◌, ◌++◌, ◌∷◌, [], ℕ, true, false, List, Option, None, Some};
+ghost use Rattle.any_game.specs.AnyRules.{any_rules};
+ghost use Rattle.any_game.specs.GameKind.{GameKind};
 ghost use Rattle.client_predict.specs.Acting.{with_act};
 ghost use Rattle.client_predict.specs.Client.{Client, Playing, fresh, settled_in};
 ghost use Rattle.client_predict.specs.Reading.{begun};
@@ -23,8 +25,10 @@ ghost use Rattle.convergence.specs.Following.{followed, has_bye, has_sync, reads
 ghost use Rattle.convergence.specs.Grounded.{CanBeRead, IsGrounded};
 ghost use Rattle.convergence.specs.Lines.{AllLines, IsShallow, ReadsBack};
 ghost use Rattle.convergence.specs.Seeing.{SeesAt};
+ghost use Rattle.convergence.specs.Shallow.{StatesAreShallow};
 ghost use Rattle.convergence.specs.Views.{view_at};
 
+use any_game::AnyGame;
 use game_trait::Game;
 use reducer::matches_stay_sound;
 
@@ -47,6 +51,23 @@ pub fn lines_read_back<X: Game>(game: &X)
     ensures bye { (why : Why) → ReadsBack (Farewell why) }
 {
     matches_stay_sound(game);
+}
+
+/// Where every own state is nested at most 125 deep, every line of a session's stream is nested at most 127 deep.
+pub fn lines_are_shallow_where_states_are<X: Game>(game: &X)
+    ensures { StatesAreShallow X.rules → (room : ℕ) (h : List (Entry (Asks X))) → room ≤ 63 → CallsFit h
+        → (pass j : ℕ) (s : Session) → session X.rules room h pass j ≡ Some s → AllLines IsShallow (stream_of s) }
+{
+    matches_stay_sound(game);
+}
+
+/// That is so of all the games.
+pub fn lines_of_all_games_are_shallow(game: &AnyGame)
+    ensures states { StatesAreShallow any_rules }
+    ensures lines { (room : ℕ) (h : List (Entry (Asks GameKind))) → room ≤ 63 → CallsFit h
+        → (pass j : ℕ) (s : Session) → session any_rules room h pass j ≡ Some s → AllLines IsShallow (stream_of s) }
+{
+    lines_are_shallow_where_states_are(game);
 }
 
 /// What the first lines tell is told first.

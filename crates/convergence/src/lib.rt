@@ -5,5 +5,6 @@ mod laws;
 
 pub use laws::{
     acts_settle_nothing, clients_see_what_their_viewers_see, first_parts_tell_first_parts,
-    lines_read_back, matches_can_be_shown,
+    lines_are_shallow_where_states_are, lines_of_all_games_are_shallow, lines_read_back,
+    matches_can_be_shown,
 };
