@@ -62,3 +62,11 @@ fn a_line_that_is_no_text_is_in_no_form(rt: HostRuntime) -> Result<(), Fail> {
     prints(&rt, alloc, script_of(alloc, b"open \xff 2"), bad, b"")?;
     Ok(())
 }
+
+#[test]
+fn a_line_of_a_session_that_is_no_text_is_no_message(rt: HostRuntime) -> Result<(), Fail> {
+    let alloc = rt.alloc();
+    let told = b"0 {\"field\":null,\"reason\":\"bad-message\",\"type\":\"refused\"}\n";
+    prints(&rt, alloc, script_of(alloc, b"s0 \xff\n"), Exit::Done, told)?;
+    Ok(())
+}

@@ -1,10 +1,10 @@
 pub mod Steps
 pub mod Moving
 pub mod Progress
+pub mod Playing
 pub mod Underway
 pub mod RunLaws
 pub mod EndLaws
-pub mod MatchSeedLaws
 pub mod FormLaws
-pub mod Prefixes
-pub mod AnswerTexts
+pub mod Printed
+pub mod StepLaws

@@ -1,17 +1,12 @@
--- What a run of a script has come to, before its next line.
+-- What a run has come to, before its next line.
 use Rattle.std.proofs.Common.{◌≡◌, ℕ, true, false, List, [], ◌∷◌, ◌++◌, length, Option, Some, refl, sym, ap, ◌∙◌, append_assoc, append-nil}
 use Rattle.std.proofs.lemmas.Bool.{true≢false}
-use Rattle.match_master.specs.Held.{Held, StandsFor}
-use Rattle.any_game.specs.AnyRules.{any_rules}
-use Rattle.any_game.specs.declared.any_g.AnyG.{AnyG}
-use Rattle.any_game.specs.GameKind.{GameKind}
+use Rattle.hall_history.specs.Mark.{Mark}
 use Rattle.world_script.specs.Reader.{Reader, fresh, whole_to_come}
 use Rattle.world_script.specs.Reading.{Moves}
 use Rattle.world_script.specs.ScriptLines.{Script, Ended, no_lines, no_whole_line, script, whole_lines, lines_from}
-use Rattle.world_script.specs.Transcript.{History, printed, bad_from, no_lines_yet}
-use Rattle.world_script.specs.declared.mark.Mark.{Mark}
+use Rattle.world_script.specs.Play.{Play, bad_from, printed}
 use Rattle.world_script.specs.declared.next.Next.TheVariants.{Line, ReadFault}
-use Rattle.world_script.specs.declared.stage.Stage.{Stage}
 use Rattle.world_script.proofs.Moving.{none_after}
 use Rattle.world_script.proofs.Steps.{ending}
 
@@ -25,21 +20,21 @@ pub record HasRead (bytes : List ℕ) (done : List (List ℕ)) (reader : Reader)
   pub at_end : reader.ended ≡ true → left ≡ []
   pub whole : reader.ended ≡ false → (more : List ℕ) → whole_lines (read ++ more) ≡ with_lines done (whole_to_come reader more)
 
--- the lines that were run, with a mark of each, the history that they made, and what they added. Whatever lines are still to come, the
+-- the lines that were run, with a mark of each, the state that they made, and what they added. Whatever lines are still to come, the
 -- transcript is what was added, and then what those print from here on.
-pub record Underway (bytes before : List ℕ) (book : Held GameKind AnyG) (stage : Stage) (given : ℕ) (reader : Reader) (left : List ℕ) (rest : Script) (held : Option (List ℕ)) : Type 0 where
-  pub h : History
+pub record Underway {Step State Held : Type 0} (p : Play Step State Held) (bytes before : List ℕ) (hall : Held) (given : ℕ) (reader : Reader) (left : List ℕ) (rest : Script) (held : Option (List ℕ)) : Type 0 where
+  pub h : State
   pub marks : List Mark
   pub done : List (List ℕ)
   pub gained : List ℕ
-  pub stands : StandsFor any_rules book h
+  pub stands : p.Stands hall h
   pub read : HasRead bytes done reader left
   pub lines : (script bytes).lines ≡ done ++ rest.lines
   pub ending : (script bytes).ending ≡ rest.ending
   pub added : held ≡ Some (before ++ gained)
   pub counted : given ≡ length done
-  pub so_far : (ms : List Mark) (more : List (List ℕ)) → printed (marks ++ ms) (done ++ more) no_lines_yet [] ≡ gained ++ printed ms more stage h
-  pub bad : (ms : List Mark) (more : List (List ℕ)) → bad_from (marks ++ ms) (done ++ more) no_lines_yet 0 ≡ bad_from ms more stage given
+  pub so_far : (ms : List Mark) (more : List (List ℕ)) → printed p (marks ++ ms) (done ++ more) p.begin ≡ gained ++ printed p ms more h
+  pub bad : (more : List (List ℕ)) → bad_from p.form 0 (done ++ more) ≡ bad_from p.form given more
 
 pub nothing_read : (bytes : List ℕ) → HasRead bytes [] fresh bytes
 nothing_read bytes = record { read = []; first_part = refl; at_end = λ e. absurd (true≢false (sym e)); whole = λ e more. refl }

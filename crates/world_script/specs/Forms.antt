@@ -1,69 +1,93 @@
--- Which lines are in form, and what they ask for, by what the lines before them have come to. A script opens one match, of a known game
--- and for a number of seats that the game allows, and until then nothing but seeds may stand before it. From then on each of the
--- sessions may ask for the stream of a match and for actions, take what waits for it, and end its attachment.
-use Rattle.std.specs.Prelude.{ℕ, Bool, true, false, if◌then◌else◌, List, Option, Some, None, option_and_then, unwrap_or, Result, Ok, Err}
+-- The lines of a script that are in form, and the step that each asks for. Words are parted by exactly one blank, and numbers are decimal,
+-- without sign and without leading zeros. Empty lines and lines that begin with # ask for nothing.
+use Rattle.std.specs.Prelude.{ℕ, ◌+◌, ◌-◌, ◌*◌, ◌==◌, ◌&&◌, nat_le, Bool, false, List, [], ◌∷◌, length, take, drop, position, Option, Some, None, option_map, option_and_then, codes, bytes_eq, if◌then◌else◌}
+use Rattle.std.specs.Str.Lossy.{utf8_valid_len}
 use Rattle.any_game.specs.AnyRules.{any_rules, named}
 use Rattle.any_game.specs.GameKind.{GameKind}
 use Rattle.room_history.specs.Reply.{seats_fit}
-use Rattle.wire_json.specs.ClientReading.{client_read}
-use Rattle.wire_json.specs.Refusals.{Refusal}
-use Rattle.wire_json.specs.declared.client.ClientMsg.{ClientMsg}
-use Rattle.wire_json.specs.declared.client.ClientMsg.TheVariants as message
-use Rattle.wire_json.specs.declared.protocol.Protocol.TheVariants.{One}
-use Rattle.world_script.specs.Commands.{Said, Passed, Open, Say, Take, Detach, Seed, command}
-use Rattle.world_script.specs.MatchSeed.{match_seed}
-use Rattle.world_script.specs.declared.stage.Stage.{Stage}
-use Rattle.world_script.specs.declared.stage.Step.{Step}
-use Rattle.world_script.specs.declared.stage.Step.TheVariants.{Nothing, Seeds, Opens, Unread, Syncs, Acts, Takes, Detaches}
+use Rattle.wire_json.specs.KeyText.{lower_hex}
+use Rattle.hall_history.specs.Script.{Step, Nothing, Seeds, Opens, Says, Takes, Detaches}
 
--- a session's line is in form where it asks for a stream of protocol 1 or for an action
-abbrev pub step_of_message : ℕ → Result ClientMsg Refusal → Option Step
-step_of_message session (Err refusal) = None
-step_of_message session (Ok (message.Sync name viewer One)) = Some (Syncs session name viewer)
-step_of_message session (Ok (message.Act s)) = Some (Acts session s)
-step_of_message session (Ok other) = None
+abbrev pub digit : ℕ → Option ℕ
+digit b = if nat_le 48 b && nat_le b 57 then Some (b - 48) else None
 
--- `was_read` says whether there was memory to read the line; where there was none, whatever it holds is in form
-abbrev pub step_of_line : Bool → ℕ → List ℕ → Option Step
-step_of_line true session line = step_of_message session (client_read line)
-step_of_line false session line = Some (Unread session)
+-- a digit that another one may follow
+abbrev pub leading : ℕ → Option ℕ
+leading b = if b == 48 then None else digit b
 
--- a match takes the seed that was set last, else the first words of the run
-abbrev pub seed_for : Stage → List ℕ
-seed_for stage = unwrap_or stage.seed match_seed
+-- the number of a digit after that of those before it
+abbrev pub after : ℕ → ℕ → Option ℕ
+after b n = option_map (λ d. 10 * n + d) (digit b)
 
--- whether a game is for a number of seats
-unfoldable pub allows : GameKind → ℕ → Bool
-allows game seats = seats_fit (any_rules game).sheet seats
+-- a number of one to three digits
+abbrev pub small_number : List ℕ → Option ℕ
+small_number [] = None
+small_number (a ∷ []) = digit a
+small_number (a ∷ b ∷ []) = option_and_then (after b) (leading a)
+small_number (a ∷ b ∷ c ∷ []) = option_and_then (after c) (option_and_then (after b) (leading a))
+small_number (a ∷ b ∷ c ∷ d ∷ more) = None
 
--- a match of a game, for a number of seats that the game allows
-abbrev pub opening_of : ℕ → List ℕ → GameKind → Option Step
-opening_of seats seed game = if allows game seats then Some (Opens game seats seed) else None
+abbrev pub at_most : ℕ → ℕ → Option ℕ
+at_most most n = if nat_le n most then Some n else None
 
-abbrev pub step_of_command : Bool → Stage → Option Said → Option Step
-step_of_command was_read stage None = None
-step_of_command was_read stage (Some Passed) = Some Nothing
-step_of_command was_read stage (Some (Seed seed)) = Some (Seeds seed)
-step_of_command was_read stage (Some (Open name seats)) = if stage.opened then None else option_and_then (opening_of seats (seed_for stage)) (named name)
-step_of_command was_read stage (Some (Say session line)) = if stage.opened then step_of_line was_read session line else None
-step_of_command was_read stage (Some (Take session)) = if stage.opened then Some (Takes session) else None
-step_of_command was_read stage (Some (Detach session)) = if stage.opened then Some (Detaches session) else None
+abbrev pub pass_of : List ℕ → Option ℕ
+pass_of word = option_and_then (at_most 31) (small_number word)
 
--- what a line asks for; none where it is in no form
-unfoldable pub step_of : Bool → Stage → List ℕ → Option Step
-step_of was_read stage line = step_of_command was_read stage (command line)
+abbrev pub seats_of : List ℕ → Option ℕ
+seats_of word = option_and_then (at_most 255) (small_number word)
 
--- what a step makes of what the lines have come to
-abbrev pub stage_after : Stage → Step → Stage
-stage_after stage (Seeds seed) = record stage { seed = Some seed }
-stage_after stage (Opens game seats seed) = record stage { opened = true; seed = None }
-stage_after stage other = stage
+-- what stands before and after the first blank
+abbrev pub parts : List ℕ → Option (List ℕ × List ℕ)
+parts line = option_map (λ i. (take i line, drop (i + 1) line)) (position (λ b. b == 32) line)
 
--- whether a step's line was read
-abbrev pub is_read : Step → Bool
-is_read (Unread session) = false
-is_read other = true
+-- a word that is a text
+abbrev pub text_of : List ℕ → Option (List ℕ)
+text_of word = if utf8_valid_len word == length word then Some word else None
 
-abbrev pub may_be_read : Option Step → Bool
-may_be_read None = true
-may_be_read (Some step) = is_read step
+-- whether there is such a game, and it is for so many seats
+abbrev pub is_for : Option GameKind → ℕ → Bool
+is_for None seats = false
+is_for (Some game) seats = seats_fit (any_rules game).sheet seats
+
+unfoldable pub may_open : List ℕ → ℕ → Bool
+may_open name seats = is_for (named name) seats
+
+-- a match of a game for a number of seats
+abbrev pub opens : List ℕ → ℕ → Option Step
+opens name seats = if may_open name seats then Some (Opens name seats) else None
+
+abbrev pub opening_by : List ℕ × List ℕ → Option Step
+opening_by p = option_and_then (λ name. option_and_then (opens name) (seats_of p.1)) (text_of p.0)
+
+abbrev pub opening : List ℕ → Option Step
+opening rest = option_and_then opening_by (parts rest)
+
+-- a line of a session
+abbrev pub saying : List ℕ → List ℕ → Option Step
+saying [] line = None
+saying (b ∷ word) line = if b == 115 then option_map (λ pass. Says pass line) (pass_of word) else None
+
+-- a word alone
+abbrev pub alone : List ℕ → Option Step
+alone [] = Some Nothing
+alone (b ∷ word) =
+    if b == 116 then option_map Takes (pass_of word) else
+    (if b == 120 then option_map Detaches (pass_of word) else None)
+
+-- a word that others follow
+abbrev pub leads : List ℕ → List ℕ → Option Step
+leads word rest =
+    if bytes_eq word (codes "open") then opening rest else
+    (if bytes_eq word (codes "seed") then option_map Seeds (lower_hex 32 rest) else saying word rest)
+
+abbrev pub by_words : List ℕ → Option (List ℕ × List ℕ) → Option Step
+by_words line None = alone line
+by_words line (Some p) = leads p.0 p.1
+
+abbrev pub asked : List ℕ → Option Step
+asked [] = Some Nothing
+asked (b ∷ rest) = if b == 35 then Some Nothing else by_words (b ∷ rest) (parts (b ∷ rest))
+
+-- the step that a line asks for; none where it is in no form
+unfoldable pub step_of : List ℕ → Option Step
+step_of line = asked line

@@ -1,11 +1,9 @@
 pub mod ScriptLines
 pub mod Reader
 pub mod Reading
-pub mod Commands
-pub mod CommandIs
-pub mod Answers
 pub mod Forms
-pub mod MatchSeed
-pub mod Transcript
+pub mod StepIs
 pub mod Printing
+pub mod ScriptSteps
+pub mod Sessions
 pub mod Running

@@ -20,14 +20,14 @@ Answers next.TooMany line before after = (before ≡ no_lines TooMany) × (after
 Answers next.ReadFault line before after = after ≡ before
 Answers next.NoMemory line before after = after ≡ before
 
--- a fault only where the count of faults rose
+-- the count of faults rose at a fault, and stayed otherwise
 abbrev pub Raises : Next → ℕ → ℕ → Type 0
-Raises next.Line old new = Unit {0}
-Raises next.End old new = Unit {0}
-Raises next.TooLong old new = Unit {0}
-Raises next.TooMany old new = Unit {0}
+Raises next.Line old new = new ≡ old
+Raises next.End old new = new ≡ old
+Raises next.TooLong old new = new ≡ old
+Raises next.TooMany old new = new ≡ old
 Raises next.ReadFault old new = HasRisen old new
-Raises next.NoMemory old new = Unit {0}
+Raises next.NoMemory old new = new ≡ old
 
 -- a line counts, nothing else does
 abbrev pub given_after : Next → ℕ → ℕ
@@ -57,8 +57,8 @@ Shows End waiting = waiting ≡ []
 Shows Failed waiting = waiting ≡ []
 
 abbrev pub PeekRaises : Peeked → ℕ → ℕ → Type 0
-PeekRaises (Byte b) old new = Unit {0}
-PeekRaises End old new = Unit {0}
+PeekRaises (Byte b) old new = new ≡ old
+PeekRaises End old new = new ≡ old
 PeekRaises Failed old new = HasRisen old new
 
 -- what a read leaves waiting, beside the bytes left before and after it
@@ -79,7 +79,7 @@ Steps None line before after = after ≡ before
 Steps (Some answer) line before after = Answers answer line before after
 
 abbrev pub StepRaises : Option Next → ℕ → ℕ → Type 0
-StepRaises None old new = Unit {0}
+StepRaises None old new = new ≡ old
 StepRaises (Some answer) old new = Raises answer old new
 
 abbrev pub given_by : Option Next → ℕ → ℕ

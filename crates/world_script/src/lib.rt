@@ -1,20 +1,17 @@
-//! Scripts: their lines, read one by one, and the commands that these are.
+//! Scripts: their lines, read one by one, the steps that these ask for, and their runs over eight rooms.
 #![tactic(auto)]
 
-mod answer;
 mod chunk;
-mod command;
+mod doing;
 mod exit;
 mod lines;
-mod mark;
-mod match_seed;
 mod next;
-mod room;
+mod printing;
 mod script;
-mod stage;
+mod step;
 
-pub use command::{Command, command_of};
 pub use exit::Exit;
 pub use lines::Lines;
 pub use next::Next;
 pub use script::run_script;
+pub use step::{Step, step_of};

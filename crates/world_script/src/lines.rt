@@ -107,7 +107,7 @@ impl Lines {
 
     fn take(&mut self, byte: u8) -> Option<Next>
         requires { self.old.waiting ≡ byte ∷ drop 1 self.old.waiting }
-        ensures raises { (old new : ℕ) → StepRaises result old new }
+        ensures raises { (faults : ℕ) → StepRaises result faults faults }
         ensures given { self.new.given ≡ given_by result self.old.given }
         ensures most { self.new.given ≤ 1000000 }
         ensures grows { Grows result self.old.begun self.new.begun }
@@ -149,7 +149,7 @@ impl Lines {
     /// The answer where the source has told its end: the line that has begun, if one has.
     fn last(&mut self) -> Next
         requires { self.old.waiting ≡ [] }
-        ensures raises { (old new : ℕ) → Raises result old new }
+        ensures raises { (faults : ℕ) → Raises result faults faults }
         ensures given { self.new.given ≡ given_after result self.old.given }
         ensures most { self.new.given ≤ 1000000 }
         ensures ended { self.new.ended ≡ true }

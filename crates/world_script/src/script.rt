@@ -1,26 +1,32 @@
 //! Runs scripts.
 
-ghost use Rattle.std.specs.Prelude.{◌≡◌, ◌≤◌, List, [], IsSome};
+ghost use Rattle.std.specs.Prelude.{◌≡◌, ◌≤◌, IsSome};
+ghost use Rattle.any_game.specs.GameKind.{GameKind};
 ghost use Rattle.board_links.specs.Faults.{HasRisen};
 ghost use Rattle.board_links.specs.Pieces.{told_bytes, WriteRaises, Writes};
-ghost use Rattle.match_master.specs.Held.{StandsFor};
-ghost use Rattle.any_game.specs.AnyRules.{any_rules};
-ghost use Rattle.world_script.specs.Transcript.{History};
-ghost use Rattle.world_script.specs.Running.{RanLine, RanRaises, Ends, ExitRaises, stop_at, end_at};
+ghost use Rattle.hall_history.specs.Hall.{Hall, new_hall};
+ghost use Rattle.hall_history.specs.Tapes.{hall_tape};
+ghost use Rattle.session_hall.specs.Held.{StandsForHall};
+ghost use Rattle.world_script.specs.Running.{AreInForm, Ends, ExitRaises, IsComplete, LineRaises, RanLine, end_at, stop_at};
+ghost use Rattle.world_script.specs.ScriptSteps.{rooms_of_script};
 
+use crate::doing::do_step;
 use crate::exit::Exit;
 use crate::lines::Lines;
 use crate::next::Next;
-use crate::room::Room;
-use crate::stage::{Stage, move_on, read_step};
+use crate::step::step_of;
 use board_links::{Put, Sink, Source};
+use session_hall::SessionHall;
 use std::alloc::Global;
 
-/// Runs the script of a source, and prints its transcript into a sink.
+/// How many rooms a script has.
+const ROOMS: u8 = 8;
+
+/// Runs the script of a source over eight rooms, and prints its transcript into a sink.
 ///
 /// `Done` comes where the source was read to its end; `BadLine` exactly where that line is the first in no form,
 /// `TooLong` exactly where that line is the first of more than 65,536 bytes, and `TooMany` exactly where a byte follows the
-/// 1,000,000th newline, each where no earlier line ends the run; a fault only where its count of faults rose. What the
+/// 1,000,000th newline, each where no earlier line ends the run; a fault exactly where its count of faults rose. What the
 /// whole lines before a fault print has been printed. A session's line for which there is no memory is answered so, and
 /// the run goes on.
 pub fn run_script<S: Source, K: Sink>(alloc: Global, source: &mut S, sink: &mut K) -> Exit
@@ -29,22 +35,28 @@ pub fn run_script<S: Source, K: Sink>(alloc: Global, source: &mut S, sink: &mut 
     ensures raises { ExitRaises result (S.faults source.old) (S.faults source.new) (K.faults sink.old) (K.faults sink.new) }
     ensures ends { IsSome (S.left source.old) → IsSome (K.held sink.old)
         → Ends (told_bytes (S.left source.old)) (told_bytes (S.left source.new)) (told_bytes (K.held sink.old)) (K.held sink.new) result }
+    ensures completes { IsSome (S.left source.old) → IsSome (K.held sink.old) → AreInForm (told_bytes (S.left source.old))
+        → (HasRisen (S.faults source.old) (S.faults source.new) → ⊥) → (HasRisen (K.faults sink.old) (K.faults sink.new) → ⊥) → IsComplete result }
 {
-    match Room::new(alloc) {
-        Ok(mut room) => {
-            let exit = play(alloc, &mut room, source, sink);
-            drop(room);
+    match SessionHall::new(alloc, ROOMS, [0; 32]) {
+        Ok(mut hall) => {
+            let exit = play(alloc, &mut hall, source, sink);
+            drop(hall);
             exit
         }
         Err(_) => Exit::NoMemory,
     }
 }
 
-/// Runs the lines of a source in a room in which nothing has happened.
+/// Runs the lines of a source in a hall in which nothing has happened.
 #[tactic(none)]
-fn play<S: Source, K: Sink>(alloc: Global, room: &mut Room, source: &mut S, sink: &mut K) -> Exit
-    requires room { room.old.book.room ≡ 0 }
-    requires stands { StandsFor any_rules room.old.book [] }
+fn play<S: Source, K: Sink>(
+    alloc: Global,
+    hall: &mut SessionHall,
+    source: &mut S,
+    sink: &mut K,
+) -> Exit
+    requires { StandsForHall hall_tape hall.old (new_hall rooms_of_script) }
     ensures source_never_falls { S.faults source.old ≤ S.faults source.new }
     ensures sink_never_falls { K.faults sink.old ≤ K.faults sink.new }
     ensures raises { ExitRaises result (S.faults source.old) (S.faults source.new) (K.faults sink.old) (K.faults sink.new) }
@@ -52,16 +64,13 @@ fn play<S: Source, K: Sink>(alloc: Global, room: &mut Room, source: &mut S, sink
         → Ends (told_bytes (S.left source.old)) (told_bytes (S.left source.new)) (told_bytes (K.held sink.old)) (K.held sink.new) result }
 {
     let mut lines = Lines::new(alloc);
-    let mut stage = Stage {
-        opened: false,
-        seed: None,
-    };
+    let mut text = Vec::new(alloc);
     'lines: loop {
         let next = lines.next_line(source);
         if let Some(exit) = stop_at(next, lines.given()) {
             return exit;
         }
-        let ran = run_line(alloc, room, &mut stage, lines.line(), sink);
+        let ran = run_line(hall, &mut text, lines.line(), sink);
         if let Some(exit) = end_at(ran, lines.given()) {
             return exit;
         }
@@ -84,20 +93,20 @@ fn stop_at(next: Next, given: u32) -> Option<Exit>
 }
 
 /// The end at a line, if it ends there.
-fn end_at(ran: Ran, line: u32) -> Option<Exit>
+fn end_at(ran: LineStatus, line: u32) -> Option<Exit>
     ensures { result ≡ end_at ran line }
 {
     match ran {
-        Ran::Done => None,
-        Ran::BadLine => Some(Exit::BadLine { line }),
-        Ran::WriteFault => Some(Exit::WriteFault),
-        Ran::NoMemory => Some(Exit::NoMemory),
+        LineStatus::Done => None,
+        LineStatus::BadLine => Some(Exit::BadLine { line }),
+        LineStatus::WriteFault => Some(Exit::WriteFault),
+        LineStatus::NoMemory => Some(Exit::NoMemory),
     }
 }
 
 /// What one line came to.
 #[derive(Clone, Copy)]
-pub enum Ran {
+pub enum LineStatus {
     /// It is in form, and what it prints was printed.
     Done,
     /// It is in no form.
@@ -108,37 +117,29 @@ pub enum Ran {
     NoMemory,
 }
 
-/// Runs one line.
+/// Runs one line. The text is written anew; it is handed in so that its memory is used again.
 fn run_line<K: Sink>(
-    alloc: Global,
-    room: &mut Room,
-    stage: &mut Stage,
+    hall: &mut SessionHall,
+    text: &mut Vec<u8>,
     line: &[u8],
     sink: &mut K,
-) -> Ran
+) -> LineStatus
     ensures never_falls { K.faults sink.old ≤ K.faults sink.new }
-    ensures raises { RanRaises result (K.faults sink.old) (K.faults sink.new) }
-    ensures room { room.new.book.room ≡ room.old.book.room }
+    ensures raises { LineRaises result (K.faults sink.old) (K.faults sink.new) }
     ensures told { IsSome (K.held sink.old) → IsSome (K.held sink.new) }
-    ensures ran { IsSome (K.held sink.old) → (h : History) → StandsFor any_rules room.old.book h → room.old.book.room ≡ 0
-        → RanLine h stage.old line.now room.new.book stage.new (told_bytes (K.held sink.old)) (K.held sink.new) result }
+    ensures ran { IsSome (K.held sink.old) → (h : Hall GameKind) → StandsForHall hall_tape hall.old h
+        → RanLine h line.now hall.new (told_bytes (K.held sink.old)) (K.held sink.new) result }
 {
-    let Ok(read) = read_step(alloc, *stage, line) else {
-        return Ran::NoMemory;
+    let Some(step) = step_of(line) else {
+        return LineStatus::BadLine;
     };
-    let Some(step) = read else {
-        return Ran::BadLine;
+    text.clear();
+    let Ok(()) = do_step(hall, text, step) else {
+        return LineStatus::NoMemory;
     };
-    let next = move_on(*stage, &step);
-    let Ok(outcome) = room.run(step) else {
-        return Ran::NoMemory;
-    };
-    match print(sink, outcome.printing.bytes()) {
-        Put::Done => {
-            *stage = next;
-            Ran::Done
-        }
-        Put::Failed => Ran::WriteFault,
+    match print(sink, text.as_slice()) {
+        Put::Done => LineStatus::Done,
+        Put::Failed => LineStatus::WriteFault,
     }
 }
 

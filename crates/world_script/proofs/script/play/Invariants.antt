@@ -1,19 +1,18 @@
-use Rattle.std.proofs.Common.{◌≡◌, ◌≤◌, ◌-◌, IsSome}
+use Rattle.std.proofs.Common.{◌≡◌, ◌-◌, IsSome}
 use Rattle.board_links.specs.Pieces.{told_bytes}
 use Rattle.world_script.specs.Reader.{to_come}
 use Rattle.world_script.proofs.Underway.{Underway}
 use Rattle.world_script.proofs.script.play.Given as goal
 
--- the counts of faults never fell, and where source and sink tell, the transcript is what was added and what is still to come
+-- no count of faults rose, and where source and sink tell, the transcript is what was added and what is still to come
 abbrev pub invariant-lines : goal.invariant-lines
 invariant-lines g l = record {
-  source_low : g.S.Source.faults l.initial.source ≤ g.S.Source.faults l.source;
-  sink_low : g.K.Sink.faults l.initial.sink ≤ g.K.Sink.faults l.sink;
-  room : l.room.book.room ≡ 0;
+  source_stays : g.S.Source.faults l.source ≡ g.S.Source.faults l.initial.source;
+  sink_stays : g.K.Sink.faults l.sink ≡ g.K.Sink.faults l.initial.sink;
   source_tells : IsSome (g.S.Source.left l.initial.source) → IsSome (g.S.Source.left l.source);
   sink_tells : IsSome (g.K.Sink.held l.initial.sink) → IsSome (g.K.Sink.held l.sink);
   underway : IsSome (g.S.Source.left l.initial.source) → IsSome (g.K.Sink.held l.initial.sink)
-      → Underway (told_bytes (g.S.Source.left l.initial.source)) (told_bytes (g.K.Sink.held l.initial.sink)) l.room.book l.stage l.lines.given l.lines (told_bytes (g.S.Source.left l.source))
+      → Underway (told_bytes (g.S.Source.left l.initial.source)) (told_bytes (g.K.Sink.held l.initial.sink)) l.hall l.lines.given l.lines (told_bytes (g.S.Source.left l.source))
       (to_come l.lines (told_bytes (g.S.Source.left l.source))) (g.K.Sink.held l.sink);
 }
 

@@ -1,4 +1,4 @@
-use Rattle.std.proofs.Common.{Some, None, ◌∙◌, arith}
+use Rattle.std.proofs.Common.{Some, None, ◌∙◌}
 use Rattle.world_script.proofs.Moving.{moves_on}
 use Rattle.world_script.proofs.lines.Lines.next_line.Goals as goal
 
@@ -8,7 +8,7 @@ returns-in-Some-clause-moves g c = λ p.
 
 pub loop-next-preserved : goal.loop-next-preserved
 loop-next-preserved g c = record {
-  rises = omega (arith, c.loop-next.invariant.rises, c.step.ensures.never_falls);
+  stays = c.in_default.ensures.raises ∙ c.loop-next.invariant.stays;
   given = c.in_default.ensures.given ∙ c.loop-next.invariant.given;
   tells = λ p. c.step.ensures.tells (c.loop-next.invariant.tells p);
   moves = λ p. moves_on None _ c.step.new.self.line c.args.self.now c.loop-next.self c.step.new.self _ _ _ (c.loop-next.invariant.moves p) (c.in_default.ensures.moves (c.loop-next.invariant.tells p));

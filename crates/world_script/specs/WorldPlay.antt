@@ -1,0 +1,24 @@
+-- A world as it is played, over eight rooms.
+use Rattle.std.specs.Prelude.{ℕ}
+use Rattle.any_game.specs.AnyRules.{any_rules, named}
+use Rattle.any_game.specs.GameKind.{GameKind}
+use Rattle.any_game.specs.declared.any_g.AnyG.{AnyG}
+use Rattle.client_world.specs.IsWorld.{HeldWorld, IsWorld}
+use Rattle.client_world.specs.Reading.{world_step_of}
+use Rattle.hall_history.specs.Tapes.{hall_tape}
+use Rattle.hall_history.specs.World.{Step, World, new_world}
+use Rattle.hall_history.specs.WorldScript.{does, runs_world}
+use Rattle.world_script.specs.Play.{Play}
+
+abbrev pub rooms_of_world : ℕ
+rooms_of_world = 8
+
+unfoldable pub world_play : Play (Step GameKind) (World GameKind AnyG) HeldWorld
+world_play = record {
+  form = world_step_of;
+  begin = new_world rooms_of_world;
+  does = does named any_rules hall_tape;
+  runs = runs_world named any_rules hall_tape;
+  Stands = IsWorld hall_tape;
+  Tells = λ marks lines. Unit {0};
+}
