@@ -126,8 +126,9 @@ comma_none : (later : Bool) → HasNone (comma_if later)
 comma_none true = (refl, tt)
 comma_none false = tt
 
+-- No JSON text has one.
 mutual
-  data_none : (d : Data) → HasNone (compact_text d)
+  pub data_none : (d : Data) → HasNone (compact_text d)
   data_none null = (refl, (refl, (refl, (refl, tt))))
   data_none (boolean true) = (refl, (refl, (refl, (refl, tt))))
   data_none (boolean false) = (refl, (refl, (refl, (refl, (refl, tt)))))

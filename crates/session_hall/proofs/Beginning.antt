@@ -7,11 +7,11 @@ use Rattle.any_game.specs.GameKind.{GameKind}
 use Rattle.any_game.specs.declared.any_g.AnyG.{AnyG}
 use Rattle.dice_words.specs.Strip.{Strip, live}
 use Rattle.game_hall.specs.Core.{Core, fresh}
-use Rattle.hall_history.specs.Hall.{Hall, core_of, new_hall}
+use Rattle.hall_history.specs.Hall.{new_hall}
 use Rattle.hall_history.specs.Rooms.{Rooms, history_of}
 use Rattle.hall_history.proofs.Rooming.{not_same, same_number}
 use Rattle.match_master.specs.Held.{Held, StandsFor}
-use Rattle.session_hall.specs.Held.{AreBooks, AreCores, HeldHall, IsBook, IsTape, StandsForHall, tape_of}
+use Rattle.session_hall.specs.Held.{AreBooks, AreCores, IsBook, IsTape, StandsForHall, tape_of}
 use Rattle.session_hall.proofs.Books.{Books}
 
 abbrev pub new_rooms : ℕ → Rooms GameKind

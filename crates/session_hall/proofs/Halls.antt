@@ -7,16 +7,15 @@ use Rattle.any_game.specs.AnyRules.{any_rules, named}
 use Rattle.any_game.specs.GameKind.{GameKind}
 use Rattle.any_game.specs.declared.any_g.AnyG.{AnyG}
 use Rattle.dice_words.specs.Strip.{Strip, begun, place_of}
-use Rattle.game_hall.specs.Core.{Core, fresh, is_again, moved, plain, released}
+use Rattle.game_hall.specs.Core.{Core, fresh, moved, plain, released}
 use Rattle.game_hall.specs.Words.{drawn, next_action, seed_left_by, seed_of, seed_words, words_drawn_by}
 use Rattle.game_hall.specs.declared.next.Next.{Next}
 use Rattle.game_hall.specs.declared.next.Next.TheVariants.{Calls, Says, Attaches, Silent}
 use Rattle.hall_history.specs.Freeing.{frees, frees_at, room_after}
 use Rattle.hall_history.specs.Hall.{Hall, after_line, attached_to, core_of, request}
-use Rattle.hall_history.specs.Mark.{Mark}
 use Rattle.game_sheet.specs.MatchName.{Name}
 use Rattle.hall_history.specs.Opening.{after_open, own_entry, own_pass, seat_key}
-use Rattle.hall_history.specs.Rooms.{History, Rooms, history_of, reply_in, with_entry}
+use Rattle.hall_history.specs.Rooms.{History, Rooms, history_of, with_entry}
 use Rattle.hall_history.proofs.Giving.{line_adds, request_ends, request_moves}
 use Rattle.hall_history.proofs.Opens.{open_adds}
 use Rattle.hall_history.proofs.Rooming.{is_same, same_length}

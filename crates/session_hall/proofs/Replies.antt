@@ -1,5 +1,5 @@
 -- A match that a room made has a serial.
-use Rattle.std.proofs.Common.{◌≡◌, ◌≤◌, ℕ, ◌+◌, ◌==◌, Bool, true, false, if◌then◌else◌, List, [], ◌∷◌, Option, Some, None, Result, Ok, Err, sym, subst, arith}
+use Rattle.std.proofs.Common.{◌≡◌, ℕ, ◌+◌, ◌==◌, Bool, true, false, if◌then◌else◌, List, [], ◌∷◌, Option, Some, None, Result, Ok, Err, sym, subst, arith}
 use Rattle.game_hall.specs.Kept.{IsNamed}
 use Rattle.game_sheet.specs.Viewer.{Viewer}
 use Rattle.game_sheet.specs.declared.refusal.GameRule.{GameRule}

@@ -9,12 +9,10 @@ use Rattle.game_hall.specs.Kept.{IsNamed}
 use Rattle.game_hall.specs.Requests.{created_by, is_busy, makes, next, refuses, tries}
 use Rattle.game_hall.specs.declared.answer.Answer.{Answer}
 use Rattle.game_hall.specs.declared.answer.Answer.TheVariants as answer
-use Rattle.game_hall.specs.declared.next.Next.{Next}
 use Rattle.game_hall.specs.declared.next.Next.TheVariants.{Says}
 use Rattle.game_hall.specs.declared.request.Request.TheVariants.{Creating}
 use Rattle.game_hall.proofs.Running.{moved_over}
 use Rattle.game_sheet.specs.MatchName.{Name}
-use Rattle.hall_history.specs.Mark.{Lucky}
 use Rattle.hall_history.specs.Opening.{opened_text, own_entry, own_pass, seated_by}
 use Rattle.hall_history.specs.Rooms.{History, Rooms, history_of, reply_in, with_entry}
 use Rattle.hall_history.proofs.Rooming.{same_length}

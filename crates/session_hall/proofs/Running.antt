@@ -1,5 +1,5 @@
 -- A request's calls, one after another, are a run of hall_history's.
-use Rattle.std.proofs.Common.{◌≡◌, ◌≤◌, ◌<◌, ◌-◌, ◌⊎◌, inl, inr, ℕ, zero, suc, ◌+◌, Bool, true, false, List, [], length, slice_index_or, slice_set, ◌&&◌, ◌==◌, if◌then◌else◌, Option, Some, None, IfSome, refl, sym, ap, ◌∙◌, subst, arith}
+use Rattle.std.proofs.Common.{◌≡◌, ◌≤◌, ◌<◌, ◌-◌, inl, inr, ℕ, zero, suc, ◌+◌, Bool, true, false, List, length, slice_index_or, slice_set, ◌&&◌, ◌==◌, if◌then◌else◌, Option, Some, None, IfSome, refl, sym, ap, ◌∙◌, subst, arith}
 use Rattle.std.proofs.lemmas.Bool.Decides.{nat_tests}
 use Rattle.any_game.specs.AnyRules.{any_rules, named}
 use Rattle.any_game.specs.GameKind.{GameKind}
@@ -18,13 +18,12 @@ use Rattle.hall_history.specs.Mark.{Luck, Lucky, ask_rooms, luck_after, runs_out
 use Rattle.hall_history.specs.Rooms.{History, Rooms, history_of, reply_in, with_entry}
 use Rattle.hall_history.proofs.Rooming.{same_length}
 use Rattle.match_master.specs.Held.{Held, StandsFor, is_starved, may_starve}
-use Rattle.room_history.specs.Room.{reply}
 use Rattle.room_history.specs.declared.call.RoomCall.{RoomCall}
 use Rattle.room_history.specs.declared.call.RoomCall.TheVariants as call
 use Rattle.room_history.specs.declared.reply.RoomReply.{RoomReply}
 use Rattle.room_history.specs.declared.reply.RoomReply.TheVariants as told_as
 use Rattle.wire_json.specs.declared.match_row.MatchRow.{MatchRow}
-use Rattle.room_object.specs.Entry.{Entry, entry}
+use Rattle.room_object.specs.Entry.{entry}
 use Rattle.session_hall.specs.Held.{AreBooks, IsBook}
 use Rattle.session_hall.specs.Requests.{Asks, HearsReply, Runs, RunsTo, Want, luck_of}
 use Rattle.session_hall.proofs.Books.{Books, put_entry}

@@ -1,5 +1,5 @@
 -- What an open makes of the books of the rooms.
-use Rattle.std.specs.Prelude.{◌≡◌, ◌∷◌, ℕ, zero, suc, List, length, false, Option, Some, None}
+use Rattle.std.specs.Prelude.{◌≡◌, ◌∷◌, ℕ, zero, suc, List, length, Option, Some, None}
 use Rattle.any_game.specs.AnyRules.{any_rules, named}
 use Rattle.any_game.specs.GameKind.{GameKind}
 use Rattle.any_game.specs.declared.any_g.AnyG.{AnyG}

@@ -45,8 +45,9 @@ pub fn act_member_of(alloc: Global, value: &Value, name: &'static str) -> Result
     }
 }
 
+/// What the object asks for: a move with its arguments, an event, an undo or a redo. None: it is in no form of an act.
 #[tactic(auto, unfolding(crate::specs::Acts::asked_in))]
-fn asked_of(alloc: Global, act: &Value) -> Result<Option<Asked>, NoMemory>
+pub fn asked_of(alloc: Global, act: &Value) -> Result<Option<Asked>, NoMemory>
     ensures { IfOk result (λ asked. asked ≡ asked_in (view act.now)) }
 {
     let Ok(kind) = text_of(act, "kind") else {

@@ -31,6 +31,7 @@ mod submission;
 mod verdict;
 mod wire_no;
 
+pub use acts::asked_of;
 pub use answer_put::{bye_line, games_line};
 pub use asked::{Asked, AskedTo};
 pub use bye::{bye_of, text_of_bye};

@@ -1,10 +1,9 @@
 -- What a step makes of a hall, and what it prints, by the parts that are put together.
-use Rattle.std.proofs.Common.{◌≡◌, ◌==◌, ℕ, Bool, true, false, ◌&&◌, if◌then◌else◌, List, [], ◌∷◌, ◌++◌, length, map, Option, Some, None, Result, Ok, Err, OnOk, refl, sym, ap, subst, ◌∙◌, append_assoc, append-nil, arith, eqb-true, length-append}
+use Rattle.std.proofs.Common.{◌≡◌, ℕ, true, List, [], ◌∷◌, ◌++◌, length, map, Option, Some, None, Result, Ok, Err, OnOk, refl, sym, ap, subst, ◌∙◌, append_assoc, append-nil}
 use Rattle.std.specs.List.{concat, flat_map, list_all}
 use Rattle.std.proofs.lemmas.Grind.{flat_map-append}
 use Rattle.any_game.specs.AnyRules.{any_rules, named}
 use Rattle.any_game.specs.GameKind.{GameKind}
-use Rattle.json.specs.Print.{escape_byte}
 use Rattle.game_hall.specs.Answers.{line_of, message_of}
 use Rattle.game_hall.specs.Core.{text_said}
 use Rattle.game_hall.specs.declared.answer.Answer.{Answer}
@@ -13,8 +12,8 @@ use Rattle.game_sheet.specs.Lines.{is_line, lines}
 use Rattle.game_sheet.specs.MatchName.{Name}
 use Rattle.game_sheet.specs.declared.act.Bye.{Bye}
 use Rattle.game_sheet.proofs.Cut.{lines_of}
-use Rattle.match_master.proofs.LineLaws.{HasNone, line_is_line, line_of_none}
-use Rattle.room_history.specs.Message.{Farewell, Update, line}
+use Rattle.match_master.proofs.LineLaws.{data_none, line_is_line, line_of_none}
+use Rattle.room_history.specs.Message.{Farewell, line}
 use Rattle.room_history.specs.Piece.{Piece, Line, Mark, End, State, Open, Ended, Closed, waiting_lines}
 use Rattle.room_history.specs.Room as room
 use Rattle.room_history.specs.Room.{room_of}
@@ -45,21 +44,6 @@ use Rattle.world_script.specs.ScriptSteps.{done_by}
 
 one_line : (l : List ℕ) → is_line l ≡ true → lines l ≡ l ∷ []
 one_line l h = ap lines (sym (append-nil l)) ∙ lines_of (λ x. x) (l ∷ []) (ap (λ b. b && true) h)
-
--- no newline stands before the last byte of a line
-none_before : (xs ys : List ℕ) (y : ℕ) → is_line (xs ++ y ∷ ys) ≡ true → HasNone xs
-none_before [] ys y h = tt
-none_before (x ∷ xs) ys y h = by (x == 10) refl (none_before xs ys y) h
-  where
-    by : (b : Bool) → (x == 10) ≡ b → (is_line (xs ++ y ∷ ys) ≡ true → HasNone xs) → (if b then length (xs ++ y ∷ ys) == 0 else is_line (xs ++ y ∷ ys)) ≡ true
-        → ((x == 10) ≡ false) × HasNone xs
-    by true e more h = let some = length-append xs (y ∷ ys) in let none = eqb-true (length (xs ++ y ∷ ys)) 0 h in absurd (omega (arith, some, none))
-    by false e more h = (e, more h)
-
--- so no JSON has one: it may stand in an update's line
-data_none : (d : Data) → HasNone (compact_text d)
-unfolding line escape_byte
-data_none d = none_before (compact_text d) _ _ (subst (λ t. is_line t ≡ true) (append_assoc (compact_text d) _ (10 ∷ [])) (line_is_line (Update d null null 0)))
 
 text_is_line : (m : ServerMsg) → is_line (text m) ≡ true
 unfolding text

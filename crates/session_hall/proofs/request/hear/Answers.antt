@@ -1,4 +1,4 @@
-use Rattle.std.proofs.Common.{◌∙◌, ap, subst}
+use Rattle.std.proofs.Common.{◌∙◌, ap}
 use Rattle.any_game.specs.GameKind.{GameKind}
 use Rattle.game_hall.specs.Core.{Core, is_again, plain, written}
 use Rattle.wire_json.specs.ClientReading.{client_read}

@@ -1,5 +1,4 @@
-use Rattle.std.proofs.Common.{◌∙◌, List, refl, sym, subst}
-use Rattle.hall_history.specs.Hall.{Hall}
+use Rattle.std.proofs.Common.{◌∙◌, refl, sym, subst}
 use Rattle.room_history.specs.declared.call.RoomCall.TheVariants as call
 use Rattle.session_hall.specs.Held.{StandsForHall}
 use Rattle.session_hall.proofs.Halls.{is_set_free, stands_for_one, stays_attached}

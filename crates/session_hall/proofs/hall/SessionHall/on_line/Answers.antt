@@ -1,4 +1,4 @@
-use Rattle.std.proofs.Common.{◌≡◌, ◌∙◌, length, slice_set, sym, ap, subst, arith}
+use Rattle.std.proofs.Common.{length, slice_set, sym, ap, subst, arith}
 use Rattle.session_hall.specs.Answered.{HearsLine}
 use Rattle.session_hall.specs.Held.{StandsForHall, StandsForOne}
 use Rattle.session_hall.proofs.Halls.{line_again, line_served, refilled, stands_for_one}
