@@ -142,6 +142,16 @@ impl SessionCore {
         }
     }
 
+    /// Answers `again` to a line that there was no memory to hand over. It takes no memory.
+    pub fn starve(&mut self)
+        requires closed { self.old.request ≡ None }
+        requires written { self.old.said ≡ None }
+        ensures starved { self.new ≡ starved self.old None }
+        ensures settled { IsSettled self.new.call self.new.request self.new.said }
+    {
+        self.move_on(Next::Says(WrittenAnswer::again(None)));
+    }
+
     /// Hands out the line of the direct answer; no bytes where there is none. It takes no memory.
     pub fn written(&mut self) -> Bytes
         ensures line { result ≡ written self.old }

@@ -31,6 +31,7 @@ use Rattle.session_hall.specs.Answered.{Frees, HearsLine, Leaves, Opens, leaving
 use Rattle.session_hall.specs.Held.{AreBooks, AreCores, HeldHall, IsBook, IsTape, StandsForHall, StandsForOne}
 use Rattle.session_hall.specs.Opens.{OpensIn}
 use Rattle.session_hall.specs.Requests.{HearsRequest, IsReady}
+use Rattle.session_hall.specs.declared.tally.Tally.{Tally}
 use Rattle.session_hall.proofs.Books.{Books, put_core, put_entry, same_cores}
 use Rattle.session_hall.proofs.Tapes.{after_drawing, after_rewinding, next_words}
 
@@ -128,8 +129,8 @@ module _ (tape : ℕ → List ℕ) (held : HeldHall) (h : Hall GameKind) (s : St
 
   -- ---- a session's line
 
-  module _ (pass : ℕ) (there : pass < 32) (line : List ℕ) (d : Core GameKind) (books : Books) (said : List ℕ) (again : Bool)
-      (r : HearsRequest tape h pass (client_read line) d books said again) (strip : Strip) (seed : Option (List ℕ))
+  module _ (pass : ℕ) (there : pass < 32) (line : List ℕ) (d : Core GameKind) (books : Books) (said : List ℕ) (again : Bool) (tally : Tally)
+      (r : HearsRequest tape h pass (client_read line) d books said again tally) (strip : Strip) (seed : Option (List ℕ))
       (kept : again ≡ true → IsTape tape h.place strip × (seed ≡ h.seed))
       (drew : again ≡ false → IsTape tape (h.place + words_drawn_by (client_read line) h.seed) strip × (seed ≡ seed_left_by (client_read line) h.seed)) where
     abbrev done : Core GameKind × Rooms GameKind
@@ -155,21 +156,22 @@ module _ (tape : ℕ → List ℕ) (held : HeldHall) (h : Hall GameKind) (s : St
     seed_by true e = subst (λ b. seed ≡ (if b then h.seed else seed_left_by (client_read line) h.seed)) (sym e ∙ r.want) (kept e).1
     seed_by false e = subst (λ b. seed ≡ (if b then h.seed else seed_left_by (client_read line) h.seed)) (sym e ∙ r.want) (drew e).1
 
-    pub line_heard : HearsLine tape h pass line (record { books = books; cores = slice_set held.cores pass d; tape = strip; seed = seed }) said again
+    pub line_heard : HearsLine tape h pass line (record { books = books; cores = slice_set held.cores pass d; tape = strip; seed = seed }) said again tally
     line_heard = record {
       mark = r.mark;
       stands = stands_with next books (slice_set held.cores pass d) strip seed as_many r.stand
           (put_core held.cores h next pass d s.cores_held there as_many is_idle (λ q e. other_at pass done.0.at h.at q e)) (words_by again refl) (seed_by again refl);
       text = r.text;
       want = r.want;
+      tallies = r.tallies;
     }
 
   -- ---- a session's line, by what its request came to
 
   module _ (pass : ℕ) (there : pass < 32) (line : List ℕ) (c : Core GameKind) (is : c ≡ slice_index_or held.cores pass c) (books : Books) (found : books ≡ held.books)
-      (d : Core GameKind) (after : Books) (said : List ℕ) (again : Bool)
-      (hears : IsReady tape h pass c books (next_action held.tape).left held.seed → HearsRequest tape h pass (client_read line) d after said again) where
-    heard_so : HearsRequest tape h pass (client_read line) d after said again
+      (d : Core GameKind) (after : Books) (said : List ℕ) (again : Bool) (tally : Tally)
+      (hears : IsReady tape h pass c books (next_action held.tape).left held.seed → HearsRequest tape h pass (client_read line) d after said again tally) where
+    heard_so : HearsRequest tape h pass (client_read line) d after said again tally
     heard_so = hears (record {
       is_core = own_core pass there c is;
       are_books = subst (λ x. AreBooks x h.rooms) (sym found) s.books_held;
@@ -179,17 +181,17 @@ module _ (tape : ℕ → List ℕ) (held : HeldHall) (h : Hall GameKind) (s : St
 
     -- there was no memory for it
     pub line_again : again ≡ true → (last : Strip) → last.source ≡ held.tape.source → (at : ℕ) → at ≡ place_of held.tape → (new : Strip) → new ≡ begun last.source at
-        → HearsLine tape h pass line (record { books = after; cores = slice_set held.cores pass d; tape = new; seed = held.seed }) said again
+        → HearsLine tape h pass line (record { books = after; cores = slice_set held.cores pass d; tape = new; seed = held.seed }) said again tally
     line_again e last same at stood new is_new =
-        line_heard pass there line d after said again heard_so new held.seed
+        line_heard pass there line d after said again tally heard_so new held.seed
         (λ t. (after_rewinding tape h.place held.tape s.tape_held last new same (is_new ∙ ap (λ k. begun last.source k) stood), s.seed_held))
         (λ f. absurd (true_false (sym e ∙ f)))
 
     pub line_served : again ≡ false → (new : Strip) → new ≡ drawn (words_drawn_by (client_read line) held.seed) (next_action held.tape)
         → (seed : Option (List ℕ)) → seed ≡ seed_left_by (client_read line) held.seed
-        → HearsLine tape h pass line (record { books = after; cores = slice_set held.cores pass d; tape = new; seed = seed }) said again
+        → HearsLine tape h pass line (record { books = after; cores = slice_set held.cores pass d; tape = new; seed = seed }) said again tally
     line_served e new drew seed left =
-        line_heard pass there line d after said again heard_so new seed
+        line_heard pass there line d after said again tally heard_so new seed
         (λ t. absurd (true_false (sym t ∙ e)))
         (λ f. (
           after_drawing tape h.place held.tape s.tape_held (words_drawn_by (client_read line) h.seed) new (drew ∙ ap (λ x. drawn (words_drawn_by (client_read line) x) (next_action held.tape)) s.seed_held),

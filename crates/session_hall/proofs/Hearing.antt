@@ -7,9 +7,10 @@ use Rattle.game_hall.specs.Requests.{hears}
 use Rattle.hall_history.specs.Hall.{Hall, begun, core_of, request}
 use Rattle.hall_history.specs.Mark.{Unread}
 use Rattle.session_hall.specs.Held.{AreBooks}
-use Rattle.session_hall.specs.Requests.{HearsRequest, IsReady, Runs, RunsTo, Want, luck_of, mark_of}
+use Rattle.session_hall.specs.Requests.{HearsRequest, IsReady, Runs, RunsTo, Tallies, Want, luck_of, mark_of}
+use Rattle.session_hall.specs.declared.tally.Tally.{Tally}
 use Rattle.session_hall.proofs.Books.{Books}
-use Rattle.session_hall.proofs.Running.{Lucks, moved_keeps, runs, with_luck}
+use Rattle.session_hall.proofs.Running.{Lucks, added_none, moved_keeps, runs, with_luck}
 use Rattle.wire_json.specs.Refusals.{Refusal as Fault}
 use Rattle.wire_json.specs.declared.client.ClientMsg.{ClientMsg}
 
@@ -23,7 +24,7 @@ module _ (words : ℕ → List ℕ) (h : Hall GameKind) (pass : ℕ) (read : Res
 
   module _ (c : Core GameKind) (books : Books) (left : List ℕ) (seed : Option (List ℕ)) (r : IsReady words h pass c books left seed) where
     -- it was read, and its request ran to the end
-    module _ (after : Books) (now d : Core GameKind) (e : now ≡ heard named c read left seed) (ran : Runs now.pass now h.rooms d after) where
+    module _ (after : Books) (now d : Core GameKind) (tally : Tally) (e : now ≡ heard named c read left seed) (ran : Runs now.pass now h.rooms d after tally) where
       is_begun : now ≡ begun_core
       is_begun =
           e ∙ ap (λ x. heard named x read left seed) r.is_core ∙ ap (λ l. heard named (core_of h pass) read l seed) r.are_words
@@ -41,18 +42,20 @@ module _ (words : ℕ → List ℕ) (h : Hall GameKind) (pass : ℕ) (read : Res
       rooms_are : (request named any_rules words (mark_of goes.want) h pass read).1.rooms ≡ ran.after
       rooms_are = ap (λ (x : Core GameKind × Lucks). x.1.rooms) (request_of goes.want) ∙ goes.left
 
-      pub hears_served : HearsRequest words h pass read (plain d) after (written d) (is_again d.said)
+      pub hears_served : HearsRequest words h pass read (plain d) after (written d) (is_again d.said) tally
       hears_served = record {
         mark = mark_of goes.want;
         stand = subst (λ x. AreBooks after x) (sym rooms_are) ran.stand;
         core = ap (λ x. plain x) (sym core_is);
         text = ap (λ x. written x) (sym core_is);
         want = ap (λ (x : Core GameKind). is_again x.said) (sym core_is);
+        tallies = subst (λ x. Tallies h.rooms tally x) (sym rooms_are) ran.tallies;
       }
 
     -- there was no memory to read it
-    pub hears_unread : (now : Core GameKind) → now ≡ starved c None → HearsRequest words h pass read (plain now) books (written now) (is_again now.said)
-    hears_unread now e =
+    pub hears_unread : (now : Core GameKind) → now ≡ starved c None → (tally : Tally) → tally.accepted ≡ 0 → tally.refused ≡ 0
+        → HearsRequest words h pass read (plain now) books (written now) (is_again now.said) tally
+    hears_unread now e tally none no =
         let is : now ≡ starved (core_of h pass) None = e ∙ ap (λ x. starved x None) r.is_core in
         record {
           mark = Unread;
@@ -60,15 +63,17 @@ module _ (words : ℕ → List ℕ) (h : Hall GameKind) (pass : ℕ) (read : Res
           core = ap (λ x. plain x) is;
           text = ap (λ x. written x) is;
           want = ap (λ (x : Core GameKind). is_again x.said) is;
+          tallies = record { accepted = added_none _ tally.accepted none; refused = added_none _ tally.refused no };
         }
 
   -- it was answered so
-  pub hears_as : (d now : Core GameKind) (books after : Books) (line : List ℕ) (again : Bool) → HearsRequest words h pass read (plain d) after (written d) (is_again d.said)
-      → now ≡ plain d → line ≡ written d → again ≡ is_again d.said → books ≡ after → HearsRequest words h pass read now books line again
-  hears_as d now books after line again r e t w b = record {
+  pub hears_as : (d now : Core GameKind) (books after : Books) (line : List ℕ) (again : Bool) (tally : Tally) → HearsRequest words h pass read (plain d) after (written d) (is_again d.said) tally
+      → now ≡ plain d → line ≡ written d → again ≡ is_again d.said → books ≡ after → HearsRequest words h pass read now books line again tally
+  hears_as d now books after line again tally r e t w b = record {
     mark = r.mark;
     stand = subst (λ x. AreBooks x (request named any_rules words r.mark h pass read).1.rooms) (sym b) r.stand;
     core = e ∙ r.core;
     text = t ∙ r.text;
     want = w ∙ r.want;
+    tallies = r.tallies;
   }

@@ -2,7 +2,6 @@ pub mod Beginning
 pub mod Books
 pub mod Halls
 pub mod Hearing
-pub mod Replies
 pub mod RoomByRoom
 pub mod Running
 pub mod Tapes

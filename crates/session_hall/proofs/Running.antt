@@ -14,8 +14,10 @@ use Rattle.game_hall.specs.declared.next.Next.TheVariants.{Calls, Says, Attaches
 use Rattle.game_hall.specs.declared.request.Request.{Request}
 use Rattle.game_hall.specs.declared.request.Request.TheVariants.{Creating, Listing, Looking, Joining, Renaming, Leaving, Syncing, Acting}
 use Rattle.game_hall.proofs.Moves.{is_starved_by}
+use Rattle.hall_history.specs.Counts.{accepts, refuses}
 use Rattle.hall_history.specs.Mark.{Luck, Lucky, ask_rooms, luck_after, runs_out, runs_out_there, takes_memory, told_by, unheard}
 use Rattle.hall_history.specs.Rooms.{History, Rooms, history_of, reply_in, with_entry}
+use Rattle.hall_history.proofs.Counting.{counts_entry}
 use Rattle.hall_history.proofs.Rooming.{same_length}
 use Rattle.match_master.specs.Held.{Held, StandsFor, is_starved, may_starve}
 use Rattle.room_history.specs.declared.call.RoomCall.{RoomCall}
@@ -25,7 +27,8 @@ use Rattle.room_history.specs.declared.reply.RoomReply.TheVariants as told_as
 use Rattle.wire_json.specs.declared.match_row.MatchRow.{MatchRow}
 use Rattle.room_object.specs.Entry.{entry}
 use Rattle.session_hall.specs.Held.{AreBooks, IsBook}
-use Rattle.session_hall.specs.Requests.{Asks, HearsReply, Runs, RunsTo, Want, luck_of}
+use Rattle.session_hall.specs.Requests.{Asks, HearsReply, Runs, RunsTo, Tallies, Want, luck_of}
+use Rattle.session_hall.specs.declared.tally.Tally.{Tally}
 use Rattle.session_hall.proofs.Books.{Books, put_entry}
 
 abbrev pub Lucks : Type 0
@@ -183,7 +186,7 @@ module _ (n pass : ℕ) (c : Core GameKind) (rooms : Rooms GameKind) (room : ℕ
         ap (λ x. runs n pass x (with_luck next (Some (0, there)))) s ∙ still pass n d (with_luck next (Some (0, there))) closed in
         runs_by (Some (0, there)) told_as.NoMemory next (Some (0, there)) e after a (ap (λ done. done.0) stays ∙ same.0) (ap (λ done. done.1.rooms) stays ∙ same.1)
 
-    module _ (d : Core GameKind) (book : Held GameKind AnyG) (a : Asks pass room made (asked c) (history_of rooms room) d book) (e : Core GameKind) (after : Rooms GameKind)
+    module _ (d : Core GameKind) (book : Held GameKind AnyG) (tally : Tally) (a : Asks pass room made (asked c) (history_of rooms room) d book tally) (e : Core GameKind) (after : Rooms GameKind)
         (r : RunsTo n pass d (with_entry rooms room (entry pass made (is_starved a.told))) e after) where
       abbrev next_by : Bool → Rooms GameKind
       next_by b = with_entry rooms room (entry pass made b)
@@ -244,33 +247,47 @@ open_request (Some y) None said x e s = absurd (false_true s.0)
 open_request (Some y) (Some request) said x e s = (request, refl)
 
 -- so many calls have been made, from one core and rooms on
-pub record RunsFrom (made pass : ℕ) (c : Core GameKind) (rooms : Rooms GameKind) (now : Core GameKind) (books : Books) : Type 0 where
+pub record RunsFrom (made pass : ℕ) (c : Core GameKind) (rooms : Rooms GameKind) (now : Core GameKind) (books : Books) (tally : Tally) : Type 0 where
   pub asked_rooms : Rooms GameKind
   pub stand : AreBooks books asked_rooms
   pub count : length asked_rooms ≡ length rooms
+  pub tallies : Tallies rooms tally asked_rooms
   pub goes : (n : ℕ) (d : Core GameKind) (after : Rooms GameKind) → made + n ≡ length rooms + 1 → RunsTo n pass now asked_rooms d after → RunsTo (length rooms + 1) pass c rooms d after
 
-pub runs_first : (pass : ℕ) (c : Core GameKind) (rooms : Rooms GameKind) (books : Books) → AreBooks books rooms → RunsFrom 0 pass c rooms c books
-runs_first pass c rooms books a = record {
+-- nothing is added
+pub added_none : (n none : ℕ) → none ≡ 0 → n ≡ n + none
+added_none n none e = omega (arith, e)
+
+pub runs_first : (pass : ℕ) (c : Core GameKind) (rooms : Rooms GameKind) (books : Books) (tally : Tally) → tally.accepted ≡ 0 → tally.refused ≡ 0 → AreBooks books rooms
+    → RunsFrom 0 pass c rooms c books tally
+runs_first pass c rooms books tally none no a = record {
   asked_rooms = rooms;
   stand = a;
   count = refl;
+  tallies = record { accepted = added_none _ tally.accepted none; refused = added_none _ tally.refused no };
   goes = λ n d after e r. subst (λ m. RunsTo m pass c rooms d after) (all_left n e) r;
 }
   where
     all_left : (n : ℕ) → 0 + n ≡ length rooms + 1 → n ≡ length rooms + 1
     all_left n e = omega (arith, e)
 
-module _ (made pass : ℕ) (c : Core GameKind) (rooms : Rooms GameKind) (now : Core GameKind) (books : Books) (f : RunsFrom made pass c rooms now books) where
+module _ (made pass : ℕ) (c : Core GameKind) (rooms : Rooms GameKind) (now : Core GameKind) (books : Books) (tally : Tally) (f : RunsFrom made pass c rooms now books tally) where
   pub runs_next : (room : ℕ) (asked_for : RoomCall GameKind) (request : Request) → now.call ≡ Some (room, asked_for) → now.request ≡ Some request → room < length books
       → (d : Core GameKind) (old book : Held GameKind AnyG) → old ≡ slice_index_or books room old → book.room ≡ old.room
-      → ((h : History GameKind) → StandsFor any_rules old h → Asks pass old.room asked_for (asked now) h d book)
-      → RunsFrom (made + 1) pass c rooms d (slice_set books room book)
-  runs_next room asked_for request wanted open_one below d old book is same asks = record {
+      → (one all : Tally) → ((h : History GameKind) → StandsFor any_rules old h → Asks pass old.room asked_for (asked now) h d book one)
+      → all.accepted ≡ tally.accepted + one.accepted → all.refused ≡ tally.refused + one.refused
+      → RunsFrom (made + 1) pass c rooms d (slice_set books room book) all
+  runs_next room asked_for request wanted open_one below d old book is same one all asks more fewer = record {
     asked_rooms = with_entry f.asked_rooms room (entry pass asked_for (is_starved told.told));
     stand = put_entry books f.asked_rooms room book (entry pass asked_for (is_starved told.told)) f.stand there (same ∙ numbered) told.stands;
     count = same_length f.asked_rooms room (entry pass asked_for (is_starved told.told)) ∙ f.count;
-    goes = λ n e after l r. f.goes (suc n) e after (one_less_left n l) (goes n pass now f.asked_rooms room asked_for wanted request open_one d book told e after r);
+    tallies = record {
+      accepted = counts_entry any_rules accepts f.asked_rooms room (entry pass asked_for (is_starved told.told)) there
+          ∙ with_one _ _ tally.accepted one.accepted all.accepted _ f.tallies.accepted (told.accepted ∙ ap accepts told.is) more;
+      refused = counts_entry any_rules refuses f.asked_rooms room (entry pass asked_for (is_starved told.told)) there
+          ∙ with_one _ _ tally.refused one.refused all.refused _ f.tallies.refused (told.refused ∙ ap refuses told.is) fewer;
+    };
+    goes = λ n e after l r. f.goes (suc n) e after (one_less_left n l) (goes n pass now f.asked_rooms room asked_for wanted request open_one d book one told e after r);
   }
     where
       there : room < length f.asked_rooms
@@ -282,29 +299,33 @@ module _ (made pass : ℕ) (c : Core GameKind) (rooms : Rooms GameKind) (now : C
       numbered : old.room ≡ room
       numbered = held.number
 
-      told : Asks pass room asked_for (asked now) (history_of f.asked_rooms room) d book
-      told = subst (λ k. Asks pass k asked_for (asked now) (history_of f.asked_rooms room) d book) numbered (asks (history_of f.asked_rooms room) held.stands)
+      told : Asks pass room asked_for (asked now) (history_of f.asked_rooms room) d book one
+      told = subst (λ k. Asks pass k asked_for (asked now) (history_of f.asked_rooms room) d book one) numbered (asks (history_of f.asked_rooms room) held.stands)
+
+      with_one : (now_all before_all so_far this all_of counted : ℕ) → now_all ≡ before_all + so_far → this ≡ counted → all_of ≡ so_far + this → now_all + counted ≡ before_all + all_of
+      with_one now_all before_all so_far this all_of counted p q r = omega (arith, p, q, r)
 
       one_less_left : (n : ℕ) → made + 1 + n ≡ length rooms + 1 → made + suc n ≡ length rooms + 1
       one_less_left n l = omega (arith, l)
 
   -- the core is of the same pass and rooms
   pub next_keeps : (room : ℕ) (asked_for : RoomCall GameKind) → room < length books → (d : Core GameKind) (old book : Held GameKind AnyG) → old ≡ slice_index_or books room old
-      → ((h : History GameKind) → StandsFor any_rules old h → Asks pass old.room asked_for (asked now) h d book) → (d.rooms ≡ now.rooms) × (d.pass ≡ now.pass)
-  next_keeps room asked_for below d old book is asks =
+      → (one : Tally) → ((h : History GameKind) → StandsFor any_rules old h → Asks pass old.room asked_for (asked now) h d book one) → (d.rooms ≡ now.rooms) × (d.pass ≡ now.pass)
+  next_keeps room asked_for below d old book is one asks =
       let there : room < length f.asked_rooms = subst (λ k. room < k) f.stand.count below in
       let held : IsBook room f.asked_rooms old = subst (λ x. IsBook room f.asked_rooms x) (sym is) (f.stand.each room old there) in
-      let told : Asks pass old.room asked_for (asked now) (history_of f.asked_rooms room) d book = asks (history_of f.asked_rooms room) held.stands in
+      let told : Asks pass old.room asked_for (asked now) (history_of f.asked_rooms room) d book one = asks (history_of f.asked_rooms room) held.stands in
       heard_keeps (asked now) told.told d told.heard
 
   -- no call is wanted any more
-  pub runs_closed : now.call ≡ None → made ≤ length books + 1 → Runs pass c rooms (asked now) books
+  pub runs_closed : now.call ≡ None → made ≤ length books + 1 → Runs pass c rooms (asked now) books tally
   runs_closed closed most =
       let n : ℕ = length rooms + 1 - made in
       let r : RunsTo n pass now f.asked_rooms now f.asked_rooms = stands_still pass n now f.asked_rooms closed in
       record {
         after = f.asked_rooms;
         stand = f.stand;
+        tallies = f.tallies;
         goes = subst (λ x. RunsTo (length rooms + 1) pass c rooms x f.asked_rooms) (sym same) (f.goes n now f.asked_rooms (omega (arith, most, f.stand.count, f.count)) r);
       }
     where
@@ -312,9 +333,10 @@ module _ (made pass : ℕ) (c : Core GameKind) (rooms : Rooms GameKind) (now : C
       same = ap (λ x. record now { call = x }) (sym closed)
 
   -- as many calls were made as a request may make
-  pub runs_out_of_calls : made ≡ length books + 1 → Runs pass c rooms now books
+  pub runs_out_of_calls : made ≡ length books + 1 → Runs pass c rooms now books tally
   runs_out_of_calls all = record {
     after = f.asked_rooms;
     stand = f.stand;
+    tallies = f.tallies;
     goes = f.goes 0 now f.asked_rooms (omega (arith, all, f.stand.count, f.count)) (record { want = None; core = refl; left = refl });
   }

@@ -66,7 +66,7 @@ impl SessionHall {
     pub fn on_line(&mut self, pass: u8, line: &[u8]) -> Said
         requires { pass < 32 }
         ensures { (tape : ℕ → List ℕ) (h : Hall GameKind) → StandsForHall tape self.old h
-            → HearsLine tape h pass line.now self.new result.line result.again }
+            → HearsLine tape h pass line.now self.new result.line result.again result.tally }
     {
         let place = self.tape.place();
         let seed = self.seed;

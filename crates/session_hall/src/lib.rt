@@ -5,6 +5,8 @@ mod attached;
 mod hall;
 mod opening;
 mod request;
+mod tally;
 
 pub use hall::SessionHall;
 pub use request::Said;
+pub use tally::Tally;

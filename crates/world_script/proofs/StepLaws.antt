@@ -36,6 +36,7 @@ use Rattle.session_hall.specs.Answered.{Frees, HearsLine, made_text}
 use Rattle.session_hall.specs.Answered as answered
 use Rattle.session_hall.specs.Held.{HeldHall, StandsForHall}
 use Rattle.session_hall.specs.Opens.{made_by}
+use Rattle.session_hall.specs.declared.tally.Tally.{Tally}
 use Rattle.world_script.specs.Printing.{end_text, reply_text}
 use Rattle.world_script.specs.Running.{Does}
 use Rattle.world_script.specs.ScriptSteps.{done_by}
@@ -166,7 +167,7 @@ module _ (h : Hall GameKind) (hall : HeldHall) (before after : List ℕ) where
     added = e ∙ ap (λ o. before ++ made_text o) r.answer ∙ ap (λ t. before ++ t) (made_is (after_open named any_rules hall_tape h game seats).1);
   }
 
-  pub heard : (pass : ℕ) (line said : List ℕ) (again : Bool) → HearsLine hall_tape h pass line hall said again → after ≡ before ++ all_to_session pass said
+  pub heard : (pass : ℕ) (line said : List ℕ) (again : Bool) (tally : Tally) → HearsLine hall_tape h pass line hall said again tally → after ≡ before ++ all_to_session pass said
       → Does h (Says pass line) hall before after
   unfolding done_by
   heard pass line said again r e = record {

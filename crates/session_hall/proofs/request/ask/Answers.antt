@@ -1,5 +1,5 @@
 use Rattle.any_game.specs.AnyRules.{any_rules}
-use Rattle.session_hall.proofs.Replies.{named_by}
+use Rattle.hall_history.proofs.Replies.{named_by}
 use Rattle.session_hall.proofs.request.ask.Goals as goal
 
 pub answered-requires-clause-named : goal.answered-requires-clause-named
