@@ -1,6 +1,6 @@
 //! A client of a match.
 
-ghost use Rattle.std.specs.Prelude.{◌≡◌, ◌≢◌, ℕ, position, IfOk, IfErr, IfNone, IfSome, OnErr, Ok, Some, option_map};
+ghost use Rattle.std.specs.Prelude.{◌≡◌, ◌≢◌, ℕ, position, IfOk, IfErr, IfNone, IfSome, OnErr, Ok, Some, option_and_then, option_map};
 ghost use Rattle.std.specs.Option.{option_copied};
 ghost use Rattle.wire_json.specs.Asking.{IsAskable};
 ghost use Rattle.sight_reading.specs.EntryReading.{entry_in};
@@ -87,6 +87,16 @@ impl<X: Game + Drop> Client<X> {
         match &self.part {
             None => None,
             Some(part) => Some(part.shown()),
+        }
+    }
+
+    /// The seat of the viewer; none for a spectator, and before the first sync. It takes no memory.
+    pub fn seat(&self) -> Option<Seat>
+        ensures { result ≡ option_and_then (λ playing. playing.seat) self.now.client.playing }
+    {
+        match &self.part {
+            None => None,
+            Some(part) => part.seat,
         }
     }
 
