@@ -36,4 +36,8 @@ module _ {X G : Type 0} (rules : X → Rules G) (count : RoomReply → ℕ) wher
 
   pub counts_entry : (rooms : Rooms X) (room : ℕ) (e : Entry (RoomCall X)) → room < length rooms
       → count_from rules count 0 (with_entry rooms room e) ≡ count_from rules count 0 rooms + count (reply_in rules rooms room e)
-  counts_entry rooms room e there = counts_from 0 rooms room e there
+  counts_entry rooms room e there =
+      subst (λ n. count_from rules count 0 (with_entry rooms room e) ≡ count_from rules count 0 rooms + count (reply rules n (history_of rooms room) e)) (from_none room) (counts_from 0 rooms room e there)
+    where
+      from_none : (n : ℕ) → 0 + n ≡ n
+      from_none n = omega arith

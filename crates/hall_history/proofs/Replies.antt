@@ -1,5 +1,5 @@
 -- What a room may reply to each call: a match that it made has a serial; only an action has a verdict, and only a Take hands out bytes.
-use Rattle.std.proofs.Common.{◌≡◌, ℕ, ◌+◌, ◌==◌, Bool, true, false, if◌then◌else◌, List, [], ◌∷◌, Option, Some, None, Result, Ok, Err, sym, subst, arith}
+use Rattle.std.proofs.Common.{◌≡◌, ◌≤◌, ℕ, ◌+◌, ◌==◌, Bool, true, false, if◌then◌else◌, List, [], ◌∷◌, Option, Some, None, Result, Ok, Err, refl, sym, subst, arith}
 use Rattle.game_hall.specs.Kept.{IsNamed}
 use Rattle.game_sheet.specs.Viewer.{Viewer}
 use Rattle.game_sheet.specs.declared.refusal.GameRule.{GameRule}
