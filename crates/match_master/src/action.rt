@@ -1,8 +1,10 @@
 //! An accepted action, as the lines that tell of it are made from it.
 
-ghost use Rattle.std.specs.Prelude.{◌≡◌, ◌+◌};
+ghost use Rattle.std.specs.Prelude.{◌≡◌, ◌+◌, Some};
 ghost use Rattle.serde_json.specs.Written.{compact_text};
+ghost use Rattle.move_log.specs.Redact.{redact};
 ghost use Rattle.player_sight.specs.CtxData.{ctx_data};
+ghost use Rattle.player_sight.specs.EntryData.{entry_data};
 
 use game_trait::Game;
 use move_log::Entry;
@@ -19,8 +21,18 @@ pub struct Action<'a, X: Game> {
     pub prepared: &'a Prepared<X::G>,
     /// Its entry of the log.
     pub entry: &'a Entry,
-    /// The text of the context after it, which every viewer sees.
-    pub ctx: &'a [u8],
+    /// The texts in it that more than one viewer sees.
+    pub texts: &'a SharedTexts,
     ghost follows: { prepared.now.number ≡ state.now.number + 1 },
-    ghost text: { ctx.now ≡ compact_text (ctx_data (X.rules game.now).sheet prepared.now.table.ctx) },
+    ghost ctx: { texts.now.ctx.items ≡ compact_text (ctx_data (X.rules game.now).sheet prepared.now.table.ctx) },
+    ghost own: { texts.now.entry.items ≡ compact_text (entry_data (X.rules game.now).sheet (redact (X.rules game.now).sheet (Some entry.now.seat) entry.now)) },
+}
+
+/// What all viewers see of an action, and what all see from whom no argument is hidden.
+#[derive(Drop)]
+pub struct SharedTexts {
+    /// The text of the context after it.
+    pub ctx: Vec<u8>,
+    /// The text of its entry as the seat sees it that acted.
+    pub entry: Vec<u8>,
 }

@@ -1,6 +1,6 @@
 //! The lines of an attachment, made of the state of the match.
 
-ghost use Rattle.std.specs.Prelude.{◌≡◌, ◌-◌, false, IfOk};
+ghost use Rattle.std.specs.Prelude.{◌≡◌, ◌-◌, false, IfOk, Some};
 ghost use Rattle.serde_json.specs.Data.{Data};
 ghost use Rattle.serde_json.specs.View.{view};
 ghost use Rattle.serde_json.specs.Written.{compact_text, has_float};
@@ -13,7 +13,7 @@ ghost use Rattle.room_history.specs.Message.{Change, No, Ok as Accepts, Sync, Up
 ghost use Rattle.match_master.specs.Does.{seen_at};
 ghost use Rattle.match_master.specs.UpdateText.{action_line, value_seen};
 
-use crate::action::Action;
+use crate::action::{Action, SharedTexts};
 use game_sheet::{Ctx, MatchName, NoMemory, Number, Seat, Sheet};
 use game_trait::Game;
 use move_log::Entry;
@@ -85,8 +85,24 @@ fn sync_line(
     Ok(line)
 }
 
+/// The texts of an action that more than one viewer sees.
+pub fn shared_texts(
+    alloc: Global,
+    sheet: &Sheet,
+    ctx: &Ctx,
+    entry: &Entry,
+) -> Result<SharedTexts, NoMemory>
+    ensures ctx { IfOk result (λ t. t.ctx.items ≡ compact_text (ctx_data sheet.now ctx.now)) }
+    ensures entry { IfOk result (λ t. t.entry.items ≡ compact_text (entry_data sheet.now (redact sheet.now (Some entry.now.seat) entry.now))) }
+{
+    let own = entry.redacted(sheet, Some(entry.seat));
+    let ctx = ctx_text(alloc, sheet, ctx)?;
+    let entry = entry_text(alloc, sheet, &own)?;
+    Ok(SharedTexts { ctx, entry })
+}
+
 /// The text of a context.
-pub fn ctx_text(alloc: Global, sheet: &Sheet, ctx: &Ctx) -> Result<Vec<u8>, NoMemory>
+fn ctx_text(alloc: Global, sheet: &Sheet, ctx: &Ctx) -> Result<Vec<u8>, NoMemory>
     ensures { IfOk result (λ t. t.items ≡ compact_text (ctx_data sheet.now ctx.now)) }
 {
     let mut text = Vec::with_capacity(alloc, PART)?;
@@ -103,10 +119,35 @@ pub fn update<X: Game>(
 ) -> Result<Vec<u8>, NoMemory>
     ensures { IfOk result (λ l. l.items ≡ action_line (X.rules action.now.game.now) action.now.state.now action.now.prepared.now action.now.entry.now seat protocol) }
 {
-    let entry = entry_text(alloc, action.game.sheet(), action.entry, seat)?;
+    let sheet = action.game.sheet();
+    let shown = action.entry.redacted(sheet, seat);
+    if !shown.hidden {
+        return told(
+            alloc,
+            action,
+            seat,
+            protocol,
+            action.texts.entry.as_slice(),
+        );
+    }
+    let entry = entry_text(alloc, sheet, &shown)?;
+    told(alloc, action, seat, protocol, entry.as_slice())
+}
+
+/// The line of an accepted action in a protocol.
+fn told<X: Game>(
+    alloc: Global,
+    action: &Action<'_, X>,
+    seat: Option<Seat>,
+    protocol: Protocol,
+    entry: &[u8],
+) -> Result<Vec<u8>, NoMemory>
+    ensures { entry.now ≡ compact_text (entry_data (X.rules action.now.game.now).sheet (redact (X.rules action.now.game.now).sheet seat action.now.entry.now))
+        → IfOk result (λ l. l.items ≡ action_line (X.rules action.now.game.now) action.now.state.now action.now.prepared.now action.now.entry.now seat protocol) }
+{
     match protocol {
-        Protocol::One => whole(alloc, action, seat, entry.as_slice()),
-        Protocol::Two => change(alloc, action, seat, entry.as_slice()),
+        Protocol::One => whole(alloc, action, seat, entry),
+        Protocol::Two => change(alloc, action, seat, entry),
     }
 }
 
@@ -129,7 +170,7 @@ fn whole<X: Game>(
     )?;
     update_line(
         alloc,
-        action.ctx,
+        action.texts.ctx.as_slice(),
         entry,
         g.as_slice(),
         action.prepared.number(),
@@ -307,18 +348,12 @@ fn seen_text<X: Game>(
     Ok(text)
 }
 
-/// The text of an entry of the log as a viewer sees it.
-fn entry_text(
-    alloc: Global,
-    sheet: &Sheet,
-    entry: &Entry,
-    seat: Option<Seat>,
-) -> Result<Vec<u8>, NoMemory>
-    ensures { IfOk result (λ t. t.items ≡ compact_text (entry_data sheet.now (redact sheet.now seat entry.now))) }
+/// The text of an entry of the log.
+fn entry_text(alloc: Global, sheet: &Sheet, entry: &Entry) -> Result<Vec<u8>, NoMemory>
+    ensures { IfOk result (λ t. t.items ≡ compact_text (entry_data sheet.now entry.now)) }
 {
-    let shown = entry.redacted(sheet, seat);
     let mut text = Vec::with_capacity(alloc, PART)?;
-    put_entry(alloc, &mut text, sheet, &shown)?;
+    put_entry(alloc, &mut text, sheet, entry)?;
     Ok(text)
 }
 

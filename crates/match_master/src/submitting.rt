@@ -11,10 +11,9 @@ ghost use Rattle.match_master.specs.Attached.{open_viewer};
 ghost use Rattle.match_master.specs.Does.{Does, SubmitDoes, with_accepted, with_refused};
 ghost use Rattle.match_master.specs.Held.{running_of};
 
-use crate::action::Action;
 use crate::book::Book;
 use crate::judge::{Judged, judge};
-use crate::staging::stage_all;
+use crate::staging::stage;
 use crate::{attachments, line};
 use game_sheet::{NoMemory, Number};
 use game_trait::Game;
@@ -89,18 +88,8 @@ impl<X: Game + Drop> Book<X> {
         let Some(running) = &self.running else {
             unreachable!();
         };
-        let Ok(ctx) = line::ctx_text(self.alloc, running.game.sheet(), prepared.ctx()) else {
-            drop(prepared);
-            return RoomReply::NoMemory;
-        };
-        let action = Action {
-            game: &running.game,
-            state: &running.state,
-            prepared: &prepared,
-            entry: &entry,
-            ctx: ctx.as_slice(),
-        };
-        let Ok(()) = stage_all(self.alloc, &action, &mut self.attachments, pass, &verdict) else {
+        let told = &mut self.attachments;
+        let Ok(()) = stage(self.alloc, running, &prepared, &entry, told, pass, &verdict) else {
             drop(prepared);
             return RoomReply::NoMemory;
         };
