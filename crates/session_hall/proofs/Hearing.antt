@@ -55,7 +55,7 @@ module _ (words : ℕ → List ℕ) (h : Hall GameKind) (pass : ℕ) (read : Res
     -- there was no memory to read it
     pub hears_unread : (now : Core GameKind) → now ≡ starved c None → (tally : Tally) → tally.accepted ≡ 0 → tally.refused ≡ 0
         → HearsRequest words h pass read (plain now) books (written now) (is_again now.said) tally
-    hears_unread now e tally none no =
+    hears_unread now e tally none never =
         let is : now ≡ starved (core_of h pass) None = e ∙ ap (λ x. starved x None) r.is_core in
         record {
           mark = Unread;
@@ -63,17 +63,17 @@ module _ (words : ℕ → List ℕ) (h : Hall GameKind) (pass : ℕ) (read : Res
           core = ap (λ x. plain x) is;
           text = ap (λ x. written x) is;
           want = ap (λ (x : Core GameKind). is_again x.said) is;
-          tallies = record { accepted = added_none _ tally.accepted none; refused = added_none _ tally.refused no };
+          tallies = record { accepted = added_none _ tally.accepted none; refused = added_none _ tally.refused never };
         }
 
   -- it was answered so
-  pub hears_as : (d now : Core GameKind) (books after : Books) (line : List ℕ) (again : Bool) (tally : Tally) → HearsRequest words h pass read (plain d) after (written d) (is_again d.said) tally
-      → now ≡ plain d → line ≡ written d → again ≡ is_again d.said → books ≡ after → HearsRequest words h pass read now books line again tally
-  hears_as d now books after line again tally r e t w b = record {
+  pub hears_as : (d now : Core GameKind) (books after : Books) (line : List ℕ) (again : Bool) (tally told : Tally) → HearsRequest words h pass read (plain d) after (written d) (is_again d.said) tally
+      → now ≡ plain d → line ≡ written d → again ≡ is_again d.said → books ≡ after → told ≡ tally → HearsRequest words h pass read now books line again told
+  hears_as d now books after line again tally told r e t w b s = record {
     mark = r.mark;
     stand = subst (λ x. AreBooks x (request named any_rules words r.mark h pass read).1.rooms) (sym b) r.stand;
     core = e ∙ r.core;
     text = t ∙ r.text;
     want = w ∙ r.want;
-    tallies = r.tallies;
+    tallies = subst (λ x. Tallies h.rooms x (request named any_rules words r.mark h pass read).1.rooms) (sym s) r.tallies;
   }

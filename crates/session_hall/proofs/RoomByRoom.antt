@@ -29,7 +29,7 @@ use Rattle.session_hall.specs.Opens.{CreatesIn, MakesIn, OpensIn, made_by, openi
 use Rattle.session_hall.specs.declared.opening.Tried.{Tried}
 use Rattle.session_hall.specs.declared.opening.Tried.TheVariants.{Busy, Made, Refused, Starved}
 use Rattle.session_hall.proofs.Books.{Books, put_any, put_book, put_entry, put_match}
-use Rattle.session_hall.proofs.Replies.{reply_named}
+use Rattle.hall_history.proofs.Replies.{named_by}
 use Rattle.session_hall.proofs.Running.{Lucks, runs, still, with_luck}
 
 is_below : (m n : ℕ) → m < n → nat_lt m n ≡ true
@@ -176,7 +176,7 @@ module _ (rooms : Rooms GameKind) (game : List ℕ) (seats : ℕ) (seed : List �
 
       -- the match was made
       made_serial : (serial : ℕ) → Made serial ≡ tried_by told → 1 ≤ serial
-      made_serial serial e = subst IsNamed (tried_made told serial e) (reply_named any_rules at (history_of o.asked at) made_entry)
+      made_serial serial e = subst IsNamed (tried_made told serial e) (named_by any_rules at (history_of o.asked at) made_entry _ refl)
 
       is_made_one : (serial : ℕ) → Made serial ≡ tried_by told → StandsFor any_rules b (seated_in serial seats (made_entry ∷ history_of o.asked at))
           → OpensIn rooms game seats seed (slice_set books at b) (Some (record { room = at; serial = serial }))
@@ -215,7 +215,7 @@ module _ (rooms : Rooms GameKind) (game : List ℕ) (seats : ℕ) (seed : List �
 
     pub has_serial : (found : Option GameKind) (b : Held GameKind AnyG) → named game ≡ found → MakesIn at found seats seed (history_of o.asked at) (Made serial) b → 1 ≤ serial
     has_serial None b e m = absurd (not_made m.0)
-    has_serial (Some x) b e m = subst IsNamed (tried_made (reply_in any_rules o.asked at (own_entry (call.Create x seats seed))) serial m.0) (reply_named any_rules at (history_of o.asked at) (own_entry (call.Create x seats seed)))
+    has_serial (Some x) b e m = subst IsNamed (tried_made (reply_in any_rules o.asked at (own_entry (call.Create x seats seed))) serial m.0) (named_by any_rules at (history_of o.asked at) (own_entry (call.Create x seats seed)) _ refl)
 
     pub ends_made : (found : Option GameKind) (b c : Held GameKind AnyG) → named game ≡ found → MakesIn at found seats seed (history_of o.asked at) (Made serial) b
         → c.room ≡ at → ((h : History GameKind) → StandsFor any_rules b h → StandsFor any_rules c (seated_in serial seats h))

@@ -260,11 +260,11 @@ added_none n none e = omega (arith, e)
 
 pub runs_first : (pass : ℕ) (c : Core GameKind) (rooms : Rooms GameKind) (books : Books) (tally : Tally) → tally.accepted ≡ 0 → tally.refused ≡ 0 → AreBooks books rooms
     → RunsFrom 0 pass c rooms c books tally
-runs_first pass c rooms books tally none no a = record {
+runs_first pass c rooms books tally none never a = record {
   asked_rooms = rooms;
   stand = a;
   count = refl;
-  tallies = record { accepted = added_none _ tally.accepted none; refused = added_none _ tally.refused no };
+  tallies = record { accepted = added_none _ tally.accepted none; refused = added_none _ tally.refused never };
   goes = λ n d after e r. subst (λ m. RunsTo m pass c rooms d after) (all_left n e) r;
 }
   where

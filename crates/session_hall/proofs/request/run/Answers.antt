@@ -1,4 +1,4 @@
-use Rattle.std.proofs.Common.{◌≡◌, ◌<◌, ◌∙◌, length, slice_index_or, Some, sym, ap, subst, arith}
+use Rattle.std.proofs.Common.{◌≡◌, ◌≤◌, ◌<◌, ℕ, ◌+◌, ◌∙◌, length, slice_index_or, Some, sym, ap, subst, arith}
 use Rattle.std.proofs.lemmas.List.{length-set}
 use Rattle.any_game.specs.AnyRules.{any_rules}
 use Rattle.any_game.specs.GameKind.{GameKind}
@@ -36,9 +36,9 @@ loop-made-preserved c =
       pass = keeps.1 ∙ c.loop-made.invariant.pass;
       settled = c.ask-one.ensures.settled;
       so_far = λ rooms a. runs_next c.loop-made.made c.args.core.now.pass c.args.core.now rooms c.loop-made.core c.loop-made.books c.loop-made.tally (c.loop-made.invariant.so_far rooms a)
-          c.in-Some.room c.in-Some.call request.0 wanted request.1 below c.ask-one.new.core old c.ask-one.new.book is c.ask-one.ensures.room c.ask-one.result c.sum.result asks c.sum.ensures.accepted c.sum.ensures.refused;
-      accepted = most_added _ _ _ _ c.sum.ensures.accepted c.loop-made.invariant.accepted c.ask-one.ensures.few;
-      refused = most_added _ _ _ _ c.sum.ensures.refused c.loop-made.invariant.refused c.ask-one.ensures.fewer;
+          c.in-Some.room c.in-Some.call request.0 wanted request.1 below c.ask-one.new.core old c.ask-one.new.book is c.ask-one.ensures.room c.ask-one.result c.sum-tally.result asks c.sum-tally.ensures.accepted c.sum-tally.ensures.refused;
+      accepted = most_added _ _ _ _ c.sum-tally.ensures.accepted c.loop-made.invariant.accepted c.ask-one.ensures.few;
+      refused = most_added _ _ _ _ c.sum-tally.ensures.refused c.loop-made.invariant.refused c.ask-one.ensures.fewer;
     }
 
 pub returns : goal.returns
