@@ -1,5 +1,5 @@
 -- What a step makes of a hall, and what it prints, by the parts that are put together.
-use Rattle.std.proofs.Common.{◌≡◌, ℕ, true, List, [], ◌∷◌, ◌++◌, length, map, Option, Some, None, Result, Ok, Err, OnOk, refl, sym, ap, subst, ◌∙◌, append_assoc, append-nil}
+use Rattle.std.proofs.Common.{◌≡◌, ℕ, Bool, true, false, ◌&&◌, List, [], ◌∷◌, ◌++◌, length, map, Option, Some, None, Result, Ok, Err, OnOk, refl, sym, ap, subst, ◌∙◌, append_assoc, append-nil}
 use Rattle.std.specs.List.{concat, flat_map, list_all}
 use Rattle.std.proofs.lemmas.Grind.{flat_map-append}
 use Rattle.any_game.specs.AnyRules.{any_rules, named}
@@ -170,7 +170,7 @@ module _ (h : Hall GameKind) (hall : HeldHall) (before after : List ℕ) where
   pub heard : (pass : ℕ) (line said : List ℕ) (again : Bool) (tally : Tally) → HearsLine hall_tape h pass line hall said again tally → after ≡ before ++ all_to_session pass said
       → Does h (Says pass line) hall before after
   unfolding done_by
-  heard pass line said again r e = record {
+  heard pass line said again tally r e = record {
     mark = r.mark;
     stands = r.stands;
     added = e ∙ ap (λ s. before ++ all_to_session pass s) r.text ∙ ap (λ t. before ++ t) (answered_is pass (after_line named any_rules hall_tape r.mark h pass line).1);
