@@ -122,13 +122,7 @@ pub fn update<X: Game>(
     let sheet = action.game.sheet();
     let shown = action.entry.redacted(sheet, seat);
     if !shown.hidden {
-        return told(
-            alloc,
-            action,
-            seat,
-            protocol,
-            action.texts.entry.as_slice(),
-        );
+        return told(alloc, action, seat, protocol, action.texts.entry.as_slice());
     }
     let entry = entry_text(alloc, sheet, &shown)?;
     told(alloc, action, seat, protocol, entry.as_slice())
