@@ -1,0 +1,6 @@
+pub mod Askable
+pub mod Doing
+pub mod Joining
+pub mod PeerLaws
+pub mod Peering
+pub mod Texts

@@ -1,0 +1,5 @@
+pub mod IsWorld
+pub mod Outcomes
+pub mod Peers
+pub mod Reading
+pub mod Steps
