@@ -1,0 +1,12 @@
+pub mod Attaching
+pub mod Dealing
+pub mod Ends
+pub mod Hearing
+pub mod Lines
+pub mod Passes
+pub mod Placing
+pub mod Replies
+pub mod Saying
+pub mod Sends
+pub mod Turns
+pub mod Workers

@@ -1,0 +1,65 @@
+use Rattle.std.proofs.Common.{length, arith, ◌∙◌, refl, subst, sym}
+use Rattle.std.specs.Prelude.{suc}
+use Rattle.board_links.specs.Pieces.{told_bytes}
+use Rattle.game_hall.specs.Core.{fresh}
+use Rattle.session_pool.specs.Turn.{side, stand, told_answers}
+use Rattle.session_pool.specs.Passes.{Belong, number_of}
+use Rattle.session_pool.proofs.Passes.{number_is}
+use Rattle.session_pool.proofs.Turns.{runs_more, runs_told}
+use Rattle.session_pool.proofs.link.talk.Goals as goal
+
+pub loop-preserved : goal.loop-preserved
+loop-preserved g c =
+    let turn = c.in_default.ensures in
+    let i = c.loop.invariant in (
+      tt,
+      tt,
+      turn.belong,
+      turn.idle,
+      turn.attached,
+      turn.pass ∙ i.5,
+      turn.same_source ∙ i.6,
+      omega (arith, i.7, turn.never_falls),
+      λ told_a told_s.
+          let before = i.8 told_a told_s in (
+            turn.tells_answers ∙ before.0,
+            turn.tells_sent ∙ before.1,
+            (
+              suc before.2.0,
+              runs_more before.2.0 (stand c.args.passes.now (fresh (number_of c.args.passes.now) (length c.args.desks.now)) c.args.words.now) (stand c.loop.passes c.loop.core c.loop.words)
+                  (stand c.serve_turn.new.passes c.serve_turn.new.core c.serve_turn.new.words) (told_answers (g.L.Link.answers c.args.link.now)) (told_bytes (g.L.Link.sent c.args.link.now))
+                  (g.L.Link.answers c.loop.link) (g.L.Link.answers c.serve_turn.new.link) (g.L.Link.sent c.loop.link) (g.L.Link.sent c.serve_turn.new.link)
+                  before.0 before.1 before.2.1 (turn.turn before.0 before.1),
+            ),
+          ),
+    )
+
+pub returns-in-Some-serve_turn-clause-session : goal.returns-in-Some-serve_turn-clause-session
+returns-in-Some-serve_turn-clause-session g c told_a told_s =
+    let before = c.loop.invariant.8 told_a told_s in
+    record {
+      turns = before.2.0;
+      before = stand c.loop.passes c.loop.core c.loop.words;
+      came = told_answers (g.L.Link.answers c.loop.link);
+      bytes = told_bytes (g.L.Link.sent c.loop.link);
+      last = stand c.serve_turn.new.passes c.serve_turn.new.core c.serve_turn.new.words;
+      end = side c.detach.new.passes c.detach.new.core;
+      runs = runs_told before.2.0 (stand c.args.passes.now (fresh (number_of c.args.passes.now) (length c.args.desks.now)) c.args.words.now) (stand c.loop.passes c.loop.core c.loop.words)
+          (told_answers (g.L.Link.answers c.args.link.now)) (told_bytes (g.L.Link.sent c.args.link.now)) (g.L.Link.answers c.loop.link) (g.L.Link.sent c.loop.link) before.0 before.1 before.2.1;
+      ends = c.in-Some-serve_turn.ensures.turn before.0 before.1;
+      detaches = c.detach.ensures.detaches;
+      passes_are = refl;
+      words_are = refl;
+    }
+
+pub returns-in-Some-serve_turn-clause-number : goal.returns-in-Some-serve_turn-clause-number
+returns-in-Some-serve_turn-clause-number g c =
+    let same = c.in-Some-serve_turn.ensures.pass ∙ c.loop.invariant.5 in
+    number_is c.args.desks.now (number_of c.args.passes.now) c.detach.new.passes c.requires.rooms.0 (subst (λ n. Belong c.args.desks.now n c.detach.new.passes) same c.detach.ensures.belong)
+
+pub returns-in-Some-serve_turn-clause-belong : goal.returns-in-Some-serve_turn-clause-belong
+returns-in-Some-serve_turn-clause-belong g c =
+    let same = c.in-Some-serve_turn.ensures.pass ∙ c.loop.invariant.5 in
+    let b = subst (λ n. Belong c.args.desks.now n c.detach.new.passes) same c.detach.ensures.belong in
+    let number = number_is c.args.desks.now (number_of c.args.passes.now) c.detach.new.passes c.requires.rooms.0 b in
+    subst (λ n. Belong c.args.desks.now n c.detach.new.passes) (sym number) b

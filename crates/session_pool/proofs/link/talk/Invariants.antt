@@ -1,0 +1,19 @@
+use Rattle.std.proofs.Common.{◌≡◌, ◌≤◌, length, ℕ}
+use Rattle.std.specs.Prelude.{IsSome}
+use Rattle.board_links.specs.Pieces.{told_bytes}
+use Rattle.game_hall.specs.Core.{fresh}
+use Rattle.session_pool.specs.Passes.{Belong, number_of}
+use Rattle.session_pool.specs.Placed.{AttachedBy, IsIdle}
+use Rattle.session_pool.specs.Runs.{Runs}
+use Rattle.session_pool.specs.Turn.{stand, told_answers}
+use Rattle.session_pool.proofs.link.talk.Given as goal
+
+abbrev pub invariant-loop : goal.invariant-loop
+invariant-loop g l =
+    (goal.iterator-loop g).can_next l.iterator' × (goal.iterator-loop g).is_finite l.iterator'
+    × Belong l.desks l.core.pass l.passes × IsIdle (length l.desks) l.core × AttachedBy l.passes l.core.at × (l.core.pass ≡ number_of l.fn.passes)
+    × (l.words.source ≡ l.fn.words.source) × (g.L.Link.faults l.fn.link ≤ g.L.Link.faults l.link)
+    × (IsSome (g.L.Link.answers l.fn.link) → IsSome (g.L.Link.sent l.fn.link) →
+    IsSome (g.L.Link.answers l.link) × IsSome (g.L.Link.sent l.link)
+    × ((n : ℕ) × Runs n (stand l.fn.passes (fresh (number_of l.fn.passes) (length l.desks)) l.fn.words)
+    (told_answers (g.L.Link.answers l.fn.link)) (told_bytes (g.L.Link.sent l.fn.link)) (stand l.passes l.core l.words) (g.L.Link.answers l.link) (g.L.Link.sent l.link)))

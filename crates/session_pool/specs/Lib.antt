@@ -1,0 +1,10 @@
+pub mod Ends
+pub mod Gate
+pub mod Lines
+pub mod Passes
+pub mod Placed
+pub mod Rooms
+pub mod Runs
+pub mod Taken
+pub mod Turn
+pub mod Workers

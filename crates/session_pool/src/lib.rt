@@ -1,0 +1,18 @@
+//! A session over a link: its lines become calls in rooms, and what it is answered and what waits for it goes back over the link.
+//! And the workers that serve the links of a door, each in a thread.
+#![tactic(auto)]
+
+mod door;
+mod gate;
+mod link;
+mod request;
+mod rooms;
+mod say;
+mod take;
+mod turn;
+
+pub use door::serve_door;
+pub use gate::{DoorEnd, Gate, Shift};
+pub use link::serve_link;
+pub use rooms::set_up_rooms;
+pub use turn::serve_turn;
