@@ -1,4 +1,4 @@
-.PHONY: program demo test bench
+.PHONY: program demo serve test bench
 
 SHELL := bash
 .SHELLFLAGS := -o pipefail -c
@@ -16,6 +16,11 @@ demo: program
 	@cd crates/board_server && rt run -- script <../../examples/countdown.script
 	@cd crates/board_server && rt run -- script <../../examples/blind-bid.script
 	@cd crates/board_server && rt run -- script <../../examples/captions.script
+
+# Serves matches at an address, until a million sessions are over.
+LISTEN ?= 127.0.0.1:7000
+serve: program
+	@cd crates/board_server && rt run -- serve --listen $(LISTEN)
 
 # Proves and tests everything: the gate.
 test:

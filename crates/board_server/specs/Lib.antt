@@ -1,1 +1,4 @@
+pub mod Page
+pub mod Playing
+pub mod Process
 pub mod Words

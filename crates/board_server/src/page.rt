@@ -1,0 +1,48 @@
+//! The page and the line that the program prints of itself.
+
+ghost use Rattle.std.specs.Prelude.{◌≡◌, ◌≤◌, IsSome};
+ghost use Rattle.board_links.specs.Pieces.{Writes, told_bytes};
+ghost use Rattle.board_server.specs.Page.{PageEnds, PageRaises};
+
+use board_links::{Put, Sink};
+use link_play::Exit;
+
+/// What `--help` prints.
+const PAGE: &str = "board_server: matches of turn-based games
+
+board_server serve --listen ADDRESS [--rooms 16] [--workers 8] [--sessions 1000000]
+    serves matches over TCP until so many sessions are over, and reports
+board_server play --connect ADDRESS --game NAME --match MATCH [--seat SEAT --key KEY]
+    plays a match by the commands on standard input: act ACT, read, wait, show, end
+board_server script
+    plays the script on standard input, and prints its transcript
+board_server --help
+board_server --version
+";
+
+/// What `--version` prints.
+const VERSION: &str = "board_server 0.1\n";
+
+/// The page or the line that the words ask for; none where they ask for neither.
+pub fn page_of(words: &[String]) -> Option<&'static str> {
+    let [word] = words else {
+        return None;
+    };
+    match word.as_str() {
+        "--help" | "-h" => Some(PAGE),
+        "--version" => Some(VERSION),
+        _ => None,
+    }
+}
+
+/// Prints a page, which is all that its run does.
+pub fn print_page<K: Sink>(sink: &mut K, page: &str) -> Exit
+    ensures never_falls { K.faults sink.old ≤ K.faults sink.new }
+    ensures raises { PageRaises result (K.faults sink.old) (K.faults sink.new) }
+    ensures told { IsSome (K.held sink.old) → PageEnds result page.now (told_bytes (K.held sink.old)) (K.held sink.new) }
+{
+    match sink.put(page.as_bytes()) {
+        Put::Done => Exit::Done,
+        Put::Failed => Exit::WriteFault,
+    }
+}
