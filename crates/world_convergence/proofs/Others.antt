@@ -1,0 +1,77 @@
+-- No game reads another game's states: their values have other members.
+use Rattle.std.proofs.Common.{◌≡◌, ◌≢◌, Bool, false, IsTrue, Option, Some, None, refl}
+use Rattle.std.proofs.lemmas.Bool.{false≢true}
+use Rattle.any_game.specs.AnyRules.{any_rules}
+use Rattle.any_game.specs.GameKind.{GameKind, TicTacToe, Countdown, Pig, HighHand, BlindBid, Captions}
+use Rattle.any_game.specs.Lifted.{on_own}
+use Rattle.any_game.specs.Values.{any_value, as_bids, as_board, as_cards, as_heap, as_points, as_texts}
+use Rattle.any_game.specs.declared.any_g.AnyG.{AnyG}
+use Rattle.card_games.specs.BlindBid.{bids_value, own_bids}
+use Rattle.card_games.specs.Captions.{own_texts, texts_value}
+use Rattle.card_games.specs.HighHand.{cards_value, own_state}
+use Rattle.serde_json.specs.Data.{Data}
+use Rattle.table_states.specs.StateForms.{board_form, heap_form, points_form}
+
+unread_own : {S : Type 0} (own : S → Bool) (value : S → Data) (other : Data) (read : Data → Option AnyG) (g : Option S) → ((x : S) → read (value x) ≡ None) → IsTrue (on_own g false own) → read (on_own g other value) ≡ None
+unread_own own value other read None unread is = absurd (false≢true is)
+unread_own own value other read (Some x) unread is = unread x
+
+-- another game has another name
+abbrev pub AreOther : GameKind → GameKind → Type 0
+AreOther k l = (any_rules l).sheet.name ≢ (any_rules k).sheet.name
+
+board_unread : (l : GameKind) → AreOther TicTacToe l → (x : _) → (any_rules l).read (board_form.value x) ≡ None
+board_unread TicTacToe h x = absurd (h refl)
+board_unread Countdown h x = refl
+board_unread Pig h x = refl
+board_unread (HighHand deck) h x = refl
+board_unread BlindBid h x = refl
+board_unread Captions h x = refl
+
+heap_unread : (l : GameKind) → AreOther Countdown l → (x : _) → (any_rules l).read (heap_form.value x) ≡ None
+heap_unread TicTacToe h x = refl
+heap_unread Countdown h x = absurd (h refl)
+heap_unread Pig h x = refl
+heap_unread (HighHand deck) h x = refl
+heap_unread BlindBid h x = refl
+heap_unread Captions h x = refl
+
+points_unread : (l : GameKind) → AreOther Pig l → (x : _) → (any_rules l).read (points_form.value x) ≡ None
+points_unread TicTacToe h x = refl
+points_unread Countdown h x = refl
+points_unread Pig h x = absurd (h refl)
+points_unread (HighHand deck) h x = refl
+points_unread BlindBid h x = refl
+points_unread Captions h x = refl
+
+cards_unread : (of : _) (l : GameKind) → AreOther (HighHand of) l → (x : _) → (any_rules l).read (cards_value x) ≡ None
+cards_unread of TicTacToe h x = refl
+cards_unread of Countdown h x = refl
+cards_unread of Pig h x = refl
+cards_unread of (HighHand deck) h x = absurd (h refl)
+cards_unread of BlindBid h x = refl
+cards_unread of Captions h x = refl
+
+bids_unread : (l : GameKind) → AreOther BlindBid l → (x : _) → (any_rules l).read (bids_value x) ≡ None
+bids_unread TicTacToe h x = refl
+bids_unread Countdown h x = refl
+bids_unread Pig h x = refl
+bids_unread (HighHand deck) h x = refl
+bids_unread BlindBid h x = absurd (h refl)
+bids_unread Captions h x = refl
+
+texts_unread : (l : GameKind) → AreOther Captions l → (x : _) → (any_rules l).read (texts_value x) ≡ None
+texts_unread TicTacToe h x = refl
+texts_unread Countdown h x = refl
+texts_unread Pig h x = refl
+texts_unread (HighHand deck) h x = refl
+texts_unread BlindBid h x = refl
+texts_unread Captions h x = absurd (h refl)
+
+pub unread : (k l : GameKind) → AreOther k l → (g : AnyG) → IsTrue ((any_rules k).own g) → (any_rules l).read ((any_rules k).value g) ≡ None
+unread TicTacToe l h g = unread_own board_form.own board_form.value (any_value g) (any_rules l).read (as_board g) (board_unread l h)
+unread Countdown l h g = unread_own heap_form.own heap_form.value (any_value g) (any_rules l).read (as_heap g) (heap_unread l h)
+unread Pig l h g = unread_own points_form.own points_form.value (any_value g) (any_rules l).read (as_points g) (points_unread l h)
+unread (HighHand deck) l h g = unread_own own_state cards_value (any_value g) (any_rules l).read (as_cards g) (cards_unread deck l h)
+unread BlindBid l h g = unread_own own_bids bids_value (any_value g) (any_rules l).read (as_bids g) (bids_unread l h)
+unread Captions l h g = unread_own own_texts texts_value (any_value g) (any_rules l).read (as_texts g) (texts_unread l h)
