@@ -22,7 +22,7 @@ use Rattle.serde_json.specs.Data.{Data}
 use Rattle.wire_json.specs.ServerReading.{server_read}
 use Rattle.wire_json.specs.declared.protocol.Protocol.{Protocol}
 use Rattle.wire_json.specs.declared.server.ServerMsg.TheVariants as message
-use Rattle.convergence.specs.Doing.{Face, face}
+use Rattle.convergence.specs.Doing.{Face, KnowsWhere, face, ticket_in}
 use Rattle.convergence.specs.Following.{followed, has_sync, is_bye, told_lines}
 use Rattle.convergence.specs.Lines.{AllLines, IsShallow}
 use Rattle.convergence.specs.Seeing.{SeesAt}
@@ -38,12 +38,13 @@ use Rattle.hall_history.proofs.Placing.{empty_placed}
 use Rattle.hall_history.proofs.Rooming.{is_same}
 use Rattle.world_convergence.specs.Meeting.{Meets, Run, room_of_client, world_after}
 use Rattle.world_convergence.specs.Settling.{Settles, SettlesAt}
+use Rattle.world_convergence.specs.Trailing.{Trails}
 use Rattle.world_convergence.proofs.Fitting.{new_fits}
 use Rattle.world_convergence.proofs.Going.{stays_here}
 use Rattle.world_convergence.proofs.Living.{Sound, lives, sound_runs}
 use Rattle.world_convergence.proofs.Owning.{no_face, none_some, one, some_none}
 use Rattle.world_convergence.proofs.Strangers.{bad_sync, plays_nothing, stays_gone}
-use Rattle.world_convergence.proofs.Stories.{Apart, Met, Story, StoryOf, is_there, session_is}
+use Rattle.world_convergence.proofs.Stories.{Apart, Met, Story, StoryOf, is_there, known_where, sent_of, session_is}
 
 no_both : false ≡ true → ⊥
 no_both e = cc
@@ -209,6 +210,14 @@ module _ {X G : Type 0} (named : List ℕ → Option X) (rules : X → Rules G) 
                 let f = one (face p) (face (begun s.name (seat_of s.viewer) (view_at (rules n.game) n.first (seat_of s.viewer) n.accepted))) (ap (option_map face) (sym e) ∙ faces) in
                 (here, p, e, record { name = ap (λ (x : Face G). x.name) f; seat = ap (λ (x : Face G). x.seat) f; settled = ap (λ (x : Face G). x.settled) f })
 
+        -- ---- how it follows its session
+
+        pub trails : (s : Session) (n : Match X G) → Looks rules w c room s n → Trails rules w c room held s
+        trails s n meets = subst (λ x. Trails rules w c room held x) (same_session s meets.session) (record { read = m.read; like = m.like; part = m.part; whole = m.whole })
+
+        pub knows_answers : (text : List ℕ) (rest : List (List ℕ)) → w.down c ≡ text ∷ rest → KnowsWhere held.client (ticket_in (server_read text))
+        knows_answers text rest next = known_where rules c lawful stays flat w held room text rest m (sent_of rules c lawful stays flat w.hall.rooms sound.few room (sound.fit room) m.s m.before m.latest) next
+
         -- ---- no line makes it gone but a bye
 
         of_here : (s : Session) (n : Match X G) → Looks rules w c room s n → match_of rules room (history_of w.hall.rooms room) m.s.name.serial ≡ Some n
@@ -260,6 +269,12 @@ module _ {X G : Type 0} (named : List ℕ → Option X) (rules : X → Rules G) 
       pub present_by : held.game ≡ n.game → session_state s ≡ Open → handful s ≡ [] → (world_after named rules tape run).down c ≡ []
           → (held.client.gone ≡ false) × (p : Playing G) × (held.client.playing ≡ Some p) × SettlesAt rules n s n.accepted p
       present_by game opened none empty = up_to_date run c held x.client x.room x.there s n looks game opened none empty
+
+      pub trails_by : Trails rules (world_after named rules tape run) c x.room held s
+      trails_by = trails run c held x.client x.room x.there s n looks
+
+      pub knows_by : (text : List ℕ) (rest : List (List ℕ)) → (world_after named rules tape run).down c ≡ text ∷ rest → KnowsWhere held.client (ticket_in (server_read text))
+      knows_by text rest next = knows_answers run c held x.client x.room x.there text rest next
 
       pub remains_by : held.game ≡ n.game → (text : List ℕ) (rest : List (List ℕ)) → (world_after named rules tape run).down c ≡ text ∷ rest → held.client.gone ≡ false → is_bye (server_read text) ≡ false
           → (reads (rules held.game) held.client text).client.gone ≡ false

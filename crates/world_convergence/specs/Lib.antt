@@ -1,3 +1,4 @@
 pub mod Steps
 pub mod Meeting
 pub mod Settling
+pub mod Trailing

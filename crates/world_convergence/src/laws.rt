@@ -18,6 +18,7 @@ ghost use Rattle.wire_json.specs.ServerReading.{server_read};
 ghost use Rattle.wire_json.specs.declared.protocol.Protocol.{Protocol as Told};
 ghost use Rattle.wire_json.specs.declared.server.ServerMsg.TheVariants.{Sync};
 ghost use Rattle.convergence.specs.Calls.{CallsFit};
+ghost use Rattle.convergence.specs.Doing.{KnowsWhere, ticket_in};
 ghost use Rattle.convergence.specs.Following.{is_bye};
 ghost use Rattle.convergence.specs.Shallow.{StatesAreShallow};
 ghost use Rattle.convergence.specs.Views.{view_at};
@@ -28,6 +29,7 @@ ghost use Rattle.hall_history.specs.World.{Step, new_world};
 ghost use Rattle.hall_history.specs.WorldScript.{runs_world, shows, snapshot_text};
 ghost use Rattle.world_convergence.specs.Meeting.{Meets, Run, room_of_client, world_after};
 ghost use Rattle.world_convergence.specs.Settling.{Settles, SettlesAt};
+ghost use Rattle.world_convergence.specs.Trailing.{Trails};
 
 use any_game::AnyGame;
 use game_trait::Game;
@@ -39,6 +41,20 @@ pub fn calls_of_worlds_fit<X: Game>(game: &X)
         → CallsFit (history_of (runs_world named X.rules tape marks steps (new_world rooms)).0.hall.rooms room) }
 {
     let _game = game;
+}
+
+/// In every world whose lines are in their forms, a client whose session has begun stands as one that has read, verdicts and direct
+/// answers passed over, a first part of what the session was sent, and what waits on its link goes on from there: to the end, as
+/// long as the session is attached. Each verdict that it reads next, and each `again` with a ticket, answers an act that waits,
+/// unless the client is gone. That is so whatever its game is.
+pub fn clients_of_worlds_follow_their_sessions<X: Game>(game: &X)
+    ensures trails { StatesAreShallow X.rules → (named : List ℕ → Option X) (tape : ℕ → List ℕ) (run : Run X) (c : ℕ) (held : Holds X X.G) (s : Session) (m : Match X X.G)
+        → (meets : Meets named X.rules tape run c held s m) → Trails X.rules (world_after named X.rules tape run) c meets.room held s }
+    ensures answers { StatesAreShallow X.rules → (named : List ℕ → Option X) (tape : ℕ → List ℕ) (run : Run X) (c : ℕ) (held : Holds X X.G) (s : Session) (m : Match X X.G)
+        → Meets named X.rules tape run c held s m → (line : List ℕ) (rest : List (List ℕ)) → (world_after named X.rules tape run).down c ≡ line ∷ rest
+        → KnowsWhere held.client (ticket_in (server_read line)) }
+{
+    matches_stay_sound(game);
 }
 
 /// In every world whose lines are in their forms, over games whose own states are nested at most 125 deep, a client that has read its
