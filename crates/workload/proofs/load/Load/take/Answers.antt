@@ -1,0 +1,12 @@
+use Rattle.std.proofs.Common.{◌≡◌, refl, subst, sym}
+use Rattle.workload.specs.IsLoad.{HeldLoad, IsLoad}
+use Rattle.workload.specs.declared.counts.Counts.{Counts}
+use Rattle.workload.proofs.Loads.{taken}
+use Rattle.workload.proofs.load.Load.take.Goals as goal
+
+pub returns-clause-goes : goal.returns-clause-goes
+returns-clause-goes c = λ tape words l is.
+    let old : HeldLoad = record { world = c.self.inside.world; places = c.self.inside.places.items; tape = c.self.inside.tape; counts = c.self.inside.counts } in
+    let held = subst (λ x. IsLoad tape words x l) (sym c.self.view_is) is in
+    let counts : Counts = record c.self.inside.counts { bytes = c.in_ok-sum.sum } in
+    taken tape words old l held c.take_counted-bytes.new.self counts c.args.client c.in_ok-bytes.bytes (c.in_ok-bytes.ensures tape l.world held.world) refl refl c.in_ok-sum.ensures refl refl
