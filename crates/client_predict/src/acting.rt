@@ -13,10 +13,11 @@ use crate::predict::guess;
 use crate::shown::Shown;
 use crate::told::Predicted;
 use crate::waiting::Waiting;
+use client_lines::write_client;
 use game_sheet::{Key, MatchName, NoMemory, Number, Seat};
 use game_trait::Game;
 use std::alloc::Global;
-use wire_json::{Asked, ClientMsg, Submission, write_client};
+use wire_json::{Asked, ClientMsg, Submission};
 
 /// An action that is ready to be sent.
 #[derive(Drop)]

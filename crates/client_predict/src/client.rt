@@ -25,10 +25,11 @@ use game_trait::Game;
 use json_tree::Tree;
 use move_log::Entry;
 use player_sight::Snapshot;
+use server_lines::read_server;
 use sight_reading::{entry_of, from_value};
 use std::alloc::Global;
 use std::marker::Model;
-use wire_json::{Asked, ServerMsg, WireNo, read_server};
+use wire_json::{Asked, ServerMsg, WireNo};
 
 /// A client of a game, with the key of a seat or none.
 #[derive(Drop)]

@@ -4,10 +4,11 @@ ghost use Rattle.std.specs.Prelude.{◌≡◌, IfOk, IfSome};
 ghost use Rattle.wire_json.specs.Asking.{IsAskable};
 ghost use Rattle.client_world.specs.Reading.{asked_of};
 
+use client_lines::asked_of;
 use game_sheet::NoMemory;
 use json_tree::{LineFault, read_text};
 use std::alloc::Global;
-use wire_json::{Asked, asked_of};
+use wire_json::Asked;
 
 /// The act that a text is; none where it is in no form.
 #[tactic(auto, using(crate::proofs::Askable::askable))]

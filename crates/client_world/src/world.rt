@@ -25,12 +25,13 @@ use crate::player::{Player, seat_key};
 use crate::step::WorldStep;
 use crate::telling::{acted_word, heard_text, leaving_text, made_text, told};
 use any_game::AnyGame;
+use client_lines::write_client;
 use game_sheet::{Bye, Bytes, MatchName, NoMemory, Seat, Text};
 use room_history::RoomReply;
 use session_hall::{Said, SessionHall};
 use std::alloc::Global;
 use std::marker::Model;
-use wire_json::{Asked, ClientMsg, Protocol, write_client};
+use wire_json::{Asked, ClientMsg, Protocol};
 
 /// The rooms of a server, 32 clients, and a link to and from the session of each.
 ///

@@ -17,11 +17,12 @@ use crate::rows::Rows;
 use crate::words::{match_seed, player_key};
 use crate::written::WrittenAnswer;
 use any_game::{AnyGame, by_name};
+use client_lines::read_client;
 use dice_words::Tape;
 use game_sheet::{MatchName, NoMemory, Seat, Text};
 use room_history::RoomCall;
 use std::alloc::Global;
-use wire_json::{ClientMsg, Refusal, Submission, read_client};
+use wire_json::{ClientMsg, Refusal, Submission};
 
 /// What a line comes to in a session that is attached to this room, if any. A create takes the seed that stands ready, or else draws
 /// eight words; a join draws four. Without memory nothing is drawn.

@@ -9,9 +9,10 @@ ghost use Rattle.game_hall.specs.RowLines.{ending};
 
 use game_sheet::{List, NoMemory};
 use json_text::put_comma;
+use server_lines::put_row;
 use std::alloc::Global;
 use std::marker::Model;
-use wire_json::{MatchRow, put_row};
+use wire_json::MatchRow;
 
 /// How a line of rows ends.
 const ENDING: &[u8] = b"],\"type\":\"matches\"}\n";

@@ -2,10 +2,11 @@
 
 use game_sheet::Bye;
 use json_tree::FieldFault;
+use server_lines::{read_server, write_server};
 use std::alloc::Global;
 use std::process::Abort;
 use std::test::Fail;
-use wire_json::{Member, Refusal, ServerMsg, WireNo, read_server, write_server};
+use wire_json::{Member, Refusal, ServerMsg, WireNo};
 
 fn expect_line(
     rt: &impl Abort,

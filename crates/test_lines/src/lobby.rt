@@ -2,10 +2,11 @@
 
 use game_sheet::{Bye, NoMemory};
 use json_tree::FieldFault;
+use server_lines::{read_server, write_server};
 use std::alloc::Global;
 use std::process::Abort;
 use std::test::Fail;
-use wire_json::{ServerMsg, WireNo, bye_line, games_line, read_server, write_server};
+use wire_json::{ServerMsg, WireNo, bye_line, games_line};
 
 /// Lines that are written as they are read.
 const LINES: [&str; 16] = [

@@ -3,19 +3,18 @@ ghost use Rattle.std.specs.Prelude.{IfOk};
 ghost use Rattle.game_sheet.specs.SheetFits.{SheetFits};
 ghost use Rattle.wire_json.specs.Asking.{IsAskable};
 
+use client_lines::{read_client, write_client};
 use game_sheet::{
     Act, Arg, Args, Event, EventKind, Key, List, MatchName, MoveRow, NoMemory, Order, Outcome,
     PhaseRow, Sheet, StageRow, Text, TurnRow, check_sheet,
 };
 use json_tree::{FieldFault, LineFault, Tree, contains_float};
 use serde_json::Value;
+use server_lines::{read_server, write_server};
 use std::alloc::Global;
 use std::process::Abort;
 use std::test::Fail;
-use wire_json::{
-    Asked, AskedTo, ClientMsg, Protocol, Reason, ServerMsg, Submission, WireNo, key_of, match_of,
-    read_client, read_server, resolve, write_client, write_server,
-};
+use wire_json::{Asked, AskedTo, ClientMsg, Protocol, Reason, ServerMsg, Submission, WireNo, key_of, match_of, resolve};
 
 const SYNC: &str =
     "{\"key\":\"0000000000000000000000000000000a\",\"match\":\"0-1\",\"seat\":1,\"type\":\"sync\"}";

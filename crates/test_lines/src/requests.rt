@@ -2,12 +2,13 @@
 
 ghost use Rattle.wire_json.specs.ClientText.{IsSendable};
 
+use client_lines::{read_client, write_client};
 use game_sheet::{Key, MatchName, NoMemory, Text};
 use json_tree::FieldFault;
 use std::alloc::Global;
 use std::process::Abort;
 use std::test::Fail;
-use wire_json::{ClientMsg, Protocol, WireNo, read_client, write_client};
+use wire_json::{ClientMsg, Protocol, WireNo};
 
 /// A name of sixty-four bytes.
 const LONG: &str = "0123456789abcdef0123456789abcdef0123456789abcdef0123456789abcdef";

@@ -1,11 +1,11 @@
 pub mod MatchTexts
 pub mod KeyTexts
 pub mod Texts
-pub mod Appending
 pub mod FieldLaws
 pub mod ActLaws
 pub mod ClientLaws
 pub mod ClientWriting
+pub mod Pairs
 pub mod Trees
 pub mod Tables
 pub mod AnswerLaws
@@ -16,6 +16,8 @@ pub mod LobbyLaws
 pub mod ServerLaws
 pub mod Answerable
 pub mod PlainWords
+pub mod PutLists
+pub mod PutRows
 pub mod RowTelling
 pub mod ServerTelling
 pub mod ServerWriting

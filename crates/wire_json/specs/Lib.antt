@@ -1,5 +1,6 @@
 pub mod MatchText
 pub mod KeyText
+pub mod PutParts
 pub mod ReasonText
 pub mod RefusalText
 pub mod ByeText
@@ -12,5 +13,6 @@ pub mod Acts
 pub mod ClientReading
 pub mod RowReading
 pub mod ChangeReading
+pub mod Pairing
 pub mod ServerReading
 pub mod Resolve

@@ -56,7 +56,12 @@ fn is_decimal(digits: &[u8]) -> bool
 fn are_digits(digits: &[u8]) -> bool
     ensures { result ≡ list_all is_ascii_digit digits.now }
 {
-    digits.iter().all(|c| c.is_ascii_digit())
+    for digit in digits {
+        if !digit.is_ascii_digit() {
+            return false;
+        }
+    }
+    true
 }
 
 fn begins_well(digits: &[u8]) -> bool

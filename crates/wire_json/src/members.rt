@@ -107,12 +107,24 @@ pub fn key_or_null_of(value: &Value, name: &str) -> Result<Option<Key>, FieldFau
     Ok(Some(key))
 }
 
-/// The number from 0 to 255 that the member holds.
-pub fn small_number_of(value: &Value, name: &str) -> Result<u8, FieldFault>
-    ensures { result ≡ natural_in 255 (get name.now (view value.now)) }
+/// The number from 0 to 255 that the member holds, or the member's fault.
+pub fn small_number_at(value: &Value, name: &'static str) -> Result<u8, WireNo>
+    ensures { Gives result (at_field name.now (natural_in 255 (get name.now (view value.now)))) }
 {
-    let number = natural_of(value, name, 255)?;
-    Ok(number as u8)
+    match natural_of(value, name, 255) {
+        Ok(number) => Ok(number as u8),
+        Err(fault) => Err(WireNo::Field { name, fault }),
+    }
+}
+
+/// The number of 32 bits that the member holds, or the member's fault.
+pub fn number_at(value: &Value, name: &'static str) -> Result<u32, WireNo>
+    ensures { Gives result (at_field name.now (natural_in 4294967295 (get name.now (view value.now)))) }
+{
+    match natural_of(value, name, 4294967295) {
+        Ok(number) => Ok(number as u32),
+        Err(fault) => Err(WireNo::Field { name, fault }),
+    }
 }
 
 /// The number of 32 bits that the member holds.

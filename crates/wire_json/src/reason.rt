@@ -1,5 +1,11 @@
 //! Why an action is refused.
 
+ghost use Rattle.std.specs.List.{find};
+ghost use Rattle.std.specs.Prelude.{◌≡◌};
+ghost use Rattle.std.specs.Str.{bytes_eq};
+ghost use Rattle.wire_json.specs.ReasonText.{reason_text};
+ghost use Rattle.wire_json.specs.ServerReading.{reason_from};
+
 /// The sixteen rules that an action may break, in the order in which they are tested.
 #[derive(Clone, Copy, PartialEq, Eq, Debug)]
 pub enum Reason {
@@ -38,10 +44,6 @@ pub enum Reason {
 }
 
 impl Reason {
-    ghost use Rattle.std.specs.Prelude.{◌≡◌, codes};
-    ghost use Rattle.wire_json.specs.ReasonText.{reason_text};
-    ghost use Rattle.wire_json.specs.ServerReading.{reason_from};
-
     /// The word that stands for it on the wire.
     pub fn name(self) -> &'static str
         ensures { result.now ≡ reason_text self }
@@ -65,28 +67,42 @@ impl Reason {
             Reason::TooManyEvents => "too-many-events",
         }
     }
+
     /// The reason that a word stands for.
     pub fn named(word: &str) -> Option<Reason>
         ensures { result ≡ reason_from word.now }
     {
-        match word {
-            "no-match" => Some(Reason::NoMatch),
-            "unauthorized" => Some(Reason::Unauthorized),
-            "game-over" => Some(Reason::GameOver),
-            "match-full" => Some(Reason::MatchFull),
-            "cannot-undo-now" => Some(Reason::CannotUndoNow),
-            "not-active" => Some(Reason::NotActive),
-            "unknown-move" => Some(Reason::UnknownMove),
-            "wrong-number" => Some(Reason::WrongNumber),
-            "nothing-to-undo" => Some(Reason::NothingToUndo),
-            "nothing-to-redo" => Some(Reason::NothingToRedo),
-            "not-yours" => Some(Reason::NotYours),
-            "not-undoable" => Some(Reason::NotUndoable),
-            "invalid-move" => Some(Reason::InvalidMove),
-            "too-early" => Some(Reason::TooEarly),
-            "too-many-words" => Some(Reason::TooManyWords),
-            "too-many-events" => Some(Reason::TooManyEvents),
-            _ => None,
+        first_reason_named(word, &REASONS)
+    }
+}
+
+const REASONS: [Reason; 16] = [
+    Reason::NoMatch,
+    Reason::Unauthorized,
+    Reason::GameOver,
+    Reason::MatchFull,
+    Reason::CannotUndoNow,
+    Reason::NotActive,
+    Reason::UnknownMove,
+    Reason::WrongNumber,
+    Reason::NothingToUndo,
+    Reason::NothingToRedo,
+    Reason::NotYours,
+    Reason::NotUndoable,
+    Reason::InvalidMove,
+    Reason::TooEarly,
+    Reason::TooManyWords,
+    Reason::TooManyEvents,
+];
+
+// The first of the reasons whose word this is.
+fn first_reason_named(word: &str, reasons: &[Reason]) -> Option<Reason>
+    ensures { result ≡ find (λ reason. bytes_eq word.now (reason_text reason)) reasons.now }
+{
+    for reason in reasons {
+        if word == reason.name() {
+            return Some(*reason);
         }
     }
+    None
 }

@@ -1,5 +1,10 @@
 //! Why a request is refused, and which member of its line is at fault.
 
+ghost use Rattle.std.specs.List.{find};
+ghost use Rattle.std.specs.Prelude.{◌≡◌};
+ghost use Rattle.std.specs.Str.{bytes_eq};
+ghost use Rattle.wire_json.specs.RefusalText.{member_text, member_from, refusal_text, refusal_field, refusal_from, with_field, refusal_of};
+
 use crate::wire_no::WireNo;
 
 /// What a refusal points at in a line that is no message.
@@ -32,9 +37,6 @@ pub enum Member {
 }
 
 impl Member {
-    ghost use Rattle.std.specs.Prelude.{◌≡◌};
-    ghost use Rattle.wire_json.specs.RefusalText.{member_text, member_from};
-
     /// The member's name; `*` for one that the message doesn't have.
     pub fn name(self) -> &'static str
         ensures { result.now ≡ member_text self }
@@ -59,21 +61,7 @@ impl Member {
     pub fn named(name: &str) -> Option<Member>
         ensures { result ≡ member_from name.now }
     {
-        match name {
-            "*" => Some(Member::Extra),
-            "type" => Some(Member::Kind),
-            "act" => Some(Member::Act),
-            "game" => Some(Member::Game),
-            "key" => Some(Member::Key),
-            "match" => Some(Member::Match),
-            "name" => Some(Member::Name),
-            "number" => Some(Member::Number),
-            "protocol" => Some(Member::Protocol),
-            "seat" => Some(Member::Seat),
-            "seats" => Some(Member::Seats),
-            "ticket" => Some(Member::Ticket),
-            _ => None,
-        }
+        first_member_named(name, &MEMBERS)
     }
 }
 
@@ -112,9 +100,6 @@ pub enum Refusal {
 }
 
 impl Refusal {
-    ghost use Rattle.std.specs.Prelude.{◌≡◌};
-    ghost use Rattle.wire_json.specs.RefusalText.{refusal_text, refusal_field, refusal_from, with_field, refusal_of};
-
     /// The refusal of a line for its first fault; none for want of memory.
     pub fn of_fault(no: WireNo) -> Option<Refusal>
         ensures { result ≡ refusal_of no }
@@ -172,22 +157,7 @@ impl Refusal {
     pub fn named(word: &str) -> Option<Refusal>
         ensures { result ≡ refusal_from word.now }
     {
-        match word {
-            "bad-message" => Some(Refusal::BadMessage { field: None }),
-            "no-game" => Some(Refusal::NoGame),
-            "full" => Some(Refusal::Full),
-            "bad-seats" => Some(Refusal::BadSeats),
-            "no-start" => Some(Refusal::NoStart),
-            "no-match" => Some(Refusal::NoMatch),
-            "seat-taken" => Some(Refusal::SeatTaken),
-            "no-seat" => Some(Refusal::NoSeat),
-            "bad-name" => Some(Refusal::BadName),
-            "unauthorized" => Some(Refusal::Unauthorized),
-            "already-attached" => Some(Refusal::AlreadyAttached),
-            "not-attached" => Some(Refusal::NotAttached),
-            "not-a-bot" => Some(Refusal::NotABot),
-            _ => None,
-        }
+        first_refusal_named(word, &REFUSALS)
     }
 
     /// The same refusal, pointing at this; none where it can't.
@@ -200,4 +170,59 @@ impl Refusal {
             (_, Some(_)) => None,
         }
     }
+}
+
+const MEMBERS: [Member; 12] = [
+    Member::Extra,
+    Member::Kind,
+    Member::Act,
+    Member::Game,
+    Member::Key,
+    Member::Match,
+    Member::Name,
+    Member::Number,
+    Member::Protocol,
+    Member::Seat,
+    Member::Seats,
+    Member::Ticket,
+];
+
+const REFUSALS: [Refusal; 13] = [
+    Refusal::BadMessage { field: None },
+    Refusal::NoGame,
+    Refusal::Full,
+    Refusal::BadSeats,
+    Refusal::NoStart,
+    Refusal::NoMatch,
+    Refusal::SeatTaken,
+    Refusal::NoSeat,
+    Refusal::BadName,
+    Refusal::Unauthorized,
+    Refusal::AlreadyAttached,
+    Refusal::NotAttached,
+    Refusal::NotABot,
+];
+
+// The first of the members whose name this is.
+fn first_member_named(name: &str, members: &[Member]) -> Option<Member>
+    ensures { result ≡ find (λ member. bytes_eq name.now (member_text member)) members.now }
+{
+    for member in members {
+        if name == member.name() {
+            return Some(*member);
+        }
+    }
+    None
+}
+
+// The first of the refusals whose word this is.
+fn first_refusal_named(word: &str, refusals: &[Refusal]) -> Option<Refusal>
+    ensures { result ≡ find (λ refusal. bytes_eq word.now (refusal_text refusal)) refusals.now }
+{
+    for refusal in refusals {
+        if word == refusal.name() {
+            return Some(*refusal);
+        }
+    }
+    None
 }

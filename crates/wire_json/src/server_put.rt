@@ -2,23 +2,24 @@
 //!
 //! After a want of memory some first part of a line may stand there, so who writes a line throws the bytes away.
 
-ghost use Rattle.std.specs.Prelude.{◌≡◌, ◌≤◌, ◌++◌, true, OnOk};
-ghost use Rattle.serde_json.specs.Data.{Data, object, string};
+ghost use Rattle.std.specs.Prelude.{◌≡◌, ℕ, List, ◌++◌, codes, true, OnOk};
+ghost use Rattle.json_tree.specs.Lines.{newline};
+ghost use Rattle.serde_json.specs.Data.{Data, Members, member, object};
 ghost use Rattle.serde_json.specs.Written.{compact_text, members_text};
+ghost use Rattle.sheet_json.specs.Seats.{natural_or_null};
 ghost use Rattle.wire_json.specs.MatchText.{IsName};
-ghost use Rattle.wire_json.specs.ReasonText.{reason_text};
-ghost use Rattle.wire_json.specs.ServerText.{from_change, from_g, from_number, from_parts, from_reason, from_seat, from_snapshot, parts_data, server_members, text as server_text, with_protocol};
+ghost use Rattle.wire_json.specs.PutParts.{part_text};
+ghost use Rattle.wire_json.specs.ServerText.{from_number, parts_data, text as server_text};
+ghost use Rattle.wire_json.specs.declared.protocol.Protocol.TheVariants as protocols;
 ghost use Rattle.wire_json.specs.declared.server.ServerMsg.TheVariants as Message;
 
+use crate::part::{Part, put_begin, put_line, put_object, put_rest};
 use crate::protocol::Protocol;
-use crate::put_member::{put_match, put_number};
 use crate::reason::Reason;
 use game_sheet::{MatchName, NoMemory, Number, Seat};
-use sheet_json::put_seat;
 use std::alloc::Global;
 
 /// Appends the line that begins a session.
-#[tactic(auto, unfolding(crate::specs::ServerText::text))]
 pub fn put_sync(
     alloc: Global,
     out: &mut Vec<u8>,
@@ -31,70 +32,67 @@ pub fn put_sync(
         → OnOk result (out.new.items ≡ out.old.items ++ server_text (Message.Sync name.now seat protocol s)) }
     ensures named { OnOk result (IsName name.now) }
 {
-    put_sync_object(alloc, out, name, seat, protocol, snapshot)?;
-    Ok(out.push(b'\n')?)
-}
-
-#[tactic(auto, unfolding(json::specs::Print::escape_byte))]
-fn put_sync_object(
-    alloc: Global,
-    out: &mut Vec<u8>,
-    name: &MatchName,
-    seat: Option<Seat>,
-    protocol: Protocol,
-    snapshot: &[u8],
-) -> Result<(), NoMemory>
-    ensures text { (s : Data) → snapshot.now ≡ compact_text s
-        → OnOk result (out.new.items ≡ out.old.items ++ compact_text (object (server_members (Message.Sync name.now seat protocol s)))) }
-    ensures named { OnOk result (IsName name.now) }
-{
-    out.extend_from_slice(b"{\"match\":")?;
-    put_match(alloc, out, name)?;
-    put_from_protocol(out, seat, protocol, snapshot)
-}
-
-#[tactic(auto, unfolding(json::specs::Print::escape_byte))]
-fn put_from_protocol(
-    out: &mut Vec<u8>,
-    seat: Option<Seat>,
-    protocol: Protocol,
-    snapshot: &[u8],
-) -> Result<(), NoMemory>
-    ensures { (s : Data) → snapshot.now ≡ compact_text s
-        → OnOk result (out.new.items ≡ out.old.items ++ members_text true (with_protocol protocol (from_seat seat s))) }
-{
     match protocol {
-        Protocol::One => put_from_seat(out, seat, snapshot),
-        Protocol::Two => {
-            out.extend_from_slice(b",\"protocol\":")?;
-            put_number(out, 2)?;
-            put_from_seat(out, seat, snapshot)
-        }
+        Protocol::One => put_first_sync(alloc, out, name, seat, snapshot),
+        Protocol::Two => put_second_sync(alloc, out, name, seat, snapshot),
     }
 }
 
-#[tactic(auto, unfolding(json::specs::Print::escape_byte))]
-fn put_from_seat(out: &mut Vec<u8>, seat: Option<Seat>, snapshot: &[u8]) -> Result<(), NoMemory>
-    ensures { (s : Data) → snapshot.now ≡ compact_text s
-        → OnOk result (out.new.items ≡ out.old.items ++ members_text true (from_seat seat s)) }
+// The line of a session of protocol 1, which is not named.
+fn put_first_sync<'t>(
+    alloc: Global,
+    out: &mut Vec<u8>,
+    name: &'t MatchName,
+    seat: Option<Seat>,
+    snapshot: &'t [u8],
+) -> Result<(), NoMemory>
+    ensures text { (s : Data) → snapshot.now ≡ compact_text s
+        → OnOk result (out.new.items ≡ out.old.items ++ server_text (Message.Sync name.now seat protocols.One s)) }
+    ensures named { OnOk result (IsName name.now) }
 {
-    out.extend_from_slice(b",\"seat\":")?;
-    put_seat(out, seat)?;
-    put_from_snapshot(out, snapshot)
+    let seat = seat_part(seat);
+    let members = [
+        ("match", Part::Match(name)),
+        ("seat", seat),
+        ("snapshot", Part::Json(snapshot)),
+        ("type", Part::Word("sync")),
+    ];
+    put_line(alloc, out, &members)
 }
 
-#[tactic(auto, unfolding(json::specs::Print::escape_byte))]
-fn put_from_snapshot(out: &mut Vec<u8>, snapshot: &[u8]) -> Result<(), NoMemory>
-    ensures { (s : Data) → snapshot.now ≡ compact_text s → OnOk result (out.new.items ≡ out.old.items ++ members_text true (from_snapshot s)) }
+fn put_second_sync<'t>(
+    alloc: Global,
+    out: &mut Vec<u8>,
+    name: &'t MatchName,
+    seat: Option<Seat>,
+    snapshot: &'t [u8],
+) -> Result<(), NoMemory>
+    ensures text { (s : Data) → snapshot.now ≡ compact_text s
+        → OnOk result (out.new.items ≡ out.old.items ++ server_text (Message.Sync name.now seat protocols.Two s)) }
+    ensures named { OnOk result (IsName name.now) }
 {
-    out.extend_from_slice(b",\"snapshot\":")?;
-    out.extend_from_slice(snapshot)?;
-    out.extend_from_slice(b",\"type\":\"sync\"}")?;
-    Ok(())
+    let seat = seat_part(seat);
+    let members = [
+        ("match", Part::Match(name)),
+        ("protocol", Part::Number(2)),
+        ("seat", seat),
+        ("snapshot", Part::Json(snapshot)),
+        ("type", Part::Word("sync")),
+    ];
+    put_line(alloc, out, &members)
+}
+
+/// A seat, or null.
+pub fn seat_part(seat: Option<Seat>) -> Part<'static>
+    ensures { part_text result ≡ compact_text (natural_or_null seat) }
+{
+    match seat {
+        Some(seat) => Part::Number(u32::from(seat)),
+        None => Part::Null,
+    }
 }
 
 /// Appends the line of an accepted action for a session of protocol 1.
-#[tactic(auto, unfolding(crate::specs::ServerText::text))]
 pub fn put_update(
     out: &mut Vec<u8>,
     ctx: &[u8],
@@ -105,45 +103,34 @@ pub fn put_update(
     ensures { (c e s : Data) → ctx.now ≡ compact_text c → entry.now ≡ compact_text e → g.now ≡ compact_text s
         → OnOk result (out.new.items ≡ out.old.items ++ server_text (Message.Update c e s number)) }
 {
-    put_update_object(out, ctx, entry, g, number)?;
-    Ok(out.push(b'\n')?)
+    put_update_parts(out, ctx, entry, g, number)
 }
 
-#[tactic(auto, unfolding(json::specs::Print::escape_byte))]
-fn put_update_object(
+fn put_update_parts<'t>(
     out: &mut Vec<u8>,
-    ctx: &[u8],
-    entry: &[u8],
-    g: &[u8],
+    ctx: &'t [u8],
+    entry: &'t [u8],
+    g: &'t [u8],
     number: Number,
 ) -> Result<(), NoMemory>
     ensures { (c e s : Data) → ctx.now ≡ compact_text c → entry.now ≡ compact_text e → g.now ≡ compact_text s
-        → OnOk result (out.new.items ≡ out.old.items ++ compact_text (object (server_members (Message.Update c e s number)))) }
+        → OnOk result (out.new.items ≡ out.old.items ++ server_text (Message.Update c e s number)) }
 {
-    out.extend_from_slice(b"{\"ctx\":")?;
-    out.extend_from_slice(ctx)?;
-    out.extend_from_slice(b",\"entry\":")?;
-    out.extend_from_slice(entry)?;
-    put_from_g(out, g, number)
-}
-
-#[tactic(auto, unfolding(json::specs::Print::escape_byte))]
-fn put_from_g(out: &mut Vec<u8>, g: &[u8], number: Number) -> Result<(), NoMemory>
-    ensures { (s : Data) → g.now ≡ compact_text s → OnOk result (out.new.items ≡ out.old.items ++ members_text true (from_g s number)) }
-{
-    out.extend_from_slice(b",\"g\":")?;
-    out.extend_from_slice(g)?;
-    out.extend_from_slice(b",\"number\":")?;
-    put_number(out, number)?;
-    out.extend_from_slice(b",\"type\":\"update\"}")?;
-    Ok(())
+    let alloc = *out.allocator();
+    let members = [
+        ("ctx", Part::Json(ctx)),
+        ("entry", Part::Json(entry)),
+        ("g", Part::Json(g)),
+        ("number", Part::Number(number)),
+        ("type", Part::Word("update")),
+    ];
+    put_line(alloc, out, &members)
 }
 
 /// Appends the line of an accepted action for a session of protocol 2.
 ///
 /// `gone` is the list of the names that the state has no more, `put` the object of what it has new or changed; `number`, from 1, is
 /// the state number after the action, and the one before it is written too.
-#[tactic(auto, unfolding(crate::specs::ServerText::text))]
 pub fn put_change(
     out: &mut Vec<u8>,
     ctx: &[u8],
@@ -155,99 +142,67 @@ pub fn put_change(
     ensures { (c e n p : Data) → ctx.now ≡ compact_text c → entry.now ≡ compact_text e → gone.now ≡ compact_text n → put.now ≡ compact_text p
         → OnOk result (out.new.items ≡ out.old.items ++ server_text (Message.Change c e n p number)) }
 {
-    put_change_object(out, ctx, entry, gone, put, number)?;
-    Ok(out.push(b'\n')?)
+    put_change_begin(out, ctx, entry)?;
+    put_change_parts(out, gone, put)?;
+    put_change_end(out, number)
 }
 
-#[tactic(auto, unfolding(json::specs::Print::escape_byte))]
-fn put_change_object(
+// The line up to what changed in the state.
+fn put_change_begin<'t>(
     out: &mut Vec<u8>,
-    ctx: &[u8],
-    entry: &[u8],
-    gone: &[u8],
-    put: &[u8],
-    number: Number,
+    ctx: &'t [u8],
+    entry: &'t [u8],
 ) -> Result<(), NoMemory>
-    ensures { (c e n p : Data) → ctx.now ≡ compact_text c → entry.now ≡ compact_text e → gone.now ≡ compact_text n → put.now ≡ compact_text p
-        → OnOk result (out.new.items ≡ out.old.items ++ compact_text (object (server_members (Message.Change c e n p number)))) }
+    ensures { (c e g : Data) (after : List ℕ) (rest : Members) → ctx.now ≡ compact_text c → entry.now ≡ compact_text e
+        → OnOk result (out.new.items ++ (compact_text g ++ (members_text true rest ++ after))
+        ≡ out.old.items ++ (compact_text (object (member (codes "ctx") c (member (codes "entry") e (member (codes "g") g rest)))) ++ after)) }
 {
-    out.extend_from_slice(b"{\"ctx\":")?;
-    out.extend_from_slice(ctx)?;
-    out.extend_from_slice(b",\"entry\":")?;
-    out.extend_from_slice(entry)?;
-    put_from_parts(out, gone, put, number)
+    let alloc = *out.allocator();
+    let members = [("ctx", Part::Json(ctx)), ("entry", Part::Json(entry))];
+    put_begin(alloc, out, &members, b",\"g\":")
 }
 
-#[tactic(auto, using(crate::proofs::PlainWords::parts_put))]
-fn put_from_parts(
+// What changed in the state.
+fn put_change_parts<'t>(
     out: &mut Vec<u8>,
-    gone: &[u8],
-    put: &[u8],
-    number: Number,
+    gone: &'t [u8],
+    put: &'t [u8],
 ) -> Result<(), NoMemory>
-    ensures { (n p : Data) → gone.now ≡ compact_text n → put.now ≡ compact_text p
-        → OnOk result (out.new.items ≡ out.old.items ++ members_text true (from_parts n p number)) }
-{
-    out.extend_from_slice(b",\"g\":")?;
-    put_parts(out, gone, put)?;
-    put_from_number(out, number)
-}
-
-#[tactic(auto, unfolding(json::specs::Print::escape_byte))]
-fn put_parts(out: &mut Vec<u8>, gone: &[u8], put: &[u8]) -> Result<(), NoMemory>
     ensures { (n p : Data) → gone.now ≡ compact_text n → put.now ≡ compact_text p
         → OnOk result (out.new.items ≡ out.old.items ++ compact_text (parts_data n p)) }
 {
-    out.extend_from_slice(b"{\"gone\":")?;
-    out.extend_from_slice(gone)?;
-    out.extend_from_slice(b",\"put\":")?;
-    out.extend_from_slice(put)?;
-    out.extend_from_slice(b"}")?;
-    Ok(())
+    let alloc = *out.allocator();
+    let members = [("gone", Part::Json(gone)), ("put", Part::Json(put))];
+    put_object(alloc, out, &members)
 }
 
-#[tactic(auto, using(crate::proofs::PlainWords::number_put))]
-fn put_from_number(out: &mut Vec<u8>, number: Number) -> Result<(), NoMemory>
-    ensures { OnOk result (out.new.items ≡ out.old.items ++ members_text true (from_number number)) }
+// The line from the state number on.
+fn put_change_end(out: &mut Vec<u8>, number: Number) -> Result<(), NoMemory>
+    ensures { OnOk result (out.new.items ≡ out.old.items ++ (members_text true (from_number number) ++ newline)) }
 {
-    out.extend_from_slice(b",\"number\":")?;
-    put_number(out, number)?;
-    put_from_change(out, number.saturating_sub(1))
-}
-
-#[tactic(auto, using(crate::proofs::PlainWords::change_put))]
-fn put_from_change(out: &mut Vec<u8>, was: Number) -> Result<(), NoMemory>
-    ensures { OnOk result (out.new.items ≡ out.old.items ++ members_text true (from_change was)) }
-{
-    out.extend_from_slice(b",\"type\":\"change\",\"was\":")?;
-    put_number(out, was)?;
-    out.extend_from_slice(b"}")?;
-    Ok(())
+    let alloc = *out.allocator();
+    let members = [
+        ("number", Part::Number(number)),
+        ("type", Part::Word("change")),
+        ("was", Part::Number(number.saturating_sub(1))),
+    ];
+    put_rest(alloc, out, &members, b"}\n")
 }
 
 /// Appends the line that tells a session that its action was accepted.
-#[tactic(auto, unfolding(crate::specs::ServerText::text))]
 pub fn put_ok(out: &mut Vec<u8>, number: Number, ticket: u32) -> Result<(), NoMemory>
     ensures { OnOk result (out.new.items ≡ out.old.items ++ server_text (Message.Ok number ticket)) }
 {
-    put_ok_object(out, number, ticket)?;
-    Ok(out.push(b'\n')?)
-}
-
-#[tactic(auto, unfolding(json::specs::Print::escape_byte))]
-fn put_ok_object(out: &mut Vec<u8>, number: Number, ticket: u32) -> Result<(), NoMemory>
-    ensures { OnOk result (out.new.items ≡ out.old.items ++ compact_text (object (server_members (Message.Ok number ticket)))) }
-{
-    out.extend_from_slice(b"{\"number\":")?;
-    put_number(out, number)?;
-    out.extend_from_slice(b",\"ticket\":")?;
-    put_number(out, ticket)?;
-    out.extend_from_slice(b",\"type\":\"ok\"}")?;
-    Ok(())
+    let alloc = *out.allocator();
+    let members = [
+        ("number", Part::Number(number)),
+        ("ticket", Part::Number(ticket)),
+        ("type", Part::Word("ok")),
+    ];
+    put_line(alloc, out, &members)
 }
 
 /// Appends the line that tells a session that its action was refused, and why.
-#[tactic(auto, unfolding(crate::specs::ServerText::text))]
 pub fn put_no(
     out: &mut Vec<u8>,
     number: Number,
@@ -256,43 +211,12 @@ pub fn put_no(
 ) -> Result<(), NoMemory>
     ensures { OnOk result (out.new.items ≡ out.old.items ++ server_text (Message.No number reason ticket)) }
 {
-    put_no_object(out, number, reason, ticket)?;
-    Ok(out.push(b'\n')?)
-}
-
-#[tactic(auto, unfolding(json::specs::Print::escape_byte))]
-fn put_no_object(
-    out: &mut Vec<u8>,
-    number: Number,
-    reason: Reason,
-    ticket: u32,
-) -> Result<(), NoMemory>
-    ensures { OnOk result (out.new.items ≡ out.old.items ++ compact_text (object (server_members (Message.No number reason ticket)))) }
-{
-    out.extend_from_slice(b"{\"number\":")?;
-    put_number(out, number)?;
-    put_from_reason(out, reason, ticket)
-}
-
-#[tactic(auto, unfolding(json::specs::Print::escape_byte))]
-fn put_from_reason(out: &mut Vec<u8>, reason: Reason, ticket: u32) -> Result<(), NoMemory>
-    ensures { OnOk result (out.new.items ≡ out.old.items ++ members_text true (from_reason reason ticket)) }
-{
-    out.extend_from_slice(b",\"reason\":")?;
-    put_reason(out, reason)?;
-    out.extend_from_slice(b",\"ticket\":")?;
-    put_number(out, ticket)?;
-    out.extend_from_slice(b",\"type\":\"no\"}")?;
-    Ok(())
-}
-
-// No reason's word has a byte to escape.
-#[tactic(auto, using(crate::proofs::PlainWords::reason_put))]
-fn put_reason(out: &mut Vec<u8>, reason: Reason) -> Result<(), NoMemory>
-    ensures { OnOk result (out.new.items ≡ out.old.items ++ compact_text (string (reason_text reason))) }
-{
-    out.push(b'"')?;
-    out.extend_from_slice(reason.name().as_bytes())?;
-    out.push(b'"')?;
-    Ok(())
+    let alloc = *out.allocator();
+    let members = [
+        ("number", Part::Number(number)),
+        ("reason", Part::Word(reason.name())),
+        ("ticket", Part::Number(ticket)),
+        ("type", Part::Word("no")),
+    ];
+    put_line(alloc, out, &members)
 }

@@ -1,0 +1,15 @@
+use Rattle.std.proofs.Common.{refl}
+use Rattle.json.specs.Print.{escape_byte}
+use Rattle.wire_json.specs.ClientText.{client_members, client_text}
+use Rattle.wire_json.specs.declared.client.ClientMsg.TheVariants as message
+use Rattle.wire_json.proofs.ServerTelling.{on_ok_of}
+use Rattle.client_lines.proofs.client_write.put_look.Goals as goal
+
+pub returns-clause-text : goal.returns-clause-text
+unfolding client_text escape_byte
+returns-clause-text c =
+    c.put_line.ensures.text (client_members (message.Look c.args.name.now)) (refl, refl, (refl, refl, refl))
+
+pub returns-clause-fits : goal.returns-clause-fits
+returns-clause-fits c =
+    on_ok_of c.put_line.result c.put_line.ensures.fits (λ f. f.0)

@@ -1,7 +1,0 @@
-use Rattle.json.specs.Print.{escape_byte}
-use Rattle.wire_json.proofs.Appending.{both}
-use Rattle.wire_json.proofs.client_write.put_create.Goals as goal
-
-pub returns-clause-text : goal.returns-clause-text
-unfolding escape_byte
-returns-clause-text c = both c.put_from_seats.result _ _ _ _ _ c.in_ok-put_game.ensures.text c.put_from_seats.ensures

@@ -1,8 +1,0 @@
-use Rattle.std.proofs.Common.{◌≡◌, ◌++◌, drop, option_map}
-use Rattle.serde_json.specs.View.{items_view}
-use Rattle.wire_json.specs.RowReading.{players_from}
-use Rattle.wire_json.proofs.row_read.players_from.Given as goal
-
--- what was read so far stands before what the rest reads as
-abbrev pub invariant-loop-item : goal.invariant-loop-item
-invariant-loop-item l = players_from (items_view l.items) ≡ option_map (λ rest. l.players ++ rest) (players_from (items_view (drop l.item-index l.items)))

@@ -1,6 +1,0 @@
-use Rattle.wire_json.proofs.ServerTelling.{bye_told}
-use Rattle.wire_json.proofs.server_write.bye.Goals as goal
-
-pub returns-clause-told : goal.returns-clause-told
-returns-clause-told c =
-    bye_told c.args.why
