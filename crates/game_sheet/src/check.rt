@@ -103,7 +103,18 @@ fn has_name_length(name: &[u8]) -> bool
 fn are_game_letters(name: &[u8]) -> bool
     ensures { result ≡ list_all is_game_letter name.now }
 {
-    name.iter().all(|byte| byte.is_ascii_lowercase() || byte.is_ascii_digit() || *byte == b'-')
+    for byte in name {
+        if !is_game_letter(*byte) {
+            return false;
+        }
+    }
+    true
+}
+
+fn is_game_letter(byte: u8) -> bool
+    ensures { result ≡ is_game_letter byte }
+{
+    byte.is_ascii_lowercase() || byte.is_ascii_digit() || byte == b'-'
 }
 
 fn is_name(name: &str) -> bool
@@ -116,7 +127,12 @@ fn is_name(name: &str) -> bool
 fn are_letters(name: &[u8]) -> bool
     ensures { result ≡ list_all is_ascii_alphanumeric name.now }
 {
-    name.iter().all(|byte| byte.is_ascii_alphanumeric())
+    for byte in name {
+        if !byte.is_ascii_alphanumeric() {
+            return false;
+        }
+    }
+    true
 }
 
 fn seats_fit(sheet: &Sheet) -> bool
@@ -134,14 +150,24 @@ fn are_named<Row: Named>(rows: &[Row]) -> bool
 fn have_names<Row: Named>(rows: &[Row]) -> bool
     ensures { result ≡ list_all (λ row. is_name is_ascii_alphanumeric (Row.name row)) rows.now }
 {
-    rows.iter().all(|row| is_name(row.name()))
+    for row in rows {
+        if !is_name(row.name()) {
+            return false;
+        }
+    }
+    true
 }
 
 /// Whether each row's name is that of one row alone.
 fn are_distinct<Row: Named>(rows: &[Row]) -> bool
     ensures { result ≡ are_distinct Row.name rows.now }
 {
-    rows.iter().all(|row| times(rows, row.name()) == 1)
+    for row in rows {
+        if times(rows, row.name()) != 1 {
+            return false;
+        }
+    }
+    true
 }
 
 /// How many rows have this name.
@@ -185,10 +211,13 @@ fn lists_fit(sheet: &Sheet) -> bool
 fn are_moves(count: usize, moves: &List<MoveId>) -> bool
     ensures { result ≡ list_all (is_there count) moves.now }
 {
-    moves
-        .as_slice()
-        .iter()
-        .all(|id| (id.place() as usize) < count)
+    let places = moves.as_slice();
+    for id in places {
+        if count <= (id.place() as usize) {
+            return false;
+        }
+    }
+    true
 }
 
 fn may_be_moves(count: usize, moves: &Option<List<MoveId>>) -> bool
@@ -203,13 +232,23 @@ fn may_be_moves(count: usize, moves: &Option<List<MoveId>>) -> bool
 fn phases_list(count: usize, phases: &[PhaseRow]) -> bool
     ensures { result ≡ list_all (λ (row : PhaseRow). where_given (list_all (is_there count)) row.moves) phases.now }
 {
-    phases.iter().all(|row| may_be_moves(count, &row.moves))
+    for row in phases {
+        if !may_be_moves(count, &row.moves) {
+            return false;
+        }
+    }
+    true
 }
 
 fn stages_list(count: usize, stages: &[StageRow]) -> bool
     ensures { result ≡ list_all (λ (row : StageRow). where_given (list_all (is_there count)) row.moves) stages.now }
 {
-    stages.iter().all(|row| may_be_moves(count, &row.moves))
+    for row in stages {
+        if !may_be_moves(count, &row.moves) {
+            return false;
+        }
+    }
+    true
 }
 
 fn nexts_fit(sheet: &Sheet) -> bool
@@ -230,9 +269,12 @@ fn starts(phases: &[PhaseRow]) -> usize
 fn phases_follow(phases: &[PhaseRow]) -> bool
     ensures { result ≡ list_all (λ (row : PhaseRow). where_given (is_there (length phases.now)) row.next) phases.now }
 {
-    phases
-        .iter()
-        .all(|row| phase_is_there(phases.len(), row.next))
+    for row in phases {
+        if !phase_is_there(phases.len(), row.next) {
+            return false;
+        }
+    }
+    true
 }
 
 fn phase_is_there(count: usize, next: Option<PhaseId>) -> bool
@@ -247,9 +289,12 @@ fn phase_is_there(count: usize, next: Option<PhaseId>) -> bool
 fn stages_follow(stages: &[StageRow]) -> bool
     ensures { result ≡ list_all (λ (row : StageRow). where_given (is_there (length stages.now)) row.next) stages.now }
 {
-    stages
-        .iter()
-        .all(|row| stage_is_there(stages.len(), row.next))
+    for row in stages {
+        if !stage_is_there(stages.len(), row.next) {
+            return false;
+        }
+    }
+    true
 }
 
 fn stage_is_there(count: usize, stage: Option<StageId>) -> bool
@@ -295,11 +340,13 @@ fn spec_is_there(count: usize, spec: Option<SpecId>) -> bool
 fn phases_turn(sheet: &Sheet) -> bool
     ensures { result ≡ list_all (λ (row : PhaseRow). where_given (turn_fits sheet.now) row.turn) sheet.now.phases }
 {
-    sheet
-        .phases
-        .as_slice()
-        .iter()
-        .all(|row| own_turn_fits(sheet, &row.turn))
+    let phases = sheet.phases.as_slice();
+    for row in phases {
+        if !own_turn_fits(sheet, &row.turn) {
+            return false;
+        }
+    }
+    true
 }
 
 fn own_turn_fits(sheet: &Sheet, turn: &Option<TurnRow>) -> bool
@@ -344,17 +391,24 @@ fn list_fits(min_seats: u8, seats: &[Seat]) -> bool
 fn are_seats(min_seats: u8, seats: &[Seat]) -> bool
     ensures { result ≡ list_all (is_there min_seats) seats.now }
 {
-    seats.iter().all(|seat| *seat < min_seats)
+    for seat in seats {
+        if min_seats <= *seat {
+            return false;
+        }
+    }
+    true
 }
 
 fn phases_order(sheet: &Sheet) -> bool
     ensures { result ≡ list_all (λ (row : PhaseRow). where_given (λ (turn : TurnRow). order_fits sheet.now turn.order) row.turn) sheet.now.phases }
 {
-    sheet
-        .phases
-        .as_slice()
-        .iter()
-        .all(|row| own_order_fits(sheet, &row.turn))
+    let phases = sheet.phases.as_slice();
+    for row in phases {
+        if !own_order_fits(sheet, &row.turn) {
+            return false;
+        }
+    }
+    true
 }
 
 fn own_order_fits(sheet: &Sheet, turn: &Option<TurnRow>) -> bool
@@ -409,10 +463,21 @@ fn may_be_place(sheet: &Sheet, place: Option<Place>) -> bool
     }
 }
 
+fn pair_fits(sheet: &Sheet, row: &(Seat, Place)) -> bool
+    ensures { result ≡ (is_there sheet.now.min_seats row.now.0 && place_fits sheet.now row.now.1) }
+{
+    row.0 < sheet.min_seats && place_fits(sheet, row.1)
+}
+
 fn value_fits(sheet: &Sheet, value: &[(Seat, Place)]) -> bool
     ensures { result ≡ list_all (λ seat_place. is_there sheet.now.min_seats seat_place.0 && place_fits sheet.now seat_place.1) value.now }
 {
-    value.iter().all(|(seat, place)| *seat < sheet.min_seats && place_fits(sheet, *place))
+    for row in value {
+        if !pair_fits(sheet, row) {
+            return false;
+        }
+    }
+    true
 }
 
 /// Whether what follows a spec is a later one of a table with so many rows.

@@ -1,0 +1,10 @@
+use Rattle.std.proofs.Common.{◌≡◌, drop}
+use Rattle.std.specs.List.{list_all}
+use Rattle.game_sheet.specs.SheetRules.{turn_fits, where_given}
+use Rattle.game_sheet.specs.declared.sheet.PhaseRow.{PhaseRow}
+use Rattle.game_sheet.proofs.check.phases_turn.Given as goal
+
+-- what the rest passes all pass
+abbrev pub invariant-loop-row : goal.invariant-loop-row
+invariant-loop-row l =
+    list_all (λ (row : PhaseRow). where_given (turn_fits l.sheet) row.turn) (drop l.row-index l.phases) ≡ list_all (λ (row : PhaseRow). where_given (turn_fits l.sheet) row.turn) l.phases
