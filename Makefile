@@ -10,12 +10,13 @@ program:
 	@cd crates/board_server && rt all check --jobs $(JOBS) | grep -Ev '^(crate|fn|library|logic|only=|so far|statements)'
 	@cd crates/board_server && rt run -- script </dev/null
 
-# Plays the example matches and prints their transcripts.
+# Plays the example matches and the example world, and prints their transcripts.
 demo: program
 	@cd crates/board_server && rt run -- script <../../examples/tic-tac-toe.script
 	@cd crates/board_server && rt run -- script <../../examples/countdown.script
 	@cd crates/board_server && rt run -- script <../../examples/blind-bid.script
 	@cd crates/board_server && rt run -- script <../../examples/captions.script
+	@cd crates/board_server && rt run -- world <../../examples/tic-tac-toe.world
 
 # Proves and tests everything: the gate.
 test:

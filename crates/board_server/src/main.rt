@@ -1,6 +1,8 @@
-//! The match server. `board_server script` plays the script on standard input, and prints its transcript.
+//! The match server. `board_server script` plays the script on standard input, and prints its transcript; `board_server world`
+//! does so with a world.
 #![tactic(auto)]
 
+mod command;
 mod process;
 mod run;
 

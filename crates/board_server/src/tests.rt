@@ -18,12 +18,27 @@ const TRANSCRIPT: &[u8] = b"open 0-1
 0 {\"match\":\"0-1\",\"seat\":0,\"snapshot\":{\"ctx\":{\"activePlayers\":null,\"currentPlayer\":0,\"gameover\":null,\"numMoves\":0,\"numPlayers\":2,\"phase\":null,\"playOrder\":[0,1],\"playOrderPos\":0,\"turn\":1},\"g\":{\"cells\":[null,null,null,null,null,null,null,null,null]},\"log\":[],\"number\":0},\"type\":\"sync\"}
 ";
 
+const WORLD: &[u8] = b"open tic-tac-toe 2
+attach 0 tic-tac-toe 0-1 0
+arrive 0
+take 0
+read 0
+show 1
+";
+
+const WORLD_TRANSCRIPT: &[u8] = b"open 0-1
+0 sync
+1 none
+";
+
 /// A run, and what comes of it.
 #[derive(Clone, Copy)]
 struct Row {
     /// The one word of the program.
     word: &'static str,
-    /// How many bytes of the script there are.
+    /// What is read.
+    lines: &'static [u8],
+    /// How many bytes of that there are.
     count: usize,
     /// Which reads fail, counted from 1.
     reads: &'static [u64],
@@ -40,6 +55,7 @@ struct Row {
 /// A run of the whole script.
 const WHOLE: Row = Row {
     word: "script",
+    lines: SCRIPT,
     count: SCRIPT.len(),
     reads: &[],
     writes: &[],
@@ -57,6 +73,20 @@ fn runs_end_by_their_words_and_faults(rt: HostRuntime) -> Result<(), Fail> {
             exit: Exit::Usage,
             status: 1,
             printed: b"",
+            ..WHOLE
+        },
+        Row {
+            word: "world",
+            lines: WORLD,
+            count: WORLD.len(),
+            printed: WORLD_TRANSCRIPT,
+            ..WHOLE
+        },
+        Row {
+            word: "world",
+            exit: Exit::BadLine { line: 2 },
+            status: 4,
+            printed: b"open 0-1\n",
             ..WHOLE
         },
         Row {
@@ -97,8 +127,8 @@ fn runs(rt: &impl Abort, alloc: Global, row: Row) -> Result<(), NoMemory> {
     let reads = List::from_slice(alloc, row.reads)?;
     let writes = List::from_slice(alloc, row.writes)?;
     let words = words(alloc, row.word)?;
-    let script = Vec::from_slice(alloc, &SCRIPT[..row.count.min(SCRIPT.len())])?;
-    let mut source = MemorySource::new(script, reads);
+    let lines = Vec::from_slice(alloc, &row.lines[..row.count.min(row.lines.len())])?;
+    let mut source = MemorySource::new(lines, reads);
     let mut sink = MemorySink::new(alloc, writes);
     let exit = run(alloc, words.as_slice(), &mut source, &mut sink);
     assert_eq!(rt; exit, row.exit);

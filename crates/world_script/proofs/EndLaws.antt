@@ -1,25 +1,21 @@
 -- How the answers to a line and to its reading end a run, or let it go on.
 use Rattle.std.proofs.Common.{◌≡◌, ◌+◌, ℕ, List, [], Option, Some, None, IsSome, refl, sym, ap, ◌∙◌, subst, append-nil}
-use Rattle.any_game.specs.GameKind.{GameKind}
 use Rattle.board_links.specs.Faults.{HasRisen}
 use Rattle.board_links.specs.Pieces.{told_bytes}
-use Rattle.hall_history.specs.Hall.{Hall, new_hall}
-use Rattle.hall_history.specs.Tapes.{hall_tape}
-use Rattle.session_hall.specs.Held.{HeldHall, StandsForHall}
+use Rattle.world_script.specs.Play.{IsPlay, Play}
 use Rattle.world_script.specs.Reading.{Raises, given_after, StandsAt, Moves}
 use Rattle.world_script.specs.Running.{AreInForm, Ends, ExitRaises, IsComplete, LineRaises, RanLine, StopsEarly, end_at, stop_at}
 use Rattle.world_script.specs.Reader.{Reader, fresh, to_come}
 use Rattle.world_script.specs.ScriptLines.{Script, first_line}
 use Rattle.world_script.specs.ScriptLines as script
-use Rattle.world_script.specs.ScriptSteps.{rooms_of_script}
 use Rattle.world_script.specs.declared.exit.Exit.{Exit}
 use Rattle.world_script.specs.declared.exit.Exit.TheVariants.{Done, BadLine, TooLong, TooMany, ReadFault, WriteFault, NoMemory, Usage}
 use Rattle.world_script.specs.declared.next.Next.{Next}
 use Rattle.world_script.specs.declared.next.Next.TheVariants as next
-use Rattle.world_script.specs.declared.script.LineStatus.{LineStatus}
-use Rattle.world_script.specs.declared.script.LineStatus.TheVariants as ran
+use Rattle.world_script.specs.declared.run.LineStatus.{LineStatus}
+use Rattle.world_script.specs.declared.run.LineStatus.TheVariants as ran
 use Rattle.world_script.proofs.Moving.{none_after}
-use Rattle.world_script.proofs.Playing.{nothing_printed, transcript_is}
+use Rattle.world_script.proofs.Playing.{nothing_printed}
 use Rattle.world_script.proofs.RunLaws.{begins, breaks, ends_at, ends_bad, ends_long, ends_whole, goes_on, plays_by, stops, stops_at}
 use Rattle.world_script.proofs.Underway.{Underway, line_read}
 
@@ -81,106 +77,108 @@ not_long e = cc
 not_many : script.Ended ≡ script.TooMany → ⊥
 not_many e = cc
 
--- lines in form, within the limits and without a fault come to their end, or there was no memory
-pub completes : (exit : Exit) (bytes left before : List ℕ) (held : Option (List ℕ)) (source_old source_new sink_old sink_new : ℕ) → Ends bytes left before held exit
-    → ExitRaises exit source_old source_new sink_old sink_new → AreInForm bytes → (HasRisen source_old source_new → ⊥) → (HasRisen sink_old sink_new → ⊥) → IsComplete exit
-completes Done bytes left before held a b c d e r f s k = tt
-completes Usage bytes left before held a b c d e r f s k = r
-completes ReadFault bytes left before held a b c d e r f s k = s r.0
-completes WriteFault bytes left before held a b c d e r f s k = k r.1
-completes (BadLine line) bytes left before held a b c d e r f s k = no_line line (sym f.in_form ∙ e.first_bad)
-completes (TooLong line) bytes left before held a b c d e r f s k = not_long (sym f.within ∙ e.plays.ends)
-completes TooMany bytes left before held a b c d e r f s k = not_many (sym f.within ∙ e.ends)
-completes NoMemory bytes left before held a b c d e r f s k = tt
-
-module _ (bytes before : List ℕ) (hall : HeldHall) (given : ℕ) (reader : Reader) (left : List ℕ) where
-  pub stop_ends : (held : Option (List ℕ)) (u : Underway bytes before hall given reader left (to_come reader left) held) (n : Next) (line : List ℕ) (reader' : Reader) (left' : List ℕ) (exit : Exit) (now : ℕ)
-      → Moves (Some n) line reader reader' left left' → StandsAt (Some n) reader' → now ≡ given_after n given → stop_at n now ≡ Some exit → Ends bytes left' before held exit
-  stop_ends held u next.Line line reader' left' exit now m s g e = absurd (no_exit exit e)
-  stop_ends held u next.End line reader' left' exit now m s g e =
-      subst (λ x. Ends bytes left' before held x) (exit_is Done exit e)
-      (ends_whole bytes before hall given reader left (to_come reader left) held u left' (none_after (Some next.End) line reader reader' left left' reader.ended refl m u.read.at_end s) m.lines.0)
-  stop_ends held u next.TooLong line reader' left' exit now m s g e =
-      subst (λ x. Ends bytes left' before held x) (ap (λ n. TooLong (n + 1)) (sym g) ∙ exit_is (TooLong (now + 1)) exit e)
-      (ends_long bytes before hall given reader left (to_come reader left) held u m.lines.0)
-  stop_ends held u next.TooMany line reader' left' exit now m s g e =
-      subst (λ x. Ends bytes left' before held x) (exit_is TooMany exit e)
-      (ends_at bytes before hall given reader left (to_come reader left) held u script.TooMany m.lines.0)
-  stop_ends held u next.ReadFault line reader' left' exit now m s g e =
-      subst (λ x. Ends bytes left' before held x) (exit_is ReadFault exit e) (stops_at bytes before hall given reader left (to_come reader left) held u line reader' left' m s.0 s.1)
-  stop_ends held u next.NoMemory line reader' left' exit now m s g e =
-      subst (λ x. Ends bytes left' before held x) (exit_is NoMemory exit e) (stops bytes before hall given reader left (to_come reader left) held u)
-
-  same_held : (rest : Script) (held : Option (List ℕ)) (u : Underway bytes before hall given reader left rest held) (after : Option (List ℕ)) → after ≡ Some (told_bytes held) → held ≡ after
-  same_held rest held u after e = u.added ∙ sym (e ∙ ap (λ h. Some (told_bytes h)) u.added)
-
-  pub end_ends : (line : List ℕ) (rest : Script) (held : Option (List ℕ)) (u : Underway bytes before hall given reader left (first_line line rest) held) (left' : List ℕ) (hall' : HeldHall) (after : Option (List ℕ)) (r : LineStatus) (exit : Exit) (now : ℕ)
-      → RanLine u.h line hall' (told_bytes held) after r → now ≡ given + 1 → end_at r now ≡ Some exit → Ends bytes left' before after exit
-  end_ends line rest held u left' hall' after ran.Done exit now l g e = absurd (no_exit exit e)
-  end_ends line rest held u left' hall' after ran.BadLine exit now l g e =
-      subst (λ x. Ends bytes left' before after x) (ap BadLine (sym g) ∙ exit_is (BadLine now) exit e)
-      (subst (λ h. Ends bytes left' before h (BadLine (given + 1))) (same_held (first_line line rest) held u after l.1) (ends_bad bytes before hall given reader left line rest held u l.0))
-  end_ends line rest held u left' hall' after ran.WriteFault exit now l g e =
-      subst (λ x. Ends bytes left' before after x) (exit_is WriteFault exit e) (breaks bytes before hall given reader left line rest held u after l)
-  end_ends line rest held u left' hall' after ran.NoMemory exit now l g e =
-      subst (λ x. Ends bytes left' before after x) (exit_is NoMemory exit e)
-      (subst (λ h. Ends bytes left' before h NoMemory) (same_held (first_line line rest) held u after l) (stops bytes before hall given reader left (first_line line rest) held u))
-
-  -- the first line that is left, read and then run
-  pub line_ends : (held : Option (List ℕ)) (u : Underway bytes before hall given reader left (to_come reader left) held) (n : Next) (count : ℕ) (line : List ℕ) (reader' : Reader) (left' : List ℕ)
-      → Moves (Some n) line reader reader' left left' → stop_at n count ≡ None → (shown : List ℕ) → shown ≡ line
-      → (hall' : HeldHall) (after : Option (List ℕ)) (r : LineStatus) (exit : Exit) (now : ℕ)
-      → ((h : Hall GameKind) → StandsForHall hall_tape hall h → RanLine h shown hall' (told_bytes held) after r)
-      → now ≡ given_after n given → end_at r now ≡ Some exit → Ends bytes left' before after exit
-  line_ends held u next.Line count line reader' left' m e shown w hall' after r exit now ran g x =
-      end_ends shown (to_come reader' left') held here left' hall' after r exit now (ran here.h here.stands) g x
-    where
-      here : Underway bytes before hall given reader left (first_line shown (to_come reader' left')) held
-      here = subst (λ l. Underway bytes before hall given reader left l held) (m.lines ∙ ap (λ l. first_line l (to_come reader' left')) (sym w)) u
-  line_ends held u next.End count line reader' left' m e shown w hall' after r exit now ran g x = absurd (some_exit Done e)
-  line_ends held u next.TooLong count line reader' left' m e shown w hall' after r exit now ran g x = absurd (some_exit (TooLong (count + 1)) e)
-  line_ends held u next.TooMany count line reader' left' m e shown w hall' after r exit now ran g x = absurd (some_exit TooMany e)
-  line_ends held u next.ReadFault count line reader' left' m e shown w hall' after r exit now ran g x = absurd (some_exit ReadFault e)
-  line_ends held u next.NoMemory count line reader' left' m e shown w hall' after r exit now ran g x = absurd (some_exit NoMemory e)
-
-  pub line_runs : (held : Option (List ℕ)) (u : Underway bytes before hall given reader left (to_come reader left) held) (n : Next) (count : ℕ) (line : List ℕ) (reader' : Reader) (left' : List ℕ)
-      → Moves (Some n) line reader reader' left left' → stop_at n count ≡ None → (shown : List ℕ) → shown ≡ line
-      → (hall' : HeldHall) (after : Option (List ℕ)) (r : LineStatus) (ended now : ℕ)
-      → ((h : Hall GameKind) → StandsForHall hall_tape hall h → RanLine h shown hall' (told_bytes held) after r)
-      → now ≡ given_after n given → end_at r ended ≡ None → Underway bytes before hall' now reader' left' (to_come reader' left') after
-  line_runs held u next.Line count line reader' left' m e shown w hall' after ran.Done ended now ran g x =
-      subst (λ n. Underway bytes before hall' n reader' left' (to_come reader' left') after) (sym g)
-      (goes_on bytes before hall given reader left shown (to_come reader' left') held here reader' left' (line_read bytes here.done shown reader reader' left left' here.read moved)
-      hall' after (ran here.h here.stands))
-    where
-      moved : Moves (Some next.Line) shown reader reader' left left'
-      moved = subst (λ l. Moves (Some next.Line) l reader reader' left left') (sym w) m
-
-      here : Underway bytes before hall given reader left (first_line shown (to_come reader' left')) held
-      here = subst (λ l. Underway bytes before hall given reader left l held) moved.lines u
-  line_runs held u next.Line count line reader' left' m e shown w hall' after ran.BadLine ended now ran g x = absurd (some_exit (BadLine ended) x)
-  line_runs held u next.Line count line reader' left' m e shown w hall' after ran.WriteFault ended now ran g x = absurd (some_exit WriteFault x)
-  line_runs held u next.Line count line reader' left' m e shown w hall' after ran.NoMemory ended now ran g x = absurd (some_exit NoMemory x)
-  line_runs held u next.End count line reader' left' m e shown w hall' after r ended now ran g x = absurd (some_exit Done e)
-  line_runs held u next.TooLong count line reader' left' m e shown w hall' after r ended now ran g x = absurd (some_exit (TooLong (count + 1)) e)
-  line_runs held u next.TooMany count line reader' left' m e shown w hall' after r ended now ran g x = absurd (some_exit TooMany e)
-  line_runs held u next.ReadFault count line reader' left' m e shown w hall' after r ended now ran g x = absurd (some_exit ReadFault e)
-  line_runs held u next.NoMemory count line reader' left' m e shown w hall' after r ended now ran g x = absurd (some_exit NoMemory e)
-
 some_bytes : (o : Option (List ℕ)) → IsSome o → o ≡ Some (told_bytes o)
 some_bytes (Some xs) e = refl
 some_bytes None e = cc
 
--- a run in which nothing was read
-pub begins_with : (left : List ℕ) (hall : HeldHall) → StandsForHall hall_tape hall (new_hall rooms_of_script) → (held : Option (List ℕ)) → IsSome held
-    → (reader : Reader) → reader ≡ fresh → Underway left (told_bytes held) hall reader.given reader left (to_come reader left) held
-begins_with left hall stands held k reader e =
-    subst (λ r. Underway left (told_bytes held) hall r.given r left (to_come r left) held) (sym e) (begins left (told_bytes held) hall stands held (some_bytes held k))
+module _ {Step State Held : Type 0} (p : Play Step State Held) where
+  -- lines in form, within the limits and without a fault come to their end, or there was no memory
+  pub completes : (exit : Exit) (bytes left before : List ℕ) (held : Option (List ℕ)) (source_old source_new sink_old sink_new : ℕ) → Ends p bytes left before held exit
+      → ExitRaises exit source_old source_new sink_old sink_new → AreInForm p bytes → (HasRisen source_old source_new → ⊥) → (HasRisen sink_old sink_new → ⊥) → IsComplete exit
+  completes Done bytes left before held a b c d e r f s k = tt
+  completes Usage bytes left before held a b c d e r f s k = r
+  completes ReadFault bytes left before held a b c d e r f s k = s r.0
+  completes WriteFault bytes left before held a b c d e r f s k = k r.1
+  completes (BadLine line) bytes left before held a b c d e r f s k = no_line line (sym f.in_form ∙ e.first_bad)
+  completes (TooLong line) bytes left before held a b c d e r f s k = not_long (sym f.within ∙ e.plays.ends)
+  completes TooMany bytes left before held a b c d e r f s k = not_many (sym f.within ∙ e.ends)
+  completes NoMemory bytes left before held a b c d e r f s k = tt
 
-pub stops_at_once : (s : Script) (held : Option (List ℕ)) → IsSome held → StopsEarly s (told_bytes held) held
-stops_at_once s held k = record {
-  done = [];
-  rest = s.lines;
-  lines = refl;
-  plays = plays_by [] [] (told_bytes held) [] held (some_bytes held k ∙ ap Some (sym (append-nil (told_bytes held)))) (transcript_is [] [] ∙ nothing_printed [] (new_hall rooms_of_script));
-}
+module _ {Step State Held : Type 0} (p : Play Step State Held) (ok : IsPlay p) where
+  module _ (bytes before : List ℕ) (hall : Held) (given : ℕ) (reader : Reader) (left : List ℕ) where
+    pub stop_ends : (held : Option (List ℕ)) (u : Underway p bytes before hall given reader left (to_come reader left) held) (n : Next) (line : List ℕ) (reader' : Reader) (left' : List ℕ) (exit : Exit) (now : ℕ)
+        → Moves (Some n) line reader reader' left left' → StandsAt (Some n) reader' → now ≡ given_after n given → stop_at n now ≡ Some exit → Ends p bytes left' before held exit
+    stop_ends held u next.Line line reader' left' exit now m s g e = absurd (no_exit exit e)
+    stop_ends held u next.End line reader' left' exit now m s g e =
+        subst (λ x. Ends p bytes left' before held x) (exit_is Done exit e)
+        (ends_whole p ok bytes before hall given reader left (to_come reader left) held u left' (none_after (Some next.End) line reader reader' left left' reader.ended refl m u.read.at_end s) m.lines.0)
+    stop_ends held u next.TooLong line reader' left' exit now m s g e =
+        subst (λ x. Ends p bytes left' before held x) (ap (λ n. TooLong (n + 1)) (sym g) ∙ exit_is (TooLong (now + 1)) exit e)
+        (ends_long p ok bytes before hall given reader left (to_come reader left) held u m.lines.0)
+    stop_ends held u next.TooMany line reader' left' exit now m s g e =
+        subst (λ x. Ends p bytes left' before held x) (exit_is TooMany exit e)
+        (ends_at p ok bytes before hall given reader left (to_come reader left) held u script.TooMany m.lines.0)
+    stop_ends held u next.ReadFault line reader' left' exit now m s g e =
+        subst (λ x. Ends p bytes left' before held x) (exit_is ReadFault exit e) (stops_at p ok bytes before hall given reader left (to_come reader left) held u line reader' left' m s.0 s.1)
+    stop_ends held u next.NoMemory line reader' left' exit now m s g e =
+        subst (λ x. Ends p bytes left' before held x) (exit_is NoMemory exit e) (stops p ok bytes before hall given reader left (to_come reader left) held u)
+
+    same_held : (rest : Script) (held : Option (List ℕ)) (u : Underway p bytes before hall given reader left rest held) (after : Option (List ℕ)) → after ≡ Some (told_bytes held) → held ≡ after
+    same_held rest held u after e = u.added ∙ sym (e ∙ ap (λ h. Some (told_bytes h)) u.added)
+
+    pub end_ends : (line : List ℕ) (rest : Script) (held : Option (List ℕ)) (u : Underway p bytes before hall given reader left (first_line line rest) held) (left' : List ℕ) (hall' : Held) (after : Option (List ℕ)) (r : LineStatus) (exit : Exit) (now : ℕ)
+        → RanLine p u.h line hall' (told_bytes held) after r → now ≡ given + 1 → end_at r now ≡ Some exit → Ends p bytes left' before after exit
+    end_ends line rest held u left' hall' after ran.Done exit now l g e = absurd (no_exit exit e)
+    end_ends line rest held u left' hall' after ran.BadLine exit now l g e =
+        subst (λ x. Ends p bytes left' before after x) (ap BadLine (sym g) ∙ exit_is (BadLine now) exit e)
+        (subst (λ h. Ends p bytes left' before h (BadLine (given + 1))) (same_held (first_line line rest) held u after l.1) (ends_bad p ok bytes before hall given reader left line rest held u l.0))
+    end_ends line rest held u left' hall' after ran.WriteFault exit now l g e =
+        subst (λ x. Ends p bytes left' before after x) (exit_is WriteFault exit e) (breaks p ok bytes before hall given reader left line rest held u after l)
+    end_ends line rest held u left' hall' after ran.NoMemory exit now l g e =
+        subst (λ x. Ends p bytes left' before after x) (exit_is NoMemory exit e)
+        (subst (λ h. Ends p bytes left' before h NoMemory) (same_held (first_line line rest) held u after l) (stops p ok bytes before hall given reader left (first_line line rest) held u))
+
+    -- the first line that is left, read and then run
+    pub line_ends : (held : Option (List ℕ)) (u : Underway p bytes before hall given reader left (to_come reader left) held) (n : Next) (count : ℕ) (line : List ℕ) (reader' : Reader) (left' : List ℕ)
+        → Moves (Some n) line reader reader' left left' → stop_at n count ≡ None → (shown : List ℕ) → shown ≡ line
+        → (hall' : Held) (after : Option (List ℕ)) (r : LineStatus) (exit : Exit) (now : ℕ)
+        → ((h : State) → p.Stands hall h → RanLine p h shown hall' (told_bytes held) after r)
+        → now ≡ given_after n given → end_at r now ≡ Some exit → Ends p bytes left' before after exit
+    line_ends held u next.Line count line reader' left' m e shown w hall' after r exit now ran g x =
+        end_ends shown (to_come reader' left') held here left' hall' after r exit now (ran here.h here.stands) g x
+      where
+        here : Underway p bytes before hall given reader left (first_line shown (to_come reader' left')) held
+        here = subst (λ l. Underway p bytes before hall given reader left l held) (m.lines ∙ ap (λ l. first_line l (to_come reader' left')) (sym w)) u
+    line_ends held u next.End count line reader' left' m e shown w hall' after r exit now ran g x = absurd (some_exit Done e)
+    line_ends held u next.TooLong count line reader' left' m e shown w hall' after r exit now ran g x = absurd (some_exit (TooLong (count + 1)) e)
+    line_ends held u next.TooMany count line reader' left' m e shown w hall' after r exit now ran g x = absurd (some_exit TooMany e)
+    line_ends held u next.ReadFault count line reader' left' m e shown w hall' after r exit now ran g x = absurd (some_exit ReadFault e)
+    line_ends held u next.NoMemory count line reader' left' m e shown w hall' after r exit now ran g x = absurd (some_exit NoMemory e)
+
+    pub line_runs : (held : Option (List ℕ)) (u : Underway p bytes before hall given reader left (to_come reader left) held) (n : Next) (count : ℕ) (line : List ℕ) (reader' : Reader) (left' : List ℕ)
+        → Moves (Some n) line reader reader' left left' → stop_at n count ≡ None → (shown : List ℕ) → shown ≡ line
+        → (hall' : Held) (after : Option (List ℕ)) (r : LineStatus) (ended now : ℕ)
+        → ((h : State) → p.Stands hall h → RanLine p h shown hall' (told_bytes held) after r)
+        → now ≡ given_after n given → end_at r ended ≡ None → Underway p bytes before hall' now reader' left' (to_come reader' left') after
+    line_runs held u next.Line count line reader' left' m e shown w hall' after ran.Done ended now ran g x =
+        subst (λ n. Underway p bytes before hall' n reader' left' (to_come reader' left') after) (sym g)
+        (goes_on p ok bytes before hall given reader left shown (to_come reader' left') held here reader' left' (line_read bytes here.done shown reader reader' left left' here.read moved)
+        hall' after (ran here.h here.stands))
+      where
+        moved : Moves (Some next.Line) shown reader reader' left left'
+        moved = subst (λ l. Moves (Some next.Line) l reader reader' left left') (sym w) m
+
+        here : Underway p bytes before hall given reader left (first_line shown (to_come reader' left')) held
+        here = subst (λ l. Underway p bytes before hall given reader left l held) moved.lines u
+    line_runs held u next.Line count line reader' left' m e shown w hall' after ran.BadLine ended now ran g x = absurd (some_exit (BadLine ended) x)
+    line_runs held u next.Line count line reader' left' m e shown w hall' after ran.WriteFault ended now ran g x = absurd (some_exit WriteFault x)
+    line_runs held u next.Line count line reader' left' m e shown w hall' after ran.NoMemory ended now ran g x = absurd (some_exit NoMemory x)
+    line_runs held u next.End count line reader' left' m e shown w hall' after r ended now ran g x = absurd (some_exit Done e)
+    line_runs held u next.TooLong count line reader' left' m e shown w hall' after r ended now ran g x = absurd (some_exit (TooLong (count + 1)) e)
+    line_runs held u next.TooMany count line reader' left' m e shown w hall' after r ended now ran g x = absurd (some_exit TooMany e)
+    line_runs held u next.ReadFault count line reader' left' m e shown w hall' after r ended now ran g x = absurd (some_exit ReadFault e)
+    line_runs held u next.NoMemory count line reader' left' m e shown w hall' after r ended now ran g x = absurd (some_exit NoMemory e)
+
+  -- a run in which nothing was read
+  pub begins_with : (left : List ℕ) (hall : Held) → p.Stands hall p.begin → (held : Option (List ℕ)) → IsSome held
+      → (reader : Reader) → reader ≡ fresh → Underway p left (told_bytes held) hall reader.given reader left (to_come reader left) held
+  begins_with left hall stands held k reader e =
+      subst (λ r. Underway p left (told_bytes held) hall r.given r left (to_come r left) held) (sym e) (begins p ok left (told_bytes held) hall stands held (some_bytes held k))
+
+  pub stops_at_once : (s : Script) (held : Option (List ℕ)) → IsSome held → StopsEarly p s (told_bytes held) held
+  stops_at_once s held k = record {
+    done = [];
+    rest = s.lines;
+    lines = refl;
+    plays = plays_by p ok [] [] (told_bytes held) [] held (some_bytes held k ∙ ap Some (sym (append-nil (told_bytes held)))) (nothing_printed p ok [] p.begin);
+  }

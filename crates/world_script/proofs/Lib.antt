@@ -8,3 +8,5 @@ pub mod EndLaws
 pub mod FormLaws
 pub mod Printed
 pub mod StepLaws
+pub mod Beginning
+pub mod LineLaws

@@ -1,5 +1,5 @@
 -- What a step makes of a hall, and what it prints, by the parts that are put together.
-use Rattle.std.proofs.Common.{◌≡◌, ℕ, Bool, true, false, ◌&&◌, List, [], ◌∷◌, ◌++◌, length, map, Option, Some, None, Result, Ok, Err, OnOk, refl, sym, ap, subst, ◌∙◌, append_assoc, append-nil}
+use Rattle.std.proofs.Common.{◌≡◌, ℕ, Bool, true, false, ◌&&◌, List, [], ◌∷◌, ◌++◌, map, Option, Some, None, Result, Ok, Err, OnOk, refl, sym, ap, ◌∙◌, append_assoc, append-nil}
 use Rattle.std.specs.List.{concat, flat_map, list_all}
 use Rattle.std.proofs.lemmas.Grind.{flat_map-append}
 use Rattle.any_game.specs.AnyRules.{any_rules, named}
@@ -20,7 +20,7 @@ use Rattle.room_history.specs.Room.{room_of}
 use Rattle.room_history.specs.Session.{Session, bye_lines, detach_reply, latest_state, latest_take_reply, session_state, stream_of, take_reply_in}
 use Rattle.room_history.specs.declared.call.RoomCall.TheVariants as call
 use Rattle.room_history.specs.declared.reply.RoomReply.{RoomReply}
-use Rattle.serde_json.specs.Data.{Data, null, object}
+use Rattle.serde_json.specs.Data.{object}
 use Rattle.serde_json.specs.Written.{compact_text}
 use Rattle.wire_json.specs.ServerText.{server_members, text}
 use Rattle.wire_json.specs.declared.server.ServerMsg.{ServerMsg}
@@ -38,8 +38,8 @@ use Rattle.session_hall.specs.Held.{HeldHall, StandsForHall}
 use Rattle.session_hall.specs.Opens.{made_by}
 use Rattle.session_hall.specs.declared.tally.Tally.{Tally}
 use Rattle.world_script.specs.Printing.{end_text, reply_text}
-use Rattle.world_script.specs.Running.{Does}
-use Rattle.world_script.specs.ScriptSteps.{done_by}
+use Rattle.world_script.specs.Play.{Does}
+use Rattle.world_script.specs.ScriptPlay.{script_play}
 
 -- ---- texts that are lines
 
@@ -142,7 +142,7 @@ detach_prints h pass taker (Some room) = detach_text pass (latest_state ((room_o
 
 -- a text was added, unless there was no memory
 pub does_by : {A E : Type 0} (r : Result A E) (h : Hall GameKind) (step : Step) (hall : HeldHall) (before after added : List ℕ)
-    → (after ≡ before ++ added → Does h step hall before after) → OnOk r (after ≡ before ++ added) → OnOk r (Does h step hall before after)
+    → (after ≡ before ++ added → Does script_play h step hall before after) → OnOk r (after ≡ before ++ added) → OnOk r (Does script_play h step hall before after)
 does_by (Ok x) h step hall before after added f e = f e
 does_by (Err x) h step hall before after added f e = e
 
@@ -151,16 +151,16 @@ same_added (Ok x) before after added other e f = f ∙ ap (λ t. before ++ t) e
 same_added (Err x) before after added other e f = f
 
 module _ (h : Hall GameKind) (hall : HeldHall) (before after : List ℕ) where
-  pub did_nothing : StandsForHall hall_tape hall h → after ≡ before → Does h Nothing hall before after
-  unfolding done_by
+  pub did_nothing : StandsForHall hall_tape hall h → after ≡ before → Does script_play h Nothing hall before after
+  unfolding script_play
   did_nothing s e = record { mark = Served; stands = s; added = e ∙ sym (append-nil before) }
 
-  pub seeded : (seed : List ℕ) → StandsForHall hall_tape hall (record h { seed = Some seed }) → after ≡ before → Does h (Seeds seed) hall before after
-  unfolding done_by
+  pub seeded : (seed : List ℕ) → StandsForHall hall_tape hall (record h { seed = Some seed }) → after ≡ before → Does script_play h (Seeds seed) hall before after
+  unfolding script_play
   seeded seed s e = record { mark = Served; stands = s; added = e ∙ sym (append-nil before) }
 
-  pub opened : (game : List ℕ) (seats : ℕ) (made : Option Name) → answered.Opens hall_tape h game seats hall made → after ≡ before ++ made_text made → Does h (Opens game seats) hall before after
-  unfolding done_by
+  pub opened : (game : List ℕ) (seats : ℕ) (made : Option Name) → answered.Opens hall_tape h game seats hall made → after ≡ before ++ made_text made → Does script_play h (Opens game seats) hall before after
+  unfolding script_play
   opened game seats made r e = record {
     mark = Served;
     stands = r.stands;
@@ -168,24 +168,24 @@ module _ (h : Hall GameKind) (hall : HeldHall) (before after : List ℕ) where
   }
 
   pub heard : (pass : ℕ) (line said : List ℕ) (again : Bool) (tally : Tally) → HearsLine hall_tape h pass line hall said again tally → after ≡ before ++ all_to_session pass said
-      → Does h (Says pass line) hall before after
-  unfolding done_by
+      → Does script_play h (Says pass line) hall before after
+  unfolding script_play
   heard pass line said again tally r e = record {
     mark = r.mark;
     stands = r.stands;
     added = e ∙ ap (λ s. before ++ all_to_session pass s) r.text ∙ ap (λ t. before ++ t) (answered_is pass (after_line named any_rules hall_tape r.mark h pass line).1);
   }
 
-  pub took : (pass : ℕ) (told : Option RoomReply) → Frees hall_tape h pass call.Take hall told → after ≡ before ++ reply_text pass told → Does h (Takes pass) hall before after
-  unfolding done_by
+  pub took : (pass : ℕ) (told : Option RoomReply) → Frees hall_tape h pass call.Take hall told → after ≡ before ++ reply_text pass told → Does script_play h (Takes pass) hall before after
+  unfolding script_play
   took pass told r e = record {
     mark = Served;
     stands = r.stands;
     added = e ∙ ap (λ o. before ++ reply_text pass o) r.reply ∙ ap (λ t. before ++ t) (take_prints h pass pass (h.at pass));
   }
 
-  pub detached : (pass : ℕ) (told : Option RoomReply) → Frees hall_tape h pass call.Detach hall told → after ≡ before ++ reply_text pass told → Does h (Detaches pass) hall before after
-  unfolding done_by
+  pub detached : (pass : ℕ) (told : Option RoomReply) → Frees hall_tape h pass call.Detach hall told → after ≡ before ++ reply_text pass told → Does script_play h (Detaches pass) hall before after
+  unfolding script_play
   detached pass told r e = record {
     mark = Served;
     stands = r.stands;

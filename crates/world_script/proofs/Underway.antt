@@ -1,18 +1,13 @@
--- What a run of a script has come to, before its next line.
+-- What a run has come to, before its next line.
 use Rattle.std.proofs.Common.{◌≡◌, ℕ, true, false, List, [], ◌∷◌, ◌++◌, length, Option, Some, refl, sym, ap, ◌∙◌, append_assoc, append-nil}
 use Rattle.std.proofs.lemmas.Bool.{true≢false}
-use Rattle.any_game.specs.GameKind.{GameKind}
-use Rattle.hall_history.specs.Hall.{Hall, new_hall}
 use Rattle.hall_history.specs.Mark.{Mark}
-use Rattle.hall_history.specs.Tapes.{hall_tape}
-use Rattle.session_hall.specs.Held.{HeldHall, StandsForHall}
 use Rattle.world_script.specs.Reader.{Reader, fresh, whole_to_come}
 use Rattle.world_script.specs.Reading.{Moves}
 use Rattle.world_script.specs.ScriptLines.{Script, Ended, no_lines, no_whole_line, script, whole_lines, lines_from}
-use Rattle.world_script.specs.ScriptSteps.{bad_from, rooms_of_script}
+use Rattle.world_script.specs.Play.{Play, bad_from, printed}
 use Rattle.world_script.specs.declared.next.Next.TheVariants.{Line, ReadFault}
 use Rattle.world_script.proofs.Moving.{none_after}
-use Rattle.world_script.proofs.Playing.{printed}
 use Rattle.world_script.proofs.Steps.{ending}
 
 abbrev pub with_lines : List (List ℕ) → Script → Script
@@ -25,21 +20,21 @@ pub record HasRead (bytes : List ℕ) (done : List (List ℕ)) (reader : Reader)
   pub at_end : reader.ended ≡ true → left ≡ []
   pub whole : reader.ended ≡ false → (more : List ℕ) → whole_lines (read ++ more) ≡ with_lines done (whole_to_come reader more)
 
--- the lines that were run, with a mark of each, the hall that they made, and what they added. Whatever lines are still to come, the
+-- the lines that were run, with a mark of each, the state that they made, and what they added. Whatever lines are still to come, the
 -- transcript is what was added, and then what those print from here on.
-pub record Underway (bytes before : List ℕ) (hall : HeldHall) (given : ℕ) (reader : Reader) (left : List ℕ) (rest : Script) (held : Option (List ℕ)) : Type 0 where
-  pub h : Hall GameKind
+pub record Underway {Step State Held : Type 0} (p : Play Step State Held) (bytes before : List ℕ) (hall : Held) (given : ℕ) (reader : Reader) (left : List ℕ) (rest : Script) (held : Option (List ℕ)) : Type 0 where
+  pub h : State
   pub marks : List Mark
   pub done : List (List ℕ)
   pub gained : List ℕ
-  pub stands : StandsForHall hall_tape hall h
+  pub stands : p.Stands hall h
   pub read : HasRead bytes done reader left
   pub lines : (script bytes).lines ≡ done ++ rest.lines
   pub ending : (script bytes).ending ≡ rest.ending
   pub added : held ≡ Some (before ++ gained)
   pub counted : given ≡ length done
-  pub so_far : (ms : List Mark) (more : List (List ℕ)) → printed (marks ++ ms) (done ++ more) (new_hall rooms_of_script) ≡ gained ++ printed ms more h
-  pub bad : (more : List (List ℕ)) → bad_from 0 (done ++ more) ≡ bad_from given more
+  pub so_far : (ms : List Mark) (more : List (List ℕ)) → printed p (marks ++ ms) (done ++ more) p.begin ≡ gained ++ printed p ms more h
+  pub bad : (more : List (List ℕ)) → bad_from p.form 0 (done ++ more) ≡ bad_from p.form given more
 
 pub nothing_read : (bytes : List ℕ) → HasRead bytes [] fresh bytes
 nothing_read bytes = record { read = []; first_part = refl; at_end = λ e. absurd (true≢false (sym e)); whole = λ e more. refl }

@@ -4,6 +4,11 @@ pub mod Reading
 pub mod Forms
 pub mod StepIs
 pub mod Printing
-pub mod ScriptSteps
-pub mod Sessions
+pub mod Play
 pub mod Running
+pub mod Sessions
+pub mod ScriptPlay
+pub mod ScriptLaws
+pub mod Deliveries
+pub mod WorldPlay
+pub mod WorldLaws

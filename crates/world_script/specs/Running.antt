@@ -1,123 +1,111 @@
--- How a run of a script ends, beside the script that was read and the bytes that the sink held before and holds after. The marks, which
--- say how the lines of sessions went, are those of this run.
+-- How a run ends, beside the lines that were read and the bytes that the sink held before and holds after. The marks, which say how the
+-- lines of sessions went, are those of this run.
 use Rattle.std.specs.Prelude.{◌≡◌, ◌+◌, ℕ, List, [], ◌++◌, length, take, Option, Some, None}
-use Rattle.any_game.specs.GameKind.{GameKind}
 use Rattle.board_links.specs.Faults.{HasRisen}
-use Rattle.hall_history.specs.Hall.{Hall}
 use Rattle.hall_history.specs.Mark.{Mark}
-use Rattle.hall_history.specs.Script.{Step}
-use Rattle.hall_history.specs.Tapes.{hall_tape}
-use Rattle.session_hall.specs.Held.{HeldHall, StandsForHall}
-use Rattle.world_script.specs.Forms.{step_of}
+use Rattle.world_script.specs.Play.{Play, bad_line, transcript_of}
 use Rattle.world_script.specs.ScriptLines.{Script, Ending, Ended, script, whole_lines}
 use Rattle.world_script.specs.ScriptLines as script
-use Rattle.world_script.specs.ScriptSteps.{bad_line, done_by, transcript_of}
-use Rattle.world_script.specs.Sessions.{TellsSessions}
 use Rattle.world_script.specs.declared.exit.Exit.{Exit}
 use Rattle.world_script.specs.declared.exit.Exit.TheVariants.{Done, Usage, ReadFault, WriteFault, BadLine, TooLong, TooMany, NoMemory}
 use Rattle.world_script.specs.declared.next.Next.{Next}
 use Rattle.world_script.specs.declared.next.Next.TheVariants as next
-use Rattle.world_script.specs.declared.script.LineStatus.{LineStatus}
-use Rattle.world_script.specs.declared.script.LineStatus.TheVariants as status
+use Rattle.world_script.specs.declared.run.LineStatus.{LineStatus}
+use Rattle.world_script.specs.declared.run.LineStatus.TheVariants as status
 
--- lines were played up to the first in no form, and their transcript was added
-pub record Plays (lines : List (List ℕ)) (before : List ℕ) (after : Option (List ℕ)) : Type 0 where
-  pub marks : List Mark
-  pub added : after ≡ Some (before ++ transcript_of marks lines)
-  pub sessions : TellsSessions marks lines
+module _ {Step State Held : Type 0} (p : Play Step State Held) where
+  -- lines were played up to the first in no form, and their transcript was added
+  pub record Plays (lines : List (List ℕ)) (before : List ℕ) (after : Option (List ℕ)) : Type 0 where
+    pub marks : List Mark
+    pub added : after ≡ Some (before ++ transcript_of p marks lines)
+    pub tells : p.Tells marks lines
 
--- the reading of the script came to this ending, and each line before it is in form and was played
-pub record PlaysAll (s : Script) (ending : Ending) (before : List ℕ) (after : Option (List ℕ)) : Type 0 where
-  pub ends : s.ending ≡ ending
-  pub no_bad_line : bad_line s.lines ≡ None
-  pub plays : Plays s.lines before after
+  -- the reading of the script came to this ending, and each line before it is in form and was played
+  pub record PlaysAll (s : Script) (ending : Ending) (before : List ℕ) (after : Option (List ℕ)) : Type 0 where
+    pub ends : s.ending ≡ ending
+    pub no_bad_line : bad_line p.form s.lines ≡ None
+    pub plays : Plays s.lines before after
 
--- the script was read to its end
-pub record RunsToEnd (bytes left before : List ℕ) (after : Option (List ℕ)) : Type 0 where
-  pub all_read : left ≡ []
-  pub plays : PlaysAll (script bytes) Ended before after
+  -- the script was read to its end
+  pub record RunsToEnd (bytes left before : List ℕ) (after : Option (List ℕ)) : Type 0 where
+    pub all_read : left ≡ []
+    pub plays : PlaysAll (script bytes) Ended before after
 
--- the line after the last one has more bytes than a line may have
-pub record StopsAtLong (s : Script) (line : ℕ) (before : List ℕ) (after : Option (List ℕ)) : Type 0 where
-  pub plays : PlaysAll s script.TooLong before after
-  pub numbered : line ≡ length s.lines + 1
+  -- the line after the last one has more bytes than a line may have
+  pub record StopsAtLong (s : Script) (line : ℕ) (before : List ℕ) (after : Option (List ℕ)) : Type 0 where
+    pub plays : PlaysAll s script.TooLong before after
+    pub numbered : line ≡ length s.lines + 1
 
--- this line is the first in no form, and those before it were played
-pub record StopsAtBad (s : Script) (line : ℕ) (before : List ℕ) (after : Option (List ℕ)) : Type 0 where
-  pub first_bad : bad_line s.lines ≡ Some line
-  pub plays : Plays s.lines before after
+  -- this line is the first in no form, and those before it were played
+  pub record StopsAtBad (s : Script) (line : ℕ) (before : List ℕ) (after : Option (List ℕ)) : Type 0 where
+    pub first_bad : bad_line p.form s.lines ≡ Some line
+    pub plays : Plays s.lines before after
 
--- the source gave these first bytes and no more; each of their whole lines is in form and was played
-pub record StopsAtFault (bytes left before : List ℕ) (after : Option (List ℕ)) : Type 0 where
-  pub read : List ℕ
-  pub first_part : bytes ≡ read ++ left
-  pub plays : PlaysAll (whole_lines read) Ended before after
+  -- the source gave these first bytes and no more; each of their whole lines is in form and was played
+  pub record StopsAtFault (bytes left before : List ℕ) (after : Option (List ℕ)) : Type 0 where
+    pub read : List ℕ
+    pub first_part : bytes ≡ read ++ left
+    pub plays : PlaysAll (whole_lines read) Ended before after
 
--- some first lines of the script were played, and no further one
-pub record StopsEarly (s : Script) (before : List ℕ) (after : Option (List ℕ)) : Type 0 where
-  pub done : List (List ℕ)
-  pub rest : List (List ℕ)
-  pub lines : s.lines ≡ done ++ rest
-  pub plays : Plays done before after
+  -- some first lines of the script were played, and no further one
+  pub record StopsEarly (s : Script) (before : List ℕ) (after : Option (List ℕ)) : Type 0 where
+    pub done : List (List ℕ)
+    pub rest : List (List ℕ)
+    pub lines : s.lines ≡ done ++ rest
+    pub plays : Plays done before after
 
--- a first part of the transcript was added
-pub record BreaksOff (s : Script) (before : List ℕ) (after : Option (List ℕ)) : Type 0 where
-  pub marks : List Mark
-  pub printed_bytes : List ℕ
-  pub missing : List ℕ
-  pub whole : printed_bytes ++ missing ≡ transcript_of marks s.lines
-  pub added : after ≡ Some (before ++ printed_bytes)
+  -- a first part of the transcript was added
+  pub record BreaksOff (s : Script) (before : List ℕ) (after : Option (List ℕ)) : Type 0 where
+    pub marks : List Mark
+    pub printed_bytes : List ℕ
+    pub missing : List ℕ
+    pub whole : printed_bytes ++ missing ≡ transcript_of p marks s.lines
+    pub added : after ≡ Some (before ++ printed_bytes)
 
--- how a run ends, by the bytes that the source had left before it and has left after it
-abbrev pub Ends : List ℕ → List ℕ → List ℕ → Option (List ℕ) → Exit → Type 0
-Ends bytes left before after Done = RunsToEnd bytes left before after
-Ends bytes left before after (BadLine line) = StopsAtBad (script bytes) line before after
-Ends bytes left before after (TooLong line) = StopsAtLong (script bytes) line before after
-Ends bytes left before after TooMany = PlaysAll (script bytes) script.TooMany before after
-Ends bytes left before after WriteFault = BreaksOff (script bytes) before after
-Ends bytes left before after ReadFault = StopsAtFault bytes left before after
-Ends bytes left before after NoMemory = StopsEarly (script bytes) before after
-Ends bytes left before after Usage = ⊥
+  -- how a run ends, by the bytes that the source had left before it and has left after it
+  abbrev pub Ends : List ℕ → List ℕ → List ℕ → Option (List ℕ) → Exit → Type 0
+  Ends bytes left before after Done = RunsToEnd bytes left before after
+  Ends bytes left before after (BadLine line) = StopsAtBad (script bytes) line before after
+  Ends bytes left before after (TooLong line) = StopsAtLong (script bytes) line before after
+  Ends bytes left before after TooMany = PlaysAll (script bytes) script.TooMany before after
+  Ends bytes left before after WriteFault = BreaksOff (script bytes) before after
+  Ends bytes left before after ReadFault = StopsAtFault bytes left before after
+  Ends bytes left before after NoMemory = StopsEarly (script bytes) before after
+  Ends bytes left before after Usage = ⊥
 
--- all lines of the bytes are in form and within the limits
-pub record AreInForm (bytes : List ℕ) : Type 0 where
-  pub within : (script bytes).ending ≡ Ended
-  pub in_form : bad_line (script bytes).lines ≡ None
+  -- all lines of the bytes are in form and within the limits
+  pub record AreInForm (bytes : List ℕ) : Type 0 where
+    pub within : (script bytes).ending ≡ Ended
+    pub in_form : bad_line p.form (script bytes).lines ≡ None
+
+  -- a line in form was done and printed what it says
+  pub record RanOn (h : State) (line : List ℕ) (hall : Held) (held : List ℕ) (after : Option (List ℕ)) : Type 0 where
+    pub mark : Mark
+    pub step : Step
+    pub in_form : p.form line ≡ Some step
+    pub stands : p.Stands hall (p.does mark step h).0
+    pub added : after ≡ Some (held ++ (p.does mark step h).1)
+
+  -- a line in form printed a first part of what it says
+  pub record StoppedIn (h : State) (line : List ℕ) (held : List ℕ) (after : Option (List ℕ)) : Type 0 where
+    pub mark : Mark
+    pub step : Step
+    pub in_form : p.form line ≡ Some step
+    pub printed_bytes : ℕ
+    pub added : after ≡ Some (held ++ take printed_bytes (p.does mark step h).1)
+
+  -- what one line came to, after a state and with these bytes held
+  abbrev pub RanLine : State → List ℕ → Held → List ℕ → Option (List ℕ) → LineStatus → Type 0
+  RanLine h line hall held after status.Done = RanOn h line hall held after
+  RanLine h line hall held after status.BadLine = (p.form line ≡ None) × (after ≡ Some held)
+  RanLine h line hall held after status.WriteFault = StoppedIn h line held after
+  RanLine h line hall held after status.NoMemory = after ≡ Some held
 
 -- a run came to its end, or there was no memory
 abbrev pub IsComplete : Exit → Type 0
 IsComplete Done = Unit {0}
 IsComplete NoMemory = Unit {0}
 IsComplete other = ⊥
-
--- a step was done after a hall, and what it prints was added to a text
-pub record Does (h : Hall GameKind) (step : Step) (hall : HeldHall) (before after : List ℕ) : Type 0 where
-  pub mark : Mark
-  pub stands : StandsForHall hall_tape hall (done_by mark step h).0
-  pub added : after ≡ before ++ (done_by mark step h).1
-
--- a line in form was done and printed what it says
-pub record RanOn (h : Hall GameKind) (line : List ℕ) (hall : HeldHall) (held : List ℕ) (after : Option (List ℕ)) : Type 0 where
-  pub mark : Mark
-  pub step : Step
-  pub in_form : step_of line ≡ Some step
-  pub stands : StandsForHall hall_tape hall (done_by mark step h).0
-  pub added : after ≡ Some (held ++ (done_by mark step h).1)
-
--- a line in form printed a first part of what it says
-pub record StoppedIn (h : Hall GameKind) (line : List ℕ) (held : List ℕ) (after : Option (List ℕ)) : Type 0 where
-  pub mark : Mark
-  pub step : Step
-  pub in_form : step_of line ≡ Some step
-  pub printed_bytes : ℕ
-  pub added : after ≡ Some (held ++ take printed_bytes (done_by mark step h).1)
-
--- what one line came to, after a hall and with these bytes held
-abbrev pub RanLine : Hall GameKind → List ℕ → HeldHall → List ℕ → Option (List ℕ) → LineStatus → Type 0
-RanLine h line hall held after status.Done = RanOn h line hall held after
-RanLine h line hall held after status.BadLine = (step_of line ≡ None) × (after ≡ Some held)
-RanLine h line hall held after status.WriteFault = StoppedIn h line held after
-RanLine h line hall held after status.NoMemory = after ≡ Some held
 
 -- the count of faults rose where a line ended in a fault, and stayed where it didn't
 abbrev pub LineRaises : LineStatus → ℕ → ℕ → Type 0

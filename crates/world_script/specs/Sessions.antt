@@ -12,15 +12,20 @@ use Rattle.hall_history.specs.Rooms.{History, history_of}
 use Rattle.hall_history.specs.Script.{script_hall}
 use Rattle.hall_history.specs.Tapes.{hall_tape}
 use Rattle.hall_history.specs.Told.{handed_out}
-use Rattle.world_script.specs.ScriptSteps.{rooms_of_script, steps_of}
+use Rattle.world_script.specs.Forms.{step_of}
+use Rattle.world_script.specs.Play.{steps_of}
+
+-- how many rooms a script has
+abbrev pub rooms_of_script : ℕ
+rooms_of_script = 8
 
 -- a room's history after these lines
 unfoldable pub room_after : List Mark → List (List ℕ) → ℕ → History GameKind
-room_after marks lines room = history_of (script_hall named any_rules hall_tape rooms_of_script marks (steps_of lines)).rooms room
+room_after marks lines room = history_of (script_hall named any_rules hall_tape rooms_of_script marks (steps_of step_of lines)).rooms room
 
 -- the bytes of the lines that Takes print for the session that a pass began with its attaching number j in a room
 unfoldable pub printed_for : List Mark → List (List ℕ) → ℕ → ℕ → ℕ → List ℕ
-printed_for marks lines room pass j = handed_out named any_rules hall_tape pass room j marks (steps_of lines) (new_hall rooms_of_script)
+printed_for marks lines room pass j = handed_out named any_rules hall_tape pass room j marks (steps_of step_of lines) (new_hall rooms_of_script)
 
 -- for each session the lines that it is sent are printed, and they are those that any session alike is sent, whatever else its room's
 -- history holds

@@ -2,7 +2,7 @@ use Rattle.std.proofs.Common.{◌≡◌, ◌+◌, refl, sym, ap, ◌∙◌, arit
 use Rattle.board_links.specs.Pieces.{told_bytes}
 use Rattle.world_script.specs.Reading.{given_after}
 use Rattle.world_script.proofs.EndLaws.{line_is, stop_raises, end_raises, end_stays, stop_ends, stop_stays, begins_with, line_ends, line_runs}
-use Rattle.world_script.proofs.script.play.Goals as goal
+use Rattle.world_script.proofs.run.run_lines.Goals as goal
 
 pub lines-init : goal.lines-init
 lines-init g c = record {
@@ -10,7 +10,7 @@ lines-init g c = record {
   sink_stays = refl;
   source_tells = λ p. p;
   sink_tells = λ p. p;
-  underway = λ p k. begins_with (told_bytes (g.S.Source.left c.args.source.now)) c.args.hall.now c.requires (g.K.Sink.held c.args.sink.now) k
+  underway = λ p k. begins_with g.I.Interpreter.play g.met.I.Interpreter.one_by_one (told_bytes (g.S.Source.left c.args.source.now)) c.args.interpreter.now c.requires (g.K.Sink.held c.args.sink.now) k
       c.new-lines.result c.new-lines.ensures;
 }
 
@@ -29,7 +29,7 @@ returns-in-Some-clause-raises g c =
 
 pub returns-in-Some-clause-ends : goal.returns-in-Some-clause-ends
 returns-in-Some-clause-ends g c = λ p k.
-    stop_ends _ _ c.lines.hall c.lines.lines.given c.lines.lines _ _ (c.lines.invariant.underway p k) c.next_line-next.result c.next_line-next.new.self.line c.next_line-next.new.self _
+    stop_ends g.I.Interpreter.play g.met.I.Interpreter.one_by_one _ _ c.lines.interpreter c.lines.lines.given c.lines.lines _ _ (c.lines.invariant.underway p k) c.next_line-next.result c.next_line-next.new.self.line c.next_line-next.new.self _
     c.in-Some.exit c.given.result (c.next_line-next.ensures.moves (c.lines.invariant.source_tells p)) c.next_line-next.ensures.stands (c.given.ensures.value ∙ c.next_line-next.ensures.given) (sym c.stop_at.ensures ∙ c.in-Some.is)
 
 pub returns-in-Some-end_at-clause-source_never_falls : goal.returns-in-Some-end_at-clause-source_never_falls
@@ -45,9 +45,9 @@ returns-in-Some-end_at-clause-raises g c =
 
 pub returns-in-Some-end_at-clause-ends : goal.returns-in-Some-end_at-clause-ends
 returns-in-Some-end_at-clause-ends g c = λ p k.
-    line_ends _ _ c.lines.hall c.lines.lines.given c.lines.lines _ _ (c.lines.invariant.underway p k) c.next_line-next.result c.given.result c.next_line-next.new.self.line c.next_line-next.new.self _
+    line_ends g.I.Interpreter.play g.met.I.Interpreter.one_by_one _ _ c.lines.interpreter c.lines.lines.given c.lines.lines _ _ (c.lines.invariant.underway p k) c.next_line-next.result c.given.result c.next_line-next.new.self.line c.next_line-next.new.self _
     (c.next_line-next.ensures.moves (c.lines.invariant.source_tells p)) (sym c.stop_at.ensures ∙ c.in_default.is)
-    c.line.result.now c.line.ensures c.run_line-ran.new.hall _ c.run_line-ran.result c.in-Some-end_at.exit c.given-in-lines.result
+    c.line.result.now c.line.ensures c.run_line-ran.new.interpreter _ c.run_line-ran.result c.in-Some-end_at.exit c.given-in-lines.result
     (c.run_line-ran.ensures.ran (c.lines.invariant.sink_tells k))
     (c.given-in-lines.ensures.value ∙ c.next_line-next.ensures.given) (sym c.end_at.ensures ∙ c.in-Some-end_at.is)
 
@@ -67,9 +67,9 @@ lines-preserved g c = record {
   source_tells = λ p. c.next_line-next.ensures.tells (c.lines.invariant.source_tells p);
   sink_tells = λ k. c.run_line-ran.ensures.told (c.lines.invariant.sink_tells k);
   underway = λ p k.
-      line_runs _ _ c.lines.hall c.lines.lines.given c.lines.lines _ _ (c.lines.invariant.underway p k) c.next_line-next.result c.given.result c.next_line-next.new.self.line c.next_line-next.new.self _
+      line_runs g.I.Interpreter.play g.met.I.Interpreter.one_by_one _ _ c.lines.interpreter c.lines.lines.given c.lines.lines _ _ (c.lines.invariant.underway p k) c.next_line-next.result c.given.result c.next_line-next.new.self.line c.next_line-next.new.self _
       (c.next_line-next.ensures.moves (c.lines.invariant.source_tells p)) (sym c.stop_at.ensures ∙ c.in_default.is)
-      c.line.result.now c.line.ensures c.run_line-ran.new.hall _ c.run_line-ran.result c.given-in-lines.result c.next_line-next.new.self.given
+      c.line.result.now c.line.ensures c.run_line-ran.new.interpreter _ c.run_line-ran.result c.given-in-lines.result c.next_line-next.new.self.given
       (c.run_line-ran.ensures.ran (c.lines.invariant.sink_tells k))
       c.next_line-next.ensures.given (sym c.end_at.ensures ∙ c.in_default-end_at.is);
 }

@@ -2,7 +2,7 @@ use Rattle.std.proofs.Common.{◌≡◌, ◌-◌, IsSome}
 use Rattle.board_links.specs.Pieces.{told_bytes}
 use Rattle.world_script.specs.Reader.{to_come}
 use Rattle.world_script.proofs.Underway.{Underway}
-use Rattle.world_script.proofs.script.play.Given as goal
+use Rattle.world_script.proofs.run.run_lines.Given as goal
 
 -- no count of faults rose, and where source and sink tell, the transcript is what was added and what is still to come
 abbrev pub invariant-lines : goal.invariant-lines
@@ -12,7 +12,7 @@ invariant-lines g l = record {
   source_tells : IsSome (g.S.Source.left l.initial.source) → IsSome (g.S.Source.left l.source);
   sink_tells : IsSome (g.K.Sink.held l.initial.sink) → IsSome (g.K.Sink.held l.sink);
   underway : IsSome (g.S.Source.left l.initial.source) → IsSome (g.K.Sink.held l.initial.sink)
-      → Underway (told_bytes (g.S.Source.left l.initial.source)) (told_bytes (g.K.Sink.held l.initial.sink)) l.hall l.lines.given l.lines (told_bytes (g.S.Source.left l.source))
+      → Underway g.I.Interpreter.play (told_bytes (g.S.Source.left l.initial.source)) (told_bytes (g.K.Sink.held l.initial.sink)) l.interpreter l.lines.given l.lines (told_bytes (g.S.Source.left l.source))
       (to_come l.lines (told_bytes (g.S.Source.left l.source))) (g.K.Sink.held l.sink);
 }
 

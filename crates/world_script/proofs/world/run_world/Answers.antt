@@ -1,0 +1,13 @@
+use Rattle.board_links.specs.Pieces.{told_bytes}
+use Rattle.world_script.specs.WorldLaws.{world_is_played}
+use Rattle.world_script.specs.ScriptLines.{script}
+use Rattle.world_script.specs.WorldPlay.{world_play}
+use Rattle.world_script.proofs.Beginning.{world_begins}
+use Rattle.world_script.proofs.EndLaws.{stops_at_once}
+use Rattle.world_script.proofs.world.run_world.Goals as goal
+
+pub returns-in-Err-clause-ends : goal.returns-in-Err-clause-ends
+returns-in-Err-clause-ends g c = λ l k. stops_at_once world_play world_is_played (script (told_bytes (g.S.Source.left c.args.source.now))) (g.K.Sink.held c.args.sink.now) k
+
+pub run_lines-exit-requires : goal.run_lines-exit-requires
+run_lines-exit-requires g c = world_begins c.in-Ok.world c.in-Ok.ensures

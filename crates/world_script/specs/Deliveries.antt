@@ -1,0 +1,41 @@
+-- What Takes put on the down links of clients along a world.
+use Rattle.std.specs.Prelude.{◌≡◌, ℕ, List, Some}
+use Rattle.std.specs.List.{concat}
+use Rattle.any_game.specs.AnyRules.{any_rules, named}
+use Rattle.any_game.specs.GameKind.{GameKind}
+use Rattle.any_game.specs.declared.any_g.AnyG.{AnyG}
+use Rattle.client_world.specs.Reading.{world_step_of}
+use Rattle.room_history.specs.Alike.{AreAlike}
+use Rattle.room_history.specs.Room.{session}
+use Rattle.room_history.specs.Session.{Session}
+use Rattle.hall_history.specs.Mark.{Mark}
+use Rattle.hall_history.specs.Rooms.{History, history_of}
+use Rattle.hall_history.specs.Tapes.{hall_tape}
+use Rattle.hall_history.specs.World.{World, new_world}
+use Rattle.hall_history.specs.WorldScript.{runs_world}
+use Rattle.hall_history.specs.WorldTold.{delivered}
+use Rattle.world_script.specs.Play.{steps_of}
+
+-- how many rooms a world has
+abbrev pub rooms_of_world : ℕ
+rooms_of_world = 8
+
+abbrev pub first_world : World GameKind AnyG
+first_world = new_world rooms_of_world
+
+-- a room's history after these lines
+unfoldable pub world_room_after : List Mark → List (List ℕ) → ℕ → History GameKind
+world_room_after marks lines room = history_of (runs_world named any_rules hall_tape marks (steps_of world_step_of lines) first_world).0.hall.rooms room
+
+-- the bytes of the lines that Takes put on a down link for the session that a pass began with its attaching number j in a room
+unfoldable pub delivered_for : List Mark → List (List ℕ) → ℕ → ℕ → ℕ → List ℕ
+delivered_for marks lines room pass j = delivered named any_rules hall_tape pass room j marks (steps_of world_step_of lines) first_world
+
+-- for each session the lines that it is sent go on its client's down link, and they are those that any session alike is sent, whatever
+-- else its room's history holds
+pub record DeliversLines (marks : List Mark) (lines : List (List ℕ)) : Type 0 where
+  pub sent : (room pass j : ℕ) (s : Session) → session any_rules room (world_room_after marks lines room) pass j ≡ Some s
+      → delivered_for marks lines room pass j ≡ concat s.sent
+  pub alike : (room pass j : ℕ) (s : Session) → session any_rules room (world_room_after marks lines room) pass j ≡ Some s
+      → (other_room : ℕ) (h : History GameKind) (other i : ℕ) (t : Session) → session any_rules other_room h other i ≡ Some t → AreAlike s t
+      → delivered_for marks lines room pass j ≡ concat t.sent

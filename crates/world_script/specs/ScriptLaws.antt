@@ -1,0 +1,22 @@
+-- A script's steps are run one by one.
+use Rattle.std.proofs.Common.{ℕ, List, refl, sym}
+use Rattle.any_game.specs.AnyRules.{any_rules, named}
+use Rattle.hall_history.specs.Mark.{Mark}
+use Rattle.hall_history.specs.Tapes.{hall_tape}
+use Rattle.hall_history.proofs.Clauses.{all_handed, alike_handed}
+use Rattle.world_script.specs.Forms.{step_of}
+use Rattle.world_script.specs.Play.{IsPlay, steps_of}
+use Rattle.world_script.specs.ScriptPlay.{script_play}
+use Rattle.world_script.specs.Sessions.{TellsSessions, printed_for, room_after, rooms_of_script}
+
+tells : (marks : List Mark) (lines : List (List ℕ)) → TellsSessions marks lines
+unfolding printed_for room_after
+tells marks lines = record {
+  sent = λ room pass j s e. sym (all_handed any_rules named hall_tape rooms_of_script marks (steps_of step_of lines) pass room j s e);
+  alike = λ room pass j s e other_room h other i t f a.
+      alike_handed any_rules any_rules named hall_tape rooms_of_script marks (steps_of step_of lines) pass room j s e other_room h other i t f a;
+}
+
+pub script_is_played : IsPlay script_play
+unfolding script_play
+script_is_played = record { none = λ marks h. refl; more = λ mark marks step steps h. refl; tells = tells }
