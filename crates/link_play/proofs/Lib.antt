@@ -1,0 +1,9 @@
+pub mod Askable
+pub mod SentLines
+pub mod Pieces
+pub mod Actions
+pub mod Sittings
+pub mod Exiting
+pub mod Planning
+pub mod Underway
+pub mod Ending

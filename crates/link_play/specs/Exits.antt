@@ -1,0 +1,35 @@
+-- How what comes of a line, and of its reading, ends a run.
+use Rattle.std.specs.Prelude.{ℕ, ◌+◌, Option, Some, None}
+use Rattle.world_script.specs.declared.next.Next.{Next}
+use Rattle.world_script.specs.declared.next.Next.TheVariants as next
+use Rattle.link_play.specs.declared.exit.Exit.{Exit}
+use Rattle.link_play.specs.declared.exit.Exit.TheVariants.{Done, ReadFault, WriteFault, BadLine, TooLong, TooMany, NoMemory, LinkFault, LinkEnded, LinkLong}
+use Rattle.link_play.specs.declared.stop.LineStatus.{LineStatus}
+use Rattle.link_play.specs.declared.stop.LineStatus.TheVariants as status
+use Rattle.link_play.specs.declared.stop.Stop.{Stop}
+use Rattle.link_play.specs.declared.stop.Stop.TheVariants as stop
+
+-- the end where a command was broken off
+abbrev pub stopped : Stop → Exit
+stopped stop.WriteFault = WriteFault
+stopped stop.LinkFault = LinkFault
+stopped stop.LinkEnded = LinkEnded
+stopped stop.LinkLong = LinkLong
+stopped stop.NoMemory = NoMemory
+
+-- the end where no line came after so many
+abbrev pub stop_at : Next → ℕ → Option Exit
+stop_at next.Line given = None
+stop_at next.End given = Some Done
+stop_at next.TooLong given = Some (TooLong (given + 1))
+stop_at next.TooMany given = Some TooMany
+stop_at next.ReadFault given = Some ReadFault
+stop_at next.NoMemory given = Some NoMemory
+
+-- the end at a line, if it ends there
+abbrev pub end_at : LineStatus → ℕ → Option Exit
+end_at status.Done line = None
+end_at status.Ended line = Some Done
+end_at status.BadLine line = Some (BadLine line)
+end_at status.Unread line = Some NoMemory
+end_at (status.Stopped why) line = Some (stopped why)

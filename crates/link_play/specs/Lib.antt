@@ -1,0 +1,13 @@
+pub mod Commands
+pub mod Sitting
+pub mod Doing
+pub mod Stopping
+pub mod Plan
+pub mod Ends
+pub mod Counts
+pub mod Asking
+pub mod Pieces
+pub mod Hearing
+pub mod Acting
+pub mod Lines
+pub mod Exits

@@ -1,0 +1,20 @@
+//! A player of a match over a link: commands, read line by line from a source, the client of the match, and what it shows and sends.
+#![tactic(auto)]
+
+mod acting;
+mod command;
+mod doing;
+mod exit;
+mod hearing;
+mod player;
+mod printing;
+mod run;
+mod showing;
+mod stop;
+mod telling;
+
+pub use command::{Command, command_of};
+pub use exit::Exit;
+pub use player::Player;
+pub use run::play_match;
+pub use stop::{LineStatus, Stop};
