@@ -1,6 +1,6 @@
 //! The words of `serve`: where it listens, and how many rooms, workers and sessions it has.
 
-ghost use Rattle.std.specs.Prelude.{◌≡◌, IfOk, codes, map, string_bytes};
+ghost use Rattle.std.specs.Prelude.{◌≡◌, ◌≤◌, IfOk, codes, map, string_bytes};
 ghost use Rattle.clap.specs.Words.{FailsBy, HasMatchesOf, fault_of, first_value, found_of};
 ghost use Rattle.command_words.specs.Answers.{Answers};
 ghost use Rattle.command_words.specs.Serve.{serve_app, serve_from, serve_of};
@@ -29,7 +29,8 @@ pub struct ServeWords {
 /// `Usage` comes exactly where the words are in no form: an option that isn't there or stands twice, no `--listen`, or a
 /// number that has a sign or a leading zero or is out of its bounds.
 pub fn serve_words(alloc: Global, words: &[String]) -> Result<ServeWords, WordsNo>
-    ensures { Answers (serve_from (map string_bytes words.now)) result }
+    ensures asked { Answers (serve_from (map string_bytes words.now)) result }
+    ensures bounds { IfOk result (λ asked. (1 ≤ asked.rooms) × (asked.rooms ≤ 64) × (1 ≤ asked.workers) × (asked.workers ≤ 32)) }
 {
     match matches_of(alloc, words) {
         Ok(matches) => words_in(alloc, &matches),
@@ -65,8 +66,9 @@ fn matches_of<'a>(alloc: Global, words: &'a [String]) -> Result<ArgMatches<'a>, 
 
 /// What the matches ask for.
 fn words_in(alloc: Global, matches: &ArgMatches) -> Result<ServeWords, WordsNo>
-    ensures { Answers (serve_of (first_value (found_of matches.now) (codes "listen")) (first_value (found_of matches.now) (codes "rooms"))
+    ensures asked { Answers (serve_of (first_value (found_of matches.now) (codes "listen")) (first_value (found_of matches.now) (codes "rooms"))
         (first_value (found_of matches.now) (codes "workers")) (first_value (found_of matches.now) (codes "sessions"))) result }
+    ensures bounds { IfOk result (λ asked. (1 ≤ asked.rooms) × (asked.rooms ≤ 64) × (1 ≤ asked.workers) × (asked.workers ≤ 32)) }
 {
     let listen = matches.get_str("listen").ok_or(WordsNo::Usage)?;
     let rooms = number_or(matches.get_str("rooms"), 1, 64, 16).ok_or(WordsNo::Usage)?;
