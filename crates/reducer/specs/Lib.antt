@@ -3,6 +3,7 @@ pub mod Acts
 pub mod Answer
 pub mod Fold
 pub mod Folded
+pub mod KeptAct
 pub mod Performs
 pub mod Prepared
 pub mod Refuses

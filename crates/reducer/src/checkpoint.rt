@@ -2,8 +2,9 @@
 
 ghost use Rattle.std.specs.Prelude.{◌≡◌, ℕ, IfOk};
 
+use crate::kept_act::KeptAct;
 use dice_words::Tape;
-use game_sheet::{Act, Seat};
+use game_sheet::Seat;
 use phase_flow::Table;
 use std::marker::Model;
 
@@ -26,7 +27,7 @@ pub(crate) struct Deed {
     /// Whose action it is.
     pub(crate) seat: Seat,
     /// What is done.
-    pub(crate) act: Act,
+    pub(crate) act: KeptAct,
 }
 
 impl Model for Deed {

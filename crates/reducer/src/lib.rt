@@ -4,6 +4,7 @@
 mod act;
 mod checkpoint;
 mod fold;
+mod kept_act;
 mod laws;
 mod machine;
 mod prepared;

@@ -63,7 +63,8 @@ fn walk<X: Game>(
     if from.count >= MOST_ACTIONS || deed.seat >= from.table.ctx.seats {
         return Ok(None);
     }
-    match perform(alloc, game, from, deed.seat, &deed.act) {
+    let act = deed.act.act();
+    match perform(alloc, game, from, deed.seat, &act) {
         Ok(next) => Ok(Some(next)),
         Err(GameNo::Broken(_)) => Ok(None),
         Err(GameNo::NoMemory) => Err(NoMemory),

@@ -5,7 +5,7 @@ ghost use Rattle.reducer.specs.Walk.{reached_at};
 ghost use Rattle.reducer.specs.Way.{way_of};
 
 use crate::checkpoint::{Checkpoint, Deed};
-use crate::way::{Way, way_of};
+use crate::way::Way;
 use game_sheet::{Ctx, Number};
 use std::marker::Model;
 use undo_redo::Step;
@@ -66,7 +66,7 @@ impl<G> Prepared<G> {
     pub(crate) fn way(&self) -> Way
         ensures { result ≡ way_of self.now.action.act }
     {
-        way_of(&self.step.act().act)
+        self.step.act().act.way()
     }
 }
 

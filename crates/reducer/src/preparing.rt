@@ -13,6 +13,7 @@ ghost use Rattle.stage_map.specs.Moves.{may};
 ghost use Rattle.game_sheet.specs.declared.ids.TheConstants.{MOST_ACTIONS};
 
 use crate::checkpoint::{Checkpoint, Deed};
+use crate::kept_act::KeptAct;
 use crate::machine::perform;
 use crate::prepared::Prepared;
 use crate::state::State;
@@ -135,10 +136,8 @@ fn made<G: Drop>(
 ) -> Result<Prepared<G>, NoMemory>
     ensures { IfOk result (λ p. p ≡ record { action = record { seat = seat; act = act.now }; number = number; count = next.count; table = reached_at next }) }
 {
-    let deed = Deed {
-        seat,
-        act: act.copy(),
-    };
+    let act = KeptAct::of(alloc, act)?;
+    let deed = Deed { seat, act };
     let step = Step::new(alloc, deed, next)?;
     Ok(Prepared { number, step })
 }
@@ -153,6 +152,7 @@ fn kept<G: Drop>(
 ) -> Result<Prepared<G>, NoMemory>
     ensures { IfOk result (λ p. p ≡ record { action = record { seat = seat; act = act }; number = number; count = (arc_value next.now).count; table = reached_at (arc_value next.now) }) }
 {
+    let act = KeptAct::of(alloc, &act)?;
     let deed = Deed { seat, act };
     let step = Step::to_kept(alloc, deed, next)?;
     Ok(Prepared { number, step })
@@ -175,7 +175,7 @@ fn undo_broken<X: Game>(
     if last.seat != seat {
         return Some(GameRule::NotYours);
     }
-    if is_undoable(game, now, &last.act) {
+    if is_undoable(game, now, &last.act.act()) {
         None
     } else {
         Some(GameRule::NotUndoable)

@@ -1,0 +1,95 @@
+//! An action as the trail of a match keeps it.
+
+ghost use Rattle.std.specs.Prelude.{◌≡◌, ◌≤◌, IfOk, length};
+ghost use Rattle.reducer.specs.Way.{way_of};
+
+use crate::way::Way;
+use game_sheet::{Act, Arg, Args, Event, MoveId, NoMemory};
+use std::alloc::Global;
+use std::marker::Model;
+
+/// An action whose arguments take the room that they need, and not the room for eight. Contracts see the action.
+#[derive(Drop)]
+pub(crate) struct KeptAct {
+    kept: Kept,
+}
+
+/// What is kept of an action.
+#[derive(Drop)]
+enum Kept {
+    /// A move of the game, with at most eight arguments.
+    Move { id: MoveId, args: Vec<Arg> },
+    /// An event.
+    Event(Event),
+    /// Takes the last done action back.
+    Undo,
+    /// Does the first undone action again.
+    Redo,
+}
+
+impl Model for KeptAct {
+    ghost use Rattle.game_sheet.specs.declared.act.Act.{Act};
+    ghost use Rattle.reducer.specs.KeptAct.{act_kept, FewArguments};
+
+    ghost Value = { Act };
+
+    ghost view = { λ k. act_kept k.kept };
+
+    ghost invariant = { λ k. FewArguments k.kept };
+}
+
+impl KeptAct {
+    /// An equal action, which is kept.
+    pub(crate) fn of(alloc: Global, act: &Act) -> Result<Self, NoMemory>
+        ensures { IfOk result (λ kept. kept ≡ act.now) }
+    {
+        let kept = match act {
+            Act::Move { id, args } => Kept::Move {
+                id: *id,
+                args: Vec::from_slice(alloc, args.as_slice())?,
+            },
+            Act::Event(event) => Kept::Event(*event),
+            Act::Undo => Kept::Undo,
+            Act::Redo => Kept::Redo,
+        };
+        Ok(KeptAct { kept })
+    }
+
+    /// An equal action, with room for eight arguments.
+    pub(crate) fn act(&self) -> Act
+        ensures { result ≡ self.now }
+    {
+        match &self.kept {
+            Kept::Move { id, args } => Act::Move {
+                id: *id,
+                args: spread(args.as_slice()),
+            },
+            Kept::Event(event) => Act::Event(*event),
+            Kept::Undo => Act::Undo,
+            Kept::Redo => Act::Redo,
+        }
+    }
+
+    /// Which way the action takes a match.
+    pub(crate) fn way(&self) -> Way
+        ensures { result ≡ way_of self.now }
+    {
+        match &self.kept {
+            Kept::Undo => Way::Back,
+            Kept::Redo => Way::Again,
+            Kept::Move { .. } | Kept::Event(_) => Way::On,
+        }
+    }
+}
+
+/// Arguments that are equal to these.
+fn spread(kept: &[Arg]) -> Args
+    requires { length kept.now ≤ 8 }
+    ensures { result ≡ kept.now }
+{
+    let mut args = Args::new();
+    for argument in kept {
+        args.push(*argument);
+    }
+    args
+}
