@@ -34,40 +34,40 @@ use reducer::matches_stay_sound;
 
 /// Every match of a room, whether it stands or was removed, has a name that is read back, began as its game begins, and accepted
 /// what its game has. What a viewer sees of it at any number can be read, and is what is read of its value.
-pub fn matches_can_be_shown<X: Game>(game: &X)
+pub fn matches_can_be_shown<X: Game>()
     ensures grounded { (room : ℕ) (h : List (Entry (Asks X))) → room ≤ 63 → CallsFit h
         → (serial : ℕ) (m : Match X X.G) → match_of X.rules room h serial ≡ Some m → IsGrounded X.rules room m }
     ensures read { (room : ℕ) (m : Match X X.G) → IsGrounded X.rules room m
         → (later earlier : List Accepted) → m.accepted ≡ later ++ earlier
         → (seat : Option ℕ) → CanBeRead (X.rules m.game) (view_at (X.rules m.game) m.first seat earlier) }
 {
-    matches_stay_sound(game);
+    matches_stay_sound::<X>();
 }
 
 /// Each line of a session's stream that is nested at most 127 deep is read as its message, and so is each bye line.
-pub fn lines_read_back<X: Game>(game: &X)
+pub fn lines_read_back<X: Game>()
     ensures stream { (room : ℕ) (h : List (Entry (Asks X))) → room ≤ 63 → CallsFit h
         → (pass j : ℕ) (s : Session) → session X.rules room h pass j ≡ Some s → AllLines IsShallow (stream_of s) → AllLines ReadsBack (stream_of s) }
     ensures bye { (why : Why) → ReadsBack (Farewell why) }
 {
-    matches_stay_sound(game);
+    matches_stay_sound::<X>();
 }
 
 /// Where every own state is nested at most 125 deep, every line of a session's stream is nested at most 127 deep.
-pub fn lines_are_shallow_where_states_are<X: Game>(game: &X)
+pub fn lines_are_shallow_where_states_are<X: Game>()
     ensures { StatesAreShallow X.rules → (room : ℕ) (h : List (Entry (Asks X))) → room ≤ 63 → CallsFit h
         → (pass j : ℕ) (s : Session) → session X.rules room h pass j ≡ Some s → AllLines IsShallow (stream_of s) }
 {
-    matches_stay_sound(game);
+    matches_stay_sound::<X>();
 }
 
 /// That is so of all the games.
-pub fn lines_of_all_games_are_shallow(game: &AnyGame)
+pub fn lines_of_all_games_are_shallow()
     ensures states { StatesAreShallow any_rules }
     ensures lines { (room : ℕ) (h : List (Entry (Asks GameKind))) → room ≤ 63 → CallsFit h
         → (pass j : ℕ) (s : Session) → session any_rules room h pass j ≡ Some s → AllLines IsShallow (stream_of s) }
 {
-    lines_are_shallow_where_states_are(game);
+    lines_are_shallow_where_states_are::<AnyGame>();
 }
 
 /// What the first lines tell is told first.
@@ -81,7 +81,7 @@ pub fn first_parts_tell_first_parts()
 /// Once it has read the sync line, it sees the session's match as the session's viewer sees it at some number, and waits for
 /// nothing. Where it has read all, and nothing more waits for the session, it sees the match as it stands. Only a bye line makes it
 /// gone.
-pub fn clients_see_what_their_viewers_see<X: Game>(game: &X)
+pub fn clients_see_what_their_viewers_see<X: Game>()
     ensures settled { (room : ℕ) (h : List (Entry (Asks X))) → room ≤ 63 → CallsFit h
         → (pass j : ℕ) (s : Session) → session X.rules room h pass j ≡ Some s → AllLines IsShallow (stream_of s)
         → (m : Match X X.G) → match_of X.rules room h s.name.serial ≡ Some m
@@ -100,18 +100,16 @@ pub fn clients_see_what_their_viewers_see<X: Game>(game: &X)
         → (read : List (List ℕ)) → IsFirstPart (told_lines read) (told_lines s.sent) → has_bye read ≡ false
         → (followed (X.rules m.game) read).gone ≡ false }
 {
-    matches_stay_sound(game);
+    matches_stay_sound::<X>();
 }
 
 /// Acts settle nothing, and neither do verdicts and direct answers: a client that acts in between is gone, and sees a match, as one
 /// that makes no act and passes verdicts and direct answers over, where each line that answers an act answers one that waits.
-pub fn acts_settle_nothing<X: Game>(game: &X)
+pub fn acts_settle_nothing<X: Game>()
     ensures follows { (any : X) (doings : List Doing) → AnswersAll (X.rules any) fresh doings
         → IsLike (does_all (X.rules any) fresh doings) (followed (X.rules any) (lines_in doings)) }
     ensures on { (any : X) (c d : Client X.G) (doings : List Doing) → AnswersAll (X.rules any) c doings → IsLike c d
         → IsLike (does_all (X.rules any) c doings) (reads_all (X.rules any) d (told_lines (lines_in doings))) }
     ensures settled { (c d : Client X.G) → IsLike c d → settled_in c ≡ settled_in d }
     ensures act { (any : X) (p : Playing X.G) (asked : Asking) → (with_act (X.rules any) p asked).settled ≡ p.settled }
-{
-    let _game = game;
-}
+{}

@@ -2,3 +2,4 @@ pub mod Steps
 pub mod Meeting
 pub mod Settling
 pub mod Trailing
+pub mod Converging

@@ -27,6 +27,7 @@ ghost use Rattle.hall_history.specs.Rooms.{history_of};
 ghost use Rattle.hall_history.specs.Words.{of_client};
 ghost use Rattle.hall_history.specs.World.{Step, new_world};
 ghost use Rattle.hall_history.specs.WorldScript.{runs_world, shows, snapshot_text};
+ghost use Rattle.world_convergence.specs.Converging.{Converges};
 ghost use Rattle.world_convergence.specs.Meeting.{Meets, Run, room_of_client, world_after};
 ghost use Rattle.world_convergence.specs.Settling.{Settles, SettlesAt};
 ghost use Rattle.world_convergence.specs.Trailing.{Trails};
@@ -36,25 +37,23 @@ use game_trait::Game;
 use reducer::matches_stay_sound;
 
 /// In every world all calls on rooms are of their types, whatever lines arrive: those that are no message call no room.
-pub fn calls_of_worlds_fit<X: Game>(game: &X)
+pub fn calls_of_worlds_fit<X: Game>()
     ensures { (named : List ℕ → Option X) (tape : ℕ → List ℕ) (rooms : ℕ) (marks : List Mark) (steps : List (Step X)) (room : ℕ)
         → CallsFit (history_of (runs_world named X.rules tape marks steps (new_world rooms)).0.hall.rooms room) }
-{
-    let _game = game;
-}
+{}
 
 /// In every world whose lines are in their forms, a client whose session has begun stands as one that has read, verdicts and direct
 /// answers passed over, a first part of what the session was sent, and what waits on its link goes on from there: to the end, as
 /// long as the session is attached. Each verdict that it reads next, and each `again` with a ticket, answers an act that waits,
 /// unless the client is gone. That is so whatever its game is.
-pub fn clients_of_worlds_follow_their_sessions<X: Game>(game: &X)
+pub fn clients_of_worlds_follow_their_sessions<X: Game>()
     ensures trails { StatesAreShallow X.rules → (named : List ℕ → Option X) (tape : ℕ → List ℕ) (run : Run X) (c : ℕ) (held : Holds X X.G) (s : Session) (m : Match X X.G)
         → (meets : Meets named X.rules tape run c held s m) → Trails X.rules (world_after named X.rules tape run) c meets.room held s }
     ensures answers { StatesAreShallow X.rules → (named : List ℕ → Option X) (tape : ℕ → List ℕ) (run : Run X) (c : ℕ) (held : Holds X X.G) (s : Session) (m : Match X X.G)
         → Meets named X.rules tape run c held s m → (line : List ℕ) (rest : List (List ℕ)) → (world_after named X.rules tape run).down c ≡ line ∷ rest
         → KnowsWhere held.client (ticket_in (server_read line)) }
 {
-    matches_stay_sound(game);
+    matches_stay_sound::<X>();
 }
 
 /// In every world whose lines are in their forms, over games whose own states are nested at most 125 deep, a client that has read its
@@ -63,7 +62,7 @@ pub fn clients_of_worlds_follow_their_sessions<X: Game>(game: &X)
 ///
 /// Where its session goes on, nothing waits for it and nothing is on its link, it has settled what its viewer sees of the match as it
 /// stands, and isn't gone.
-pub fn clients_of_worlds_see_their_matches<X: Game>(game: &X)
+pub fn clients_of_worlds_see_their_matches<X: Game>()
     ensures session { StatesAreShallow X.rules → (named : List ℕ → Option X) (tape : ℕ → List ℕ) (run : Run X) (c : ℕ) (held : Holds X X.G)
         → (world_after named X.rules tape run).clients c ≡ Some held → (room : ℕ) → room_of_client named X.rules tape run c ≡ Some room
         → (s : Session) × (m : Match X X.G) × Meets named X.rules tape run c held s m }
@@ -76,11 +75,11 @@ pub fn clients_of_worlds_see_their_matches<X: Game>(game: &X)
         → Meets named X.rules tape run c held s m → held.game ≡ m.game → session_state s ≡ Open → handful s ≡ [] → (world_after named X.rules tape run).down c ≡ []
         → (held.client.gone ≡ false) × (p : Playing X.G) × (held.client.playing ≡ Some p) × SettlesAt X.rules m s m.accepted p }
 {
-    matches_stay_sound(game);
+    matches_stay_sound::<X>();
 }
 
 /// What a `show` line prints of such a client is that snapshot, and what is guessed from it.
-pub fn show_lines_print_what_is_settled<X: Game>(game: &X)
+pub fn show_lines_print_what_is_settled<X: Game>()
     ensures { StatesAreShallow X.rules → (named : List ℕ → Option X) (tape : ℕ → List ℕ) (run : Run X) (c : ℕ) (held : Holds X X.G) (s : Session) (m : Match X X.G)
         → Meets named X.rules tape run c held s m → held.game ≡ m.game → (p : Playing X.G) → held.client.playing ≡ Some p
         → (later : List Accepted) × (earlier : List Accepted) × (m.accepted ≡ later ++ earlier)
@@ -88,11 +87,11 @@ pub fn show_lines_print_what_is_settled<X: Game>(game: &X)
         ≡ of_client c (codes "settled " ++ snapshot_text X.rules m.game (view_at (X.rules m.game) m.first (seat_of s.viewer) earlier))
         ++ of_client c (codes "shown " ++ snapshot_text X.rules m.game (shown_of (X.rules m.game) p))) }
 {
-    clients_of_worlds_see_their_matches(game);
+    clients_of_worlds_see_their_matches::<X>();
 }
 
 /// No line that such a client reads makes it gone but a bye. One without a session isn't gone.
-pub fn clients_of_worlds_go_on_until_a_bye<X: Game>(game: &X)
+pub fn clients_of_worlds_go_on_until_a_bye<X: Game>()
     ensures reads { StatesAreShallow X.rules → (named : List ℕ → Option X) (tape : ℕ → List ℕ) (run : Run X) (c : ℕ) (held : Holds X X.G) (s : Session) (m : Match X X.G)
         → Meets named X.rules tape run c held s m → held.game ≡ m.game
         → (line : List ℕ) (rest : List (List ℕ)) → (world_after named X.rules tape run).down c ≡ line ∷ rest → held.client.gone ≡ false
@@ -100,12 +99,12 @@ pub fn clients_of_worlds_go_on_until_a_bye<X: Game>(game: &X)
     ensures before { StatesAreShallow X.rules → (named : List ℕ → Option X) (tape : ℕ → List ℕ) (run : Run X) (c : ℕ) (held : Holds X X.G)
         → (world_after named X.rules tape run).clients c ≡ Some held → room_of_client named X.rules tape run c ≡ None → held.client.gone ≡ false }
 {
-    matches_stay_sound(game);
+    matches_stay_sound::<X>();
 }
 
 /// A client of another of the games than its session's match settles nothing: its sync is a bad line to it, and it is gone from then
 /// on.
-pub fn clients_of_other_games_are_lost(game: &AnyGame)
+pub fn clients_of_other_games_are_lost()
     ensures nothing { (named : List ℕ → Option GameKind) (tape : ℕ → List ℕ) (run : Run GameKind) (c : ℕ) (held : Holds GameKind AnyG) (s : Session) (m : Match GameKind AnyG)
         → Meets named any_rules tape run c held s m → (any_rules held.game).sheet.name ≢ (any_rules m.game).sheet.name → held.client.playing ≡ None }
     ensures sync { (named : List ℕ → Option GameKind) (tape : ℕ → List ℕ) (run : Run GameKind) (c : ℕ) (held : Holds GameKind AnyG) (s : Session) (m : Match GameKind AnyG)
@@ -118,21 +117,16 @@ pub fn clients_of_other_games_are_lost(game: &AnyGame)
         → (line : List ℕ) (rest : List (List ℕ)) → (world_after named any_rules tape run).down c ≡ line ∷ rest
         → held.client.gone ≡ true → (reads (any_rules held.game) held.client line).client.gone ≡ true }
 {
-    matches_stay_sound(game);
+    matches_stay_sound::<AnyGame>();
 }
 
 /// All of this is so of all the games.
-pub fn clients_of_all_games_see_their_matches(game: &AnyGame)
-    ensures settled { (named : List ℕ → Option GameKind) (tape : ℕ → List ℕ) (run : Run GameKind) (c : ℕ) (held : Holds GameKind AnyG) (s : Session) (m : Match GameKind AnyG)
-        → Meets named any_rules tape run c held s m → held.game ≡ m.game → (p : Playing AnyG) → held.client.playing ≡ Some p → Settles any_rules m s p }
-    ensures present { (named : List ℕ → Option GameKind) (tape : ℕ → List ℕ) (run : Run GameKind) (c : ℕ) (held : Holds GameKind AnyG) (s : Session) (m : Match GameKind AnyG)
-        → Meets named any_rules tape run c held s m → held.game ≡ m.game → session_state s ≡ Open → handful s ≡ [] → (world_after named any_rules tape run).down c ≡ []
-        → (held.client.gone ≡ false) × (p : Playing AnyG) × (held.client.playing ≡ Some p) × SettlesAt any_rules m s m.accepted p }
-    ensures reads { (named : List ℕ → Option GameKind) (tape : ℕ → List ℕ) (run : Run GameKind) (c : ℕ) (held : Holds GameKind AnyG) (s : Session) (m : Match GameKind AnyG)
-        → Meets named any_rules tape run c held s m → held.game ≡ m.game
-        → (line : List ℕ) (rest : List (List ℕ)) → (world_after named any_rules tape run).down c ≡ line ∷ rest → held.client.gone ≡ false
-        → is_bye (server_read line) ≡ false → (reads (any_rules held.game) held.client line).client.gone ≡ false }
+pub fn worlds_of_all_games_converge()
+    ensures { (named : List ℕ → Option GameKind) (tape : ℕ → List ℕ) (run : Run GameKind) → Converges named tape run }
 {
-    clients_of_worlds_see_their_matches(game);
-    clients_of_worlds_go_on_until_a_bye(game);
+    clients_of_worlds_follow_their_sessions::<AnyGame>();
+    clients_of_worlds_see_their_matches::<AnyGame>();
+    clients_of_worlds_go_on_until_a_bye::<AnyGame>();
+    show_lines_print_what_is_settled::<AnyGame>();
+    clients_of_other_games_are_lost();
 }
