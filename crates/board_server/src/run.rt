@@ -1,8 +1,10 @@
 //! What the program does with the words that it is called with.
 
-ghost use Rattle.std.specs.Prelude.{◌≡◌, ◌≤◌, IsSome, Some, None};
+ghost use Rattle.std.specs.Prelude.{◌≡◌, ◌≤◌, ℕ, List, IsSome, Some, None};
 ghost use Rattle.board_links.specs.Faults.{HasRisen};
 ghost use Rattle.board_links.specs.Pieces.{told_bytes};
+ghost use Rattle.hall_history.specs.Mark.{Mark};
+ghost use Rattle.world_script.specs.Converging.{ConvergesIn};
 ghost use Rattle.world_script.specs.Running.{AreInForm, Ends, ExitRaises, IsComplete};
 ghost use Rattle.world_script.specs.ScriptPlay.{script_play};
 ghost use Rattle.world_script.specs.WorldPlay.{world_play};
@@ -21,7 +23,7 @@ use world_script::{Exit, run_script, run_world};
 /// `Usage` comes exactly where the words are neither of these, and then nothing was read or written. Where source and
 /// sink tell what they hold, `ends` says what a script added to the sink and where each end comes, and what Takes print for
 /// each session; `completes`, that a script in form without a fault is run to its end, or there was no memory; `world_ends`
-/// and `world_completes` say it of a world.
+/// and `world_completes` say it of a world, and `world_converges`, what its clients see of their matches.
 pub fn run<S: Source, K: Sink>(
     alloc: Global,
     words: &[String],
@@ -42,6 +44,7 @@ pub fn run<S: Source, K: Sink>(
         → Ends world_play (told_bytes (S.left source.old)) (told_bytes (S.left source.new)) (told_bytes (K.held sink.old)) (K.held sink.new) result }
     ensures world_completes { command_of words.now ≡ Some World → IsSome (S.left source.old) → IsSome (K.held sink.old) → AreInForm world_play (told_bytes (S.left source.old))
         → (HasRisen (S.faults source.old) (S.faults source.new) → ⊥) → (HasRisen (K.faults sink.old) (K.faults sink.new) → ⊥) → IsComplete result }
+    ensures world_converges { command_of words.now ≡ Some World → (marks : List Mark) (lines : List (List ℕ)) → ConvergesIn marks lines }
 {
     match command_of(words) {
         Some(Command::Script) => run_script(alloc, source, sink),

@@ -1,6 +1,6 @@
 -- The lines of a world in form, and what they ask for. Words are parted by exactly one blank, and numbers are decimal, without sign and
 -- without leading zeros. Empty lines and lines that begin with # ask for nothing. An act stands at its line's end, and may hold blanks.
-use Rattle.std.specs.Prelude.{ℕ, ◌==◌, nat_le, Bool, false, if◌then◌else◌, List, [], ◌∷◌, length, bytes_eq, codes, Option, Some, None, option_map, option_and_then, Result, Ok, Err}
+use Rattle.std.specs.Prelude.{ℕ, ◌==◌, nat_le, Bool, true, false, if◌then◌else◌, List, [], ◌∷◌, length, bytes_eq, codes, Option, Some, None, option_map, option_and_then, Result, Ok, Err}
 use Rattle.std.specs.List.{before_first, after_first, position_or_len}
 use Rattle.std.specs.Str.{is_utf8}
 use Rattle.serde_json.specs.Data.{Members, object}
@@ -14,6 +14,9 @@ use Rattle.wire_json.specs.Acts.{asked_in}
 use Rattle.wire_json.specs.KeyText.{lower_hex}
 use Rattle.wire_json.specs.MatchText.{match_from, number_from}
 use Rattle.wire_json.specs.declared.asked.Asked.{Asked}
+use Rattle.wire_json.specs.declared.asked.Asked.TheVariants.{Move, Event, Undo, Redo}
+use Rattle.wire_json.specs.declared.asked.AskedTo.{AskedTo}
+use Rattle.wire_json.specs.declared.asked.AskedTo.TheVariants.{Nothing as Nowhere, Seat, Name as Named}
 use Rattle.wire_json.specs.declared.protocol.Protocol.{Protocol}
 use Rattle.wire_json.specs.declared.protocol.Protocol.TheVariants.{One, Two}
 use Rattle.hall_history.specs.World.{Step, Nothing, Seeds, Opens, Attaches, Acts, Arrives, Takes, Reads, Drops, Leaves, Shows}
@@ -85,8 +88,23 @@ attaching rest = option_and_then attaching_by (cut rest)
 
 -- ---- an act: a client, and the act as the member of a client's line has it
 
+abbrev pub aim_is_utf8 : AskedTo → Bool
+aim_is_utf8 Nowhere = true
+aim_is_utf8 (Seat seat) = true
+aim_is_utf8 (Named name) = is_utf8 name
+
+-- the names in an act are UTF-8, as every text of JSON is
+abbrev pub asked_is_utf8 : Asked → Bool
+asked_is_utf8 (Move name args) = is_utf8 name
+asked_is_utf8 (Event kind to) = aim_is_utf8 to
+asked_is_utf8 Undo = true
+asked_is_utf8 Redo = true
+
+abbrev pub in_utf8 : Asked → Option Asked
+in_utf8 asked = if asked_is_utf8 asked then Some asked else None
+
 abbrev pub asked_by : Result Members LineFault → Option Asked
-asked_by (Ok ms) = asked_in (object ms)
+asked_by (Ok ms) = option_and_then in_utf8 (asked_in (object ms))
 asked_by (Err fault) = None
 
 abbrev pub asked_of : List ℕ → Option Asked

@@ -10,3 +10,5 @@ pub mod Printed
 pub mod StepLaws
 pub mod Beginning
 pub mod LineLaws
+pub mod Fitting
+pub mod Converging

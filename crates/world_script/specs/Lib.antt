@@ -12,3 +12,4 @@ pub mod ScriptLaws
 pub mod Deliveries
 pub mod WorldPlay
 pub mod WorldLaws
+pub mod Converging

@@ -3,6 +3,7 @@ use Rattle.world_script.specs.WorldLaws.{world_is_played}
 use Rattle.world_script.specs.ScriptLines.{script}
 use Rattle.world_script.specs.WorldPlay.{world_play}
 use Rattle.world_script.proofs.Beginning.{world_begins}
+use Rattle.world_script.proofs.Converging.{converges_in}
 use Rattle.world_script.proofs.EndLaws.{stops_at_once}
 use Rattle.world_script.proofs.world.run_world.Goals as goal
 
@@ -11,3 +12,9 @@ returns-in-Err-clause-ends g c = λ l k. stops_at_once world_play world_is_playe
 
 pub run_lines-exit-requires : goal.run_lines-exit-requires
 run_lines-exit-requires g c = world_begins c.in-Ok.world c.in-Ok.ensures
+
+pub returns-in-Ok-clause-converges : goal.returns-in-Ok-clause-converges
+returns-in-Ok-clause-converges g c = converges_in c.worlds_of_all_games_converge.ensures
+
+pub returns-in-Err-clause-converges : goal.returns-in-Err-clause-converges
+returns-in-Err-clause-converges g c = converges_in c.worlds_of_all_games_converge.ensures

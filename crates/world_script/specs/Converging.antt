@@ -1,0 +1,18 @@
+-- What clients hold in a world of these lines, up to the first in no form.
+use Rattle.std.specs.Prelude.{◌≡◌, ℕ, List}
+use Rattle.any_game.specs.AnyRules.{named}
+use Rattle.any_game.specs.GameKind.{GameKind}
+use Rattle.client_world.specs.Reading.{world_step_of}
+use Rattle.hall_history.specs.Mark.{Mark}
+use Rattle.hall_history.specs.Tapes.{hall_tape}
+use Rattle.world_convergence.specs.Converging.{Converges}
+use Rattle.world_convergence.specs.Meeting.{Run}
+use Rattle.world_script.specs.Deliveries.{rooms_of_world}
+use Rattle.world_script.specs.Play.{steps_of}
+
+pub record ConvergesIn (marks : List Mark) (lines : List (List ℕ)) : Type 0 where
+  pub run : Run GameKind
+  pub in_rooms : run.rooms ≡ rooms_of_world
+  pub by_marks : run.marks ≡ marks
+  pub of_lines : run.steps ≡ steps_of world_step_of lines
+  pub converges : Converges named hall_tape run
