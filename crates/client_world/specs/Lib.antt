@@ -1,3 +1,4 @@
+pub mod Counted
 pub mod IsWorld
 pub mod Outcomes
 pub mod Peers

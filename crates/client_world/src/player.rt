@@ -10,6 +10,8 @@ ghost use Rattle.hall_history.specs.Opening.{seat_key};
 ghost use Rattle.hall_history.specs.WorldScript.{key_of, shown_text};
 ghost use Rattle.wire_json.specs.Asking.{IsAskable};
 
+mod choosing;
+
 use crate::showing::{put_settled, put_shown};
 use crate::telling::told;
 use any_game::AnyGame;

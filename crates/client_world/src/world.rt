@@ -19,6 +19,8 @@ ghost use Rattle.client_world.specs.IsWorld.{HasDone, IsWorld};
 ghost use Rattle.client_world.specs.Outcomes.{Hands, HandsReply};
 ghost use Rattle.client_world.specs.Steps.{step_of, IsRunnable};
 
+mod counted;
+
 use crate::handing::{bytes_of, handed_out};
 use crate::peers::Peers;
 use crate::player::{Player, seat_key};

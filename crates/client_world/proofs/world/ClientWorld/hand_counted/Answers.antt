@@ -1,0 +1,19 @@
+use Rattle.std.proofs.Common.{◌≡◌, ◌++◌, ◌∙◌, ap, arith, length, subst, sym}
+use Rattle.game_sheet.specs.Lines.{lines}
+use Rattle.hall_history.specs.World.{with_down}
+use Rattle.client_world.specs.IsWorld.{IsWorld}
+use Rattle.client_world.specs.Peers.{ArePeers}
+use Rattle.client_world.proofs.world.ClientWorld.hand_counted.Goals as goal
+
+pub returns : goal.returns
+returns c = λ tape w is.
+    let held = subst (λ x. IsWorld tape x w) (sym c.self.view_is) is in
+    let counted : c.in_ok-all.all.len ≡ length c.in_ok-all.all.items = omega (arith, c.in_ok-all.all.ok.0) in
+    record {
+      stands = record {
+        hall = held.hall;
+        peers = subst (λ bytes. ArePeers c.push_all_down.new.self (with_down w c.args.client (w.down c.args.client ++ lines bytes))) (c.as_slice.ensures.value ∙ c.in_ok-all.ensures)
+            (c.in_ok-push_all_down.ensures w held.peers);
+      };
+      is = c.len-count.ensures ∙ counted ∙ ap length c.in_ok-all.ensures;
+    }
