@@ -1,1 +1,5 @@
+pub mod Modes
+pub mod Page
+pub mod Playing
+pub mod Process
 pub mod Words

@@ -1,30 +1,27 @@
-//! The match server. `board_server script` plays the script on standard input, and prints its transcript; `board_server world`
-//! does so with a world.
+//! The match server. `board_server script` plays the script on standard input, and prints its transcript; `board_server world` does so with a world;
+//! and `board_server play` plays a match over a socket.
 #![tactic(auto)]
 
 mod command;
+mod edge;
+mod mode;
+mod page;
+mod play;
 mod process;
 mod run;
 
-use board_links::{ReaderSource, WriterSink};
+use edge::{play_there, print_here, run_here};
+use link_play::Exit;
+use mode::{Mode, mode_of};
+use page::{HELP, VERSION};
 use process::{after_name, report, status};
-use run::run;
 use std::process::ExitCode;
+use std::sync::Wait;
 use std::{env, io};
-use world_script::Exit;
 
 fn main(rt: HostRuntime) -> ExitCode {
     let exit = match words(&rt) {
-        Ok(words) => {
-            let mut source = ReaderSource::new(rt.reader());
-            let mut sink = WriterSink::new(rt.stdout());
-            run(
-                rt.alloc(),
-                after_name(words.as_slice()),
-                &mut source,
-                &mut sink,
-            )
-        }
+        Ok(words) => perform(&rt, &rt, after_name(words.as_slice())),
         Err(error) if error.kind() == io::ErrorKind::OutOfMemory => Exit::NoMemory,
         Err(_) => Exit::Usage,
     };
@@ -42,5 +39,17 @@ fn words(rt: &HostRuntime) -> io::Result<Vec<String>> {
     Ok(words)
 }
 
+/// Does what the words after the program's name ask for.
+fn perform<R: Wait>(leave: &R, rt: &HostRuntime, words: &[String]) -> Exit {
+    match mode_of(words) {
+        Mode::Help => print_here(rt, HELP),
+        Mode::Version => print_here(rt, VERSION),
+        Mode::Play => play_there(leave, rt, words),
+        Mode::Run => run_here(rt, words),
+    }
+}
+
+#[cfg(test)]
+mod play_tests;
 #[cfg(test)]
 mod tests;

@@ -1,11 +1,11 @@
 //! What goes between the program and its caller: the words that it is called with, and what it says at its end.
 
 ghost use Rattle.std.specs.Prelude.{◌≡◌, ◌≤◌, ◌++◌, ◌∷◌, [], decimal, drop, length};
-ghost use Rattle.board_server.specs.Words.{report, status};
+ghost use Rattle.board_server.specs.Process.{of_run, report, status};
 
 use arrayvec::ArrayString;
 use itoa::Buffer;
-use world_script::Exit;
+use link_play::Exit;
 
 /// The words after the program's name.
 pub fn after_name(words: &[String]) -> &[String]
@@ -14,6 +14,22 @@ pub fn after_name(words: &[String]) -> &[String]
     match words {
         [] => words,
         [_, rest @ ..] => rest,
+    }
+}
+
+/// The end of a run without a door or a link.
+pub fn of_run(exit: world_script::Exit) -> Exit
+    ensures { result ≡ of_run exit }
+{
+    match exit {
+        world_script::Exit::Done => Exit::Done,
+        world_script::Exit::Usage => Exit::Usage,
+        world_script::Exit::ReadFault => Exit::ReadFault,
+        world_script::Exit::WriteFault => Exit::WriteFault,
+        world_script::Exit::BadLine { line } => Exit::BadLine { line },
+        world_script::Exit::TooLong { line } => Exit::TooLong { line },
+        world_script::Exit::TooMany => Exit::TooMany,
+        world_script::Exit::NoMemory => Exit::NoMemory,
     }
 }
 
@@ -30,6 +46,10 @@ pub fn status(exit: Exit) -> u8
         Exit::TooLong { .. } => 5,
         Exit::TooMany => 6,
         Exit::NoMemory => 7,
+        Exit::DoorFault => 8,
+        Exit::LinkFault => 9,
+        Exit::LinkEnded => 10,
+        Exit::LinkLong => 11,
     }
 }
 
@@ -46,6 +66,10 @@ pub fn report(exit: Exit) -> ArrayString<40>
         Exit::TooLong { line } => numbered("long line ", line),
         Exit::TooMany => whole("too many lines\n"),
         Exit::NoMemory => whole("no memory\n"),
+        Exit::DoorFault => whole("door fault\n"),
+        Exit::LinkFault => whole("link fault\n"),
+        Exit::LinkEnded => whole("link ended\n"),
+        Exit::LinkLong => whole("link line too long\n"),
     }
 }
 

@@ -1,6 +1,6 @@
 //! Runs in memory: of another word, and with reads and writes that fail.
 
-use crate::process::status;
+use crate::process::{of_run, status};
 use crate::run::run;
 use board_links::{MemorySink, MemorySource};
 use game_sheet::{List, NoMemory};
@@ -132,7 +132,7 @@ fn runs(rt: &impl Abort, alloc: Global, row: Row) -> Result<(), NoMemory> {
     let mut sink = MemorySink::new(alloc, writes);
     let exit = run(alloc, words.as_slice(), &mut source, &mut sink);
     assert_eq!(rt; exit, row.exit);
-    assert_eq!(rt; status(exit), row.status);
+    assert_eq!(rt; status(of_run(exit)), row.status);
     assert_eq!(rt; sink.bytes(), row.printed);
     Ok(())
 }

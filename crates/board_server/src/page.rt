@@ -1,0 +1,36 @@
+//! The page and the line that the program prints of itself.
+
+ghost use Rattle.std.specs.Prelude.{◌≡◌, ◌≤◌, IsSome};
+ghost use Rattle.board_links.specs.Pieces.{told_bytes};
+ghost use Rattle.board_server.specs.Page.{PageEnds, PageRaises};
+
+use board_links::{Put, Sink};
+use link_play::Exit;
+
+/// The page of help.
+pub const HELP: &str = "board_server: matches of turn-based games
+
+board_server play --connect ADDRESS --game NAME --match MATCH [--seat SEAT --key KEY]
+    plays a match by the commands on standard input: act ACT, read, wait, show, end
+board_server script
+    plays the script on standard input, and prints its transcript
+board_server world
+    plays the world on standard input, and prints its transcript
+board_server --help
+board_server --version
+";
+
+/// The line with the version.
+pub const VERSION: &str = "board_server 0.1\n";
+
+/// Prints a page, which is all that its run does.
+pub fn print_page<K: Sink>(sink: &mut K, page: &str) -> Exit
+    ensures never_falls { K.faults sink.old ≤ K.faults sink.new }
+    ensures raises { PageRaises result (K.faults sink.old) (K.faults sink.new) }
+    ensures told { IsSome (K.held sink.old) → PageEnds result page.now (told_bytes (K.held sink.old)) (K.held sink.new) }
+{
+    match sink.put(page.as_bytes()) {
+        Put::Done => Exit::Done,
+        Put::Failed => Exit::WriteFault,
+    }
+}
