@@ -1,0 +1,35 @@
+use Rattle.std.proofs.Common.{◌≡◌, ◌++◌, ◌∙◌, ap, arith, inl, map, subst, sym}
+use Rattle.std.specs.Prelude.{All}
+use Rattle.board_links.specs.Pieces.{told_bytes}
+use Rattle.session_pool.specs.Rooms.{numbers}
+use Rattle.door_serve.proofs.Booking.{all_stand, as_many_rooms, numbered}
+use Rattle.door_serve.proofs.Gathering.{handed_back}
+use Rattle.door_serve.proofs.Printing.{by_end}
+use Rattle.door_serve.specs.Ends.{Printed, end_of}
+use Rattle.door_serve.specs.Report.{report}
+use Rattle.door_serve.specs.Rooms.{IsARoom, Numbered, Stand, desks_of}
+use Rattle.door_serve.proofs.serving.serve_hall.Goals as goal
+
+pub close_all-requires-clause-rows : goal.close_all-requires-clause-rows
+close_all-requires-clause-rows g c =
+    subst (All (λ r. desks_of r.items ≡ map (λ d. d.desk) c.args.desks.items)) (sym c.as_mut_slice.ensures.value)
+    (handed_back (λ v. v.items) c.args.desks.items c.args.rows.items c.serve_door-end.result.2.items c.serve_door-end.ensures.handed c.requires.belong)
+
+pub returns-clause-reports : goal.returns-clause-reports
+returns-clause-reports g c tells =
+    let books = c.close_all.new.books.items in
+    let before = told_bytes (g.K.Sink.held c.args.sink.now) in
+    let after = g.K.Sink.held c.print_report-printed.new.sink in
+    let rooms : map (λ b. b.room) books ≡ numbers 0 c.args.spare.rooms =
+    c.close_all.ensures.numbers ∙ (ap (λ bs. map (λ b. b.room) bs ++ map (λ d. d.desk.object) c.args.desks.items) c.args.spare.none ∙ c.requires.objects) in
+    let stand = all_stand books (c.close_all.ensures.stand (subst (All IsARoom) (sym c.args.spare.none) (λ k d low. absurd (omega arith)))) in
+    let in_order = numbered books 0 c.args.spare.rooms rooms in
+    let wrote = c.print_report-printed.ensures.told tells stand.0 (subst (λ bs. Stand bs stand.0) (sym c.as_slice-2.ensures.value) stand.1)
+    (subst (Numbered 0) (sym c.as_slice-2.ensures.value) in_order) in
+    let printed = by_end c.serve_door-end.result.0 c.print_report-printed.result (report c.serve_door-end.result.1 stand.0) before after wrote in
+    let counted = subst (λ n. Printed (end_of c.serve_door-end.result.0 c.print_report-printed.result) (report n stand.0) before after) (sym c.serve_door-end.ensures.given) printed in
+    inl (
+      stand.0,
+      record { many = as_many_rooms books 0 c.args.spare.rooms rooms; numbered = in_order; stand = stand.1 },
+      subst (λ how. Printed how (report (g.D.Door.given c.serve_door-end.result.3) stand.0) before after) (sym c.end_of.ensures) counted,
+    )

@@ -1,0 +1,8 @@
+//! A server of matches: rooms and workers over a door, and the report when the last session is over.
+#![tactic(auto)]
+
+mod closing;
+mod reporting;
+mod serving;
+
+pub use serving::{ServeEnd, serve_rooms};
