@@ -10,13 +10,10 @@ program:
 	@cd crates/board_server && rt all check --jobs $(JOBS) | grep -Ev '^(crate|fn|library|logic|only=|so far|statements)'
 	@cd crates/board_server && rt run -- script </dev/null
 
-# Plays the example matches and the example world, and prints their transcripts.
+# Plays the example matches and worlds, and prints their transcripts.
 demo: program
-	@cd crates/board_server && rt run -- script <../../examples/tic-tac-toe.script
-	@cd crates/board_server && rt run -- script <../../examples/countdown.script
-	@cd crates/board_server && rt run -- script <../../examples/blind-bid.script
-	@cd crates/board_server && rt run -- script <../../examples/captions.script
-	@cd crates/board_server && rt run -- world <../../examples/tic-tac-toe.world
+	@cd crates/board_server && for script in ../../examples/*.script; do rt run -- script <$$script || exit; done
+	@cd crates/board_server && for world in ../../examples/*.world; do rt run -- world <$$world || exit; done
 
 # Serves matches at an address, until a million sessions are over.
 LISTEN ?= 127.0.0.1:7000
