@@ -4,3 +4,4 @@ pub mod Playing
 pub mod Process
 pub mod Serving
 pub mod Words
+pub mod Workloads

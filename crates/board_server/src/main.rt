@@ -1,5 +1,6 @@
 //! The match server. `board_server serve` serves matches over sockets, and `board_server play` plays one; `board_server script` plays the script on
-//! standard input, and prints its transcript, and `board_server world` does so with a world.
+//! standard input, and prints its transcript, and `board_server world` does so with a world; `board_server workload`
+//! plays by itself, by the words of a seed and for a number of steps, and tells what came of it.
 #![tactic(auto)]
 
 mod command;
@@ -10,6 +11,7 @@ mod play;
 mod process;
 mod run;
 mod serve;
+mod workloads;
 
 use edge::{play_there, print_here, run_here, serve_there};
 use link_play::Exit;
@@ -58,3 +60,5 @@ mod play_tests;
 mod serve_tests;
 #[cfg(test)]
 mod tests;
+#[cfg(test)]
+mod workload_tests;

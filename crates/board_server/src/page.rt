@@ -18,6 +18,8 @@ board_server script
     plays the script on standard input, and prints its transcript
 board_server world
     plays the world on standard input, and prints its transcript
+board_server workload SEED STEPS
+    plays many matches by itself, and prints in numbers what came of them
 board_server --help
 board_server --version
 ";

@@ -10,20 +10,25 @@ ghost use Rattle.world_script.specs.ScriptPlay.{script_play};
 ghost use Rattle.world_script.specs.WorldPlay.{world_play};
 ghost use Rattle.world_script.specs.declared.exit.Exit.TheVariants.{Usage};
 ghost use Rattle.board_server.specs.Words.{command_of};
+ghost use Rattle.board_server.specs.Workloads.{Prints, workload_text};
 ghost use Rattle.board_server.specs.declared.command.Command.{Command as Asked};
-ghost use Rattle.board_server.specs.declared.command.Command.TheVariants.{Script, World};
+ghost use Rattle.board_server.specs.declared.command.Command.TheVariants.{Script, World, Workload};
 
 use crate::command::{Command, command_of};
+use crate::workloads::run_workload;
 use board_links::{Sink, Source};
 use std::alloc::Global;
 use world_script::{Exit, run_script, run_world};
 
-/// Runs what the words after the program's name ask for: `script`, a script, or `world`, a world, from a source to a sink.
+/// Runs what the words after the program's name ask for: `script`, a script, or `world`, a world, from a source to a sink; or
+/// `workload` with a seed and a number of steps, into a sink alone.
 ///
-/// `Usage` comes exactly where the words are neither of these, and then nothing was read or written. Where source and
+/// `Usage` comes exactly where the words are none of these, and then nothing was read or written. Where source and
 /// sink tell what they hold, `ends` says what a script added to the sink and where each end comes, and what Takes print for
 /// each session; `completes`, that a script in form without a fault is run to its end, or there was no memory; `world_ends`
-/// and `world_completes` say it of a world, and `world_converges`, what its clients see of their matches.
+/// and `world_completes` say it of a world, and `world_converges`, what its clients see of their matches. `workload_prints` says that a
+/// workload adds its transcript, or a first part of it where it doesn't end with `Done`, and `workload_completes` that without a fault
+/// of the sink it is run to its end, or there was no memory.
 pub fn run<S: Source, K: Sink>(
     alloc: Global,
     words: &[String],
@@ -45,10 +50,16 @@ pub fn run<S: Source, K: Sink>(
     ensures world_completes { command_of words.now ≡ Some World → IsSome (S.left source.old) → IsSome (K.held sink.old) → AreInForm world_play (told_bytes (S.left source.old))
         → (HasRisen (S.faults source.old) (S.faults source.new) → ⊥) → (HasRisen (K.faults sink.old) (K.faults sink.new) → ⊥) → IsComplete result }
     ensures world_converges { command_of words.now ≡ Some World → (marks : List Mark) (lines : List (List ℕ)) → ConvergesIn marks lines }
+    ensures workload_source { (seed steps : ℕ) → command_of words.now ≡ Some (Workload seed steps) → source.new ≡ source.old }
+    ensures workload_prints { (seed steps : ℕ) → command_of words.now ≡ Some (Workload seed steps) → IsSome (K.held sink.old)
+        → Prints result (workload_text seed steps) (told_bytes (K.held sink.old)) (K.held sink.new) }
+    ensures workload_completes { (seed steps : ℕ) → command_of words.now ≡ Some (Workload seed steps)
+        → (HasRisen (K.faults sink.old) (K.faults sink.new) → ⊥) → IsComplete result }
 {
     match command_of(words) {
         Some(Command::Script) => run_script(alloc, source, sink),
         Some(Command::World) => run_world(alloc, source, sink),
+        Some(Command::Workload { seed, steps }) => run_workload(alloc, seed, steps, sink),
         None => Exit::Usage,
     }
 }
