@@ -1,4 +1,4 @@
-.PHONY: program demo test bench
+.PHONY: program demo serve served test bench
 
 SHELL := bash
 .SHELLFLAGS := -o pipefail -c
@@ -18,6 +18,11 @@ demo: program
 	@cd crates/board_server && rt run -- script <../../examples/captions.script
 	@cd crates/board_server && rt run -- world <../../examples/tic-tac-toe.world
 
+# Serves matches at an address, until a million sessions are over.
+LISTEN ?= 127.0.0.1:7000
+serve: program
+	@cd crates/board_server && rt run -- serve --listen $(LISTEN)
+
 # Proves and tests everything: the gate.
 test:
 	rt ci
@@ -25,3 +30,7 @@ test:
 # Times the program on long scripts, beside what JSON alone costs in Node.
 bench: program
 	@bench/run.sh crates/board_server/out/board_server
+
+# Plays many actions against a served port, and compares what each player was sent with a script's run.
+served: program
+	@bench/served.py same crates/board_server/out/board_server 20000

@@ -2,4 +2,5 @@ pub mod Modes
 pub mod Page
 pub mod Playing
 pub mod Process
+pub mod Serving
 pub mod Words

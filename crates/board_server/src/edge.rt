@@ -1,17 +1,26 @@
-//! Where the program meets the system: standard input and output, and sockets. `rt` is the system; `leave` is the leave to wait, which `main` is
-//! given.
+//! Where the program meets the system: standard input and output, sockets, and the words for seeds. `rt` is the system; `leave` is the leave to
+//! wait and to start threads, which `main` is given.
+
+ghost use Rattle.std.specs.Prelude.{◌≡◌, false};
 
 use crate::page::print_page;
 use crate::play::play;
 use crate::process::of_run;
 use crate::run::run;
-use board_links::{ReaderSource, WriterSink};
-use command_words::{WordsNo, play_words};
+use crate::serve::serve;
+use board_links::{Door, ReaderSource, WriterSink};
+use command_words::{WordsNo, play_words, serve_words};
 use link_play::Exit;
-use std::io;
+use std::fs::File;
+use std::io::{self, Read};
+use std::mem;
 use std::net::SocketAddr;
 use std::sync::Wait;
-use tcp_links::TcpLink;
+use std::thread::Threads;
+use tcp_links::{TcpDoor, TcpLink};
+
+/// How many bytes a line of a client may have.
+const CLIENT_LINE: u32 = 65_536;
 
 /// Prints a page on standard output.
 pub fn print_here(rt: &HostRuntime, page: &str) -> Exit {
@@ -52,6 +61,72 @@ fn play_over<R: Wait>(leave: &R, rt: &HostRuntime, words: &[String], link: TcpLi
     let exit = play(leave, rt.alloc(), words, &mut source, &mut sink, &mut link);
     drop(link);
     exit
+}
+
+/// Serves matches at the address that the words name.
+pub fn serve_there<R: Threads + Wait + Sync>(
+    leave: &R,
+    rt: &HostRuntime,
+    words: &[String],
+) -> Exit {
+    let addr = match serve_words(rt.alloc(), words) {
+        Ok(asked) => {
+            let addr = asked.listen.as_str().parse::<SocketAddr>();
+            drop(asked);
+            addr
+        }
+        Err(no) => return refused(no),
+    };
+    let Ok(addr) = addr else {
+        return Exit::DoorFault;
+    };
+    match TcpDoor::bind(*rt, rt.alloc(), addr, CLIENT_LINE) {
+        Ok(door) => serve_at(leave, rt, words, door),
+        Err(error) => fault(&error, Exit::DoorFault),
+    }
+}
+
+/// Serves matches at this door, once it has said where that is.
+fn serve_at<R: Threads + Wait + Sync>(
+    leave: &R,
+    rt: &HostRuntime,
+    words: &[String],
+    door: TcpDoor<HostRuntime>,
+) -> Exit
+    requires given { ⟦<TcpDoor<HostRuntime> as Door>⟧.given door ≡ 0 }
+    requires out { ⟦<TcpDoor<HostRuntime> as Door>⟧.out door ≡ 0 }
+    requires shut { ⟦<TcpDoor<HostRuntime> as Door>⟧.shut door ≡ false }
+{
+    match seed(rt) {
+        Ok(seed) => {
+            announce(rt, &door);
+            let mut sink = WriterSink::new(rt.stdout());
+            let (exit, door, books) = serve(leave, rt.alloc(), words, door, &mut sink, seed);
+            drop(door);
+            // The process ends with this run, and its memory goes with it.
+            mem::forget(books);
+            exit
+        }
+        Err(error) => {
+            drop(door);
+            fault(&error, Exit::DoorFault)
+        }
+    }
+}
+
+/// Says on standard error where the door listens. A line that can't be written is lost.
+fn announce(rt: &HostRuntime, door: &TcpDoor<HostRuntime>) {
+    if let Ok(addr) = door.addr() {
+        let _said = eprintln!(rt; "listening on {addr}");
+    }
+}
+
+/// Random bytes of the system.
+fn seed(rt: &HostRuntime) -> io::Result<[u8; 32]> {
+    let mut seed = [0; 32];
+    let mut file = File::open(rt, "/dev/urandom")?;
+    file.read_exact(&mut seed)?;
+    Ok(seed)
 }
 
 /// The end where words give nothing to do.

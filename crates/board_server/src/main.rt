@@ -1,5 +1,5 @@
-//! The match server. `board_server script` plays the script on standard input, and prints its transcript; `board_server world` does so with a world;
-//! and `board_server play` plays a match over a socket.
+//! The match server. `board_server serve` serves matches over sockets, and `board_server play` plays one; `board_server script` plays the script on
+//! standard input, and prints its transcript, and `board_server world` does so with a world.
 #![tactic(auto)]
 
 mod command;
@@ -9,14 +9,16 @@ mod page;
 mod play;
 mod process;
 mod run;
+mod serve;
 
-use edge::{play_there, print_here, run_here};
+use edge::{play_there, print_here, run_here, serve_there};
 use link_play::Exit;
 use mode::{Mode, mode_of};
 use page::{HELP, VERSION};
 use process::{after_name, report, status};
 use std::process::ExitCode;
 use std::sync::Wait;
+use std::thread::Threads;
 use std::{env, io};
 
 fn main(rt: HostRuntime) -> ExitCode {
@@ -40,10 +42,11 @@ fn words(rt: &HostRuntime) -> io::Result<Vec<String>> {
 }
 
 /// Does what the words after the program's name ask for.
-fn perform<R: Wait>(leave: &R, rt: &HostRuntime, words: &[String]) -> Exit {
+fn perform<R: Threads + Wait + Sync>(leave: &R, rt: &HostRuntime, words: &[String]) -> Exit {
     match mode_of(words) {
         Mode::Help => print_here(rt, HELP),
         Mode::Version => print_here(rt, VERSION),
+        Mode::Serve => serve_there(leave, rt, words),
         Mode::Play => play_there(leave, rt, words),
         Mode::Run => run_here(rt, words),
     }
@@ -51,5 +54,7 @@ fn perform<R: Wait>(leave: &R, rt: &HostRuntime, words: &[String]) -> Exit {
 
 #[cfg(test)]
 mod play_tests;
+#[cfg(test)]
+mod serve_tests;
 #[cfg(test)]
 mod tests;

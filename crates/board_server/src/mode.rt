@@ -10,6 +10,8 @@ pub enum Mode {
     Help,
     /// The line with the version.
     Version,
+    /// To serve matches.
+    Serve,
     /// To play a match.
     Play,
     /// To run what is read.
@@ -45,7 +47,9 @@ fn mode_alone(word: &[u8]) -> Mode
 fn mode_by(word: &[u8]) -> Mode
     ensures { result ≡ mode_by word.now }
 {
-    if word == b"play".as_slice() {
+    if word == b"serve".as_slice() {
+        Mode::Serve
+    } else if word == b"play".as_slice() {
         Mode::Play
     } else {
         Mode::Run

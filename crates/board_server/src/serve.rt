@@ -1,0 +1,100 @@
+//! Serves matches, as the words of `serve` ask for.
+
+ghost use Rattle.std.specs.Prelude.{◌≡◌, ◌≤◌, ◌<◌, IsSome, None, Some, [], false, map, string_bytes};
+ghost use Rattle.board_links.specs.Faults.{HasRisen};
+ghost use Rattle.command_words.specs.Serve.{serve_from};
+ghost use Rattle.command_words.specs.declared.serve.ServeWords.{ServeWords as Asked};
+ghost use Rattle.link_play.specs.Ends.{IsComplete};
+ghost use Rattle.link_play.specs.declared.exit.Exit.TheVariants.{Usage};
+ghost use Rattle.board_server.specs.Playing.{IsRefused};
+ghost use Rattle.board_server.specs.Serving.{Serves, exit_of};
+
+use any_game::AnyGame;
+use board_links::{Door, Sink};
+use command_words::{ServeWords, WordsNo, serve_words};
+use door_serve::{ServeEnd, serve_rooms};
+use link_play::Exit;
+use match_master::Book;
+use std::alloc::Global;
+use std::sync::Wait;
+use std::thread::Threads;
+
+/// Serves the links of a door with the rooms, the workers and the sessions that the words ask for, until the door is shut, has given so many
+/// sessions, or fails; then closes the rooms and prints the report. The first word is `serve`.
+///
+/// The door has given no link and hasn't answered that it is shut; no link is out when it comes back. `Usage` comes exactly where the words are in
+/// no form, and then nothing was asked of the door and nothing was printed. `serves` says of each other end where it comes and what was printed,
+/// which is a function of the count of links and of the books that are handed back, in the order of the rooms, or none where there was no memory
+/// to set the rooms up; `completes`, that a door and a sink without a fault give `Done`, or there was no memory. Worker w draws its words from
+/// stream w of the seed.
+pub fn serve<D: Door + Send, K: Sink, R: Threads + Wait + Sync>(
+    rt: &R,
+    alloc: Global,
+    words: &[String],
+    door: D,
+    sink: &mut K,
+    seed: [u8; 32],
+) -> (Exit, D, Vec<Book<AnyGame>>)
+where
+    D::L: Send,
+    requires fresh { (D.given door ≡ 0) × (D.out door ≡ 0) × (D.shut door ≡ false) }
+    ensures out { D.out result.1 ≡ 0 }
+    ensures sink_never_falls { K.faults sink.old ≤ K.faults sink.new }
+    ensures usage { result.0 ≡ Usage → serve_from (map string_bytes words.now) ≡ None }
+    ensures refused { serve_from (map string_bytes words.now) ≡ None → IsRefused result.0 × (result.2.items ≡ []) }
+    ensures untouched_door { serve_from (map string_bytes words.now) ≡ None → result.1 ≡ door }
+    ensures untouched_sink { serve_from (map string_bytes words.now) ≡ None → sink.new ≡ sink.old }
+    ensures serves { (asked : Asked) → serve_from (map string_bytes words.now) ≡ Some asked
+        → Serves asked result.0 result.2.items (D.faults door) (D.left door) (D.shut result.1) (D.faults result.1) (D.given result.1)
+        (K.faults sink.old) (K.faults sink.new) (K.held sink.old) (K.held sink.new) }
+    ensures completes { (asked : Asked) → serve_from (map string_bytes words.now) ≡ Some asked
+        → (HasRisen (D.faults door) (D.faults result.1) → ⊥) → (HasRisen (K.faults sink.old) (K.faults sink.new) → ⊥) → IsComplete result.0 }
+{
+    match serve_words(alloc, words) {
+        Ok(asked) => serve_asked(rt, alloc, asked, door, sink, seed),
+        Err(WordsNo::Usage) => (Exit::Usage, door, Vec::new(alloc)),
+        Err(WordsNo::NoMemory) => (Exit::NoMemory, door, Vec::new(alloc)),
+    }
+}
+
+/// Serves as was asked for.
+fn serve_asked<D: Door + Send, K: Sink, R: Threads + Wait + Sync>(
+    rt: &R,
+    alloc: Global,
+    asked: ServeWords,
+    door: D,
+    sink: &mut K,
+    seed: [u8; 32],
+) -> (Exit, D, Vec<Book<AnyGame>>)
+where
+    D::L: Send,
+    requires rooms { (0 < asked.rooms) × (asked.rooms ≤ 64) }
+    requires workers { (0 < asked.workers) × (asked.workers ≤ 32) }
+    requires fresh { (D.given door ≡ 0) × (D.out door ≡ 0) × (D.shut door ≡ false) }
+    ensures out { D.out result.1 ≡ 0 }
+    ensures sink_never_falls { K.faults sink.old ≤ K.faults sink.new }
+    ensures serves { Serves asked result.0 result.2.items (D.faults door) (D.left door) (D.shut result.1) (D.faults result.1) (D.given result.1)
+        (K.faults sink.old) (K.faults sink.new) (K.held sink.old) (K.held sink.new) }
+{
+    let ServeWords {
+        listen,
+        rooms,
+        workers,
+        sessions,
+    } = asked;
+    drop(listen);
+    let (end, door, books) = serve_rooms(rt, alloc, rooms, workers, sessions, door, sink, seed);
+    (exit_of(end), door, books)
+}
+
+/// The end of a run that served.
+fn exit_of(end: ServeEnd) -> Exit
+    ensures { result ≡ exit_of end }
+{
+    match end {
+        ServeEnd::Done => Exit::Done,
+        ServeEnd::DoorFault => Exit::DoorFault,
+        ServeEnd::WriteFault => Exit::WriteFault,
+        ServeEnd::NoMemory => Exit::NoMemory,
+    }
+}
