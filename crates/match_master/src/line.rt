@@ -16,7 +16,7 @@ ghost use Rattle.match_master.specs.UpdateText.{action_line, value_seen};
 use crate::action::{Action, SharedTexts};
 use game_sheet::{Ctx, MatchName, NoMemory, Number, Seat, Sheet};
 use game_trait::Game;
-use move_log::Entry;
+use move_log::{Entry, KeptEntry};
 use player_sight::{changed, ctx_value, put_ctx, put_entry, put_snapshot};
 use reducer::State;
 use serde_json::Value;
@@ -37,7 +37,7 @@ pub fn sync<X: Game>(
     seat: Option<Seat>,
     protocol: Protocol,
     state: &State<X::G>,
-    log: &[Entry],
+    log: &[KeptEntry],
 ) -> Result<Vec<u8>, NoMemory>
     ensures { IfOk result (λ l. l.items ≡ line (Sync name seat protocol (snapshot_data (X.rules game.now).sheet (seen_at (X.rules game.now) state.now log.now seat)))) }
 {
@@ -51,7 +51,7 @@ fn snapshot_text<X: Game>(
     game: &X,
     seat: Option<Seat>,
     state: &State<X::G>,
-    log: &[Entry],
+    log: &[KeptEntry],
 ) -> Result<Vec<u8>, NoMemory>
     ensures { IfOk result (λ t. t.items ≡ compact_text (snapshot_data (X.rules game.now).sheet (seen_at (X.rules game.now) state.now log.now seat))) }
 {

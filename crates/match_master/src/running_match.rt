@@ -8,7 +8,7 @@ ghost use Rattle.seat_roster.specs.Roster.{join, rename, leave};
 
 use game_sheet::{Key, List, MatchName, NoMemory, Seat, Text};
 use game_trait::Game;
-use move_log::Entry;
+use move_log::KeptEntry;
 use reducer::{Prepared, State, commit};
 use seat_roster::{Roster, RosterNo};
 use std::alloc::Global;
@@ -26,14 +26,14 @@ pub struct RunningMatch<X, G> {
     /// What the accepted actions have come to.
     pub state: State<G>,
     /// The accepted actions, the oldest first.
-    pub log: List<Entry>,
+    pub log: List<KeptEntry>,
     /// Who sits at its seats.
     pub roster: Roster,
 }
 
 impl<X: Game> RunningMatch<X, X::G> {
     /// Takes an accepted action in. Without memory nothing changes.
-    pub fn advance(&mut self, prepared: Prepared<X::G>, entry: Entry) -> Result<(), NoMemory>
+    pub fn advance(&mut self, prepared: Prepared<X::G>, entry: KeptEntry) -> Result<(), NoMemory>
         requires sound { IsSound (X.rules self.old.game) self.old.state }
         requires ready { IsReady (X.rules self.old.game) self.old.state prepared }
         ensures ok { OnOk result (self.new ≡ grown X.rules self.old prepared entry) }

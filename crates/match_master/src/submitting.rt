@@ -17,7 +17,7 @@ use crate::staging::stage;
 use crate::{attachments, line};
 use game_sheet::{NoMemory, Number};
 use game_trait::Game;
-use move_log::Entry;
+use move_log::{Entry, KeptEntry};
 use reducer::Prepared;
 use room_history::RoomReply;
 use std::alloc::Global;
@@ -85,6 +85,10 @@ impl<X: Game + Drop> Book<X> {
             drop(prepared);
             return RoomReply::NoMemory;
         };
+        let Ok(kept) = KeptEntry::of(self.alloc, &entry) else {
+            drop(prepared);
+            return RoomReply::NoMemory;
+        };
         let Some(running) = &self.running else {
             unreachable!();
         };
@@ -96,7 +100,7 @@ impl<X: Game + Drop> Book<X> {
         let Some(running) = &mut self.running else {
             unreachable!();
         };
-        let Ok(()) = running.advance(prepared, entry) else {
+        let Ok(()) = running.advance(prepared, kept) else {
             return RoomReply::NoMemory;
         };
         attachments::commit_all(&mut self.attachments);

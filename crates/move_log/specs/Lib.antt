@@ -1,1 +1,3 @@
+pub mod KeptAct
 pub mod Redact
+pub mod Way

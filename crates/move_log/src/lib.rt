@@ -2,5 +2,11 @@
 #![tactic(auto)]
 
 mod entry;
+mod kept_act;
+mod kept_entry;
+mod way;
 
 pub use entry::Entry;
+pub use kept_act::KeptAct;
+pub use kept_entry::KeptEntry;
+pub use way::Way;

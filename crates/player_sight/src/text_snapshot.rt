@@ -12,7 +12,7 @@ use crate::text_context::put_ctx;
 use crate::text_entry::put_entry;
 use game_sheet::{Ctx, NoMemory, Number, Seat, Sheet};
 use json_text::{put_comma, put_natural};
-use move_log::Entry;
+use move_log::KeptEntry;
 use std::alloc::Global;
 
 /// Appends the text of the log's value, with what the viewer may not see left out. Where memory is wanting, some first
@@ -21,7 +21,7 @@ pub fn put_log(
     alloc: Global,
     out: &mut Vec<u8>,
     sheet: &Sheet,
-    log: &[Entry],
+    log: &[KeptEntry],
     viewer: Option<Seat>,
 ) -> Result<(), NoMemory>
     ensures { OnOk result (out.new.items ≡ out.old.items
@@ -41,7 +41,7 @@ fn put_next(
     alloc: Global,
     out: &mut Vec<u8>,
     sheet: &Sheet,
-    entry: &Entry,
+    entry: &KeptEntry,
     viewer: Option<Seat>,
     later: bool,
 ) -> Result<(), NoMemory>
@@ -64,7 +64,7 @@ pub fn put_snapshot(
     number: Number,
     ctx: &Ctx,
     g: &[u8],
-    log: &[Entry],
+    log: &[KeptEntry],
     viewer: Option<Seat>,
 ) -> Result<(), NoMemory>
     ensures { (state : Data) → g.now ≡ compact_text state → OnOk result (out.new.items ≡ out.old.items
@@ -84,7 +84,7 @@ fn put_from_log(
     out: &mut Vec<u8>,
     sheet: &Sheet,
     number: Number,
-    log: &[Entry],
+    log: &[KeptEntry],
     viewer: Option<Seat>,
 ) -> Result<(), NoMemory>
     ensures { OnOk result (out.new.items ≡ out.old.items

@@ -2,8 +2,8 @@
 use Rattle.std.proofs.Common.{◌≡◌, refl}
 use Rattle.game_sheet.specs.declared.act.Act.{Act}
 use Rattle.game_sheet.specs.declared.act.Act.TheVariants.{Move, Event as Asks, Undo, Redo}
-use Rattle.reducer.specs.declared.way.Way.TheVariants.{Again, Back}
-use Rattle.reducer.specs.Way.{way_of}
+use Rattle.move_log.specs.declared.way.Way.TheVariants.{Again, Back}
+use Rattle.move_log.specs.Way.{way_of}
 
 pub is_undo : (act : Act) → Back ≡ way_of act → act ≡ Undo
 is_undo (Move id args) e = absurd (cc)

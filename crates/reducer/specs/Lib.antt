@@ -3,7 +3,6 @@ pub mod Acts
 pub mod Answer
 pub mod Fold
 pub mod Folded
-pub mod KeptAct
 pub mod Performs
 pub mod Prepared
 pub mod Refuses
@@ -14,4 +13,3 @@ pub mod Steps
 pub mod Struck
 pub mod Trails
 pub mod Walk
-pub mod Way

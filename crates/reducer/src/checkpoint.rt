@@ -2,9 +2,9 @@
 
 ghost use Rattle.std.specs.Prelude.{◌≡◌, ℕ, IfOk};
 
-use crate::kept_act::KeptAct;
 use dice_words::Tape;
 use game_sheet::Seat;
+use move_log::KeptAct;
 use phase_flow::Table;
 use std::marker::Model;
 

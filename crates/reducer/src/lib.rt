@@ -4,14 +4,12 @@
 mod act;
 mod checkpoint;
 mod fold;
-mod kept_act;
 mod laws;
 mod machine;
 mod prepared;
 mod preparing;
 mod state;
 mod taking;
-mod way;
 
 pub use fold::{StartNo, start, step};
 pub use laws::matches_stay_sound;

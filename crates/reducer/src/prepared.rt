@@ -2,11 +2,11 @@
 
 ghost use Rattle.std.specs.Prelude.{◌≡◌};
 ghost use Rattle.reducer.specs.Walk.{reached_at};
-ghost use Rattle.reducer.specs.Way.{way_of};
+ghost use Rattle.move_log.specs.Way.{way_of};
 
 use crate::checkpoint::{Checkpoint, Deed};
-use crate::way::Way;
 use game_sheet::{Ctx, Number};
+use move_log::Way;
 use std::marker::Model;
 use undo_redo::Step;
 

@@ -13,12 +13,12 @@ ghost use Rattle.stage_map.specs.Moves.{may};
 ghost use Rattle.game_sheet.specs.declared.ids.TheConstants.{MOST_ACTIONS};
 
 use crate::checkpoint::{Checkpoint, Deed};
-use crate::kept_act::KeptAct;
 use crate::machine::perform;
 use crate::prepared::Prepared;
 use crate::state::State;
 use game_sheet::{Act, GameNo, GameRule, NoMemory, Number, Seat};
 use game_trait::Game;
+use move_log::KeptAct;
 use std::alloc::Global;
 use std::sync::Arc;
 use undo_redo::Step;

@@ -11,8 +11,8 @@ ghost use Rattle.game_sheet.specs.declared.ids.TheConstants.{MOST_ACTIONS};
 use crate::machine::Reducer;
 use crate::prepared::Prepared;
 use crate::state::State;
-use crate::way::Way;
 use game_trait::Game;
+use move_log::Way;
 use phase_flow::bounds_grow;
 
 /// Takes in an action that was prepared on this state. It takes no memory and runs nothing of the game.

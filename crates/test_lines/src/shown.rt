@@ -5,7 +5,7 @@ use game_sheet::{
     Act, Arg, Args, Ctx, Event, List, MoveId, NoMemory, Outcome, PhaseId, Seat, Sheet, SpecId,
     StageId,
 };
-use move_log::Entry;
+use move_log::{Entry, KeptEntry};
 use player_sight::put_snapshot;
 use std::alloc::Global;
 use std::process::Abort;
@@ -212,28 +212,34 @@ fn entry(seat: Seat, act: Act, number: u32) -> Entry {
     }
 }
 
-/// The bytes of a snapshot for seat 1, of a match with four seats on the map, a sealed bid of seat 0 and an undo.
+/// A log as a match keeps it: a sealed bid of seat 0 and an undo of seat 1.
+fn kept_log(alloc: Global) -> Result<List<KeptEntry>, NoMemory> {
+    let bid = KeptEntry::of(alloc, &entry(0, bid(), 0))?;
+    let undo = KeptEntry::of(alloc, &entry(1, Act::Undo, 1))?;
+    let mut log = List::new(alloc);
+    log.push(bid)?;
+    log.push(undo)?;
+    Ok(log)
+}
+
+/// The bytes of a snapshot for seat 1, of a match with four seats on the map and this log.
 fn snapshot_bytes(
     alloc: Global,
     sheet: &Sheet,
-    ctx: Result<Ctx, NoMemory>,
+    ctx: &Ctx,
+    log: &[KeptEntry],
 ) -> Result<Vec<u8>, NoMemory> {
-    let ctx = ctx?;
-    let log = [entry(0, bid(), 0), entry(1, Act::Undo, 1)];
     let mut out = Vec::new(alloc);
-    let done = put_snapshot(
+    put_snapshot(
         alloc,
         &mut out,
         sheet,
         2,
-        &ctx,
+        ctx,
         b"{\"pot\":5}",
-        &log,
+        log,
         Some(1),
-    );
-    drop(ctx);
-    drop(log);
-    done?;
+    )?;
     Ok(out)
 }
 
@@ -241,7 +247,18 @@ const SNAPSHOT: &str =
     "{\"ctx\":{\"activePlayers\":{\"0\":\"secret\",\"1\":null,\"10\":\"secret\",\"2\":null},\"currentPlayer\":0,\"gameover\":null,\"numMoves\":0,\"numPlayers\":2,\"phase\":\"draw\",\"playOrder\":[0,1],\"playOrderPos\":0,\"turn\":1},\"g\":{\"pot\":5},\"log\":[{\"act\":{\"args\":null,\"kind\":\"move\",\"move\":\"bid\"},\"number\":0,\"phase\":null,\"seat\":0,\"turn\":1},{\"act\":{\"kind\":\"undo\"},\"number\":1,\"phase\":null,\"seat\":1,\"turn\":1}],\"number\":2}";
 
 fn snapshot_is_written(rt: &impl Abort, alloc: Global, sheet: &Sheet) -> Result<(), NoMemory> {
-    let bytes = snapshot_bytes(alloc, sheet, mapped(alloc))?;
+    let log = kept_log(alloc)?;
+    let ctx = match mapped(alloc) {
+        Ok(ctx) => ctx,
+        Err(no) => {
+            drop(log);
+            return Err(no);
+        }
+    };
+    let bytes = snapshot_bytes(alloc, sheet, &ctx, log.as_slice());
+    drop(ctx);
+    drop(log);
+    let bytes = bytes?;
     assert!(rt; bytes.as_slice() == SNAPSHOT.as_bytes());
     Ok(())
 }

@@ -1,8 +1,8 @@
 -- Which way an action takes a match.
 use Rattle.game_sheet.specs.declared.act.Act.{Act}
 use Rattle.game_sheet.specs.declared.act.Act.TheVariants.{Move, Event as Asks, Undo, Redo}
-use Rattle.reducer.specs.declared.way.Way.{Way}
-use Rattle.reducer.specs.declared.way.Way.TheVariants.{On, Back, Again}
+use Rattle.move_log.specs.declared.way.Way.{Way}
+use Rattle.move_log.specs.declared.way.Way.TheVariants.{On, Back, Again}
 
 abbrev pub way_of : Act → Way
 way_of (Move id args) = On

@@ -2,7 +2,7 @@
 
 /// Which way an action takes a match: on, a step back, or a step on again.
 #[derive(Clone, Copy)]
-pub(crate) enum Way {
+pub enum Way {
     /// By a move or an event.
     On,
     /// By an undo.

@@ -1,7 +1,7 @@
-//! An action as the trail of a match keeps it.
+//! An action as a match keeps it, in its log and in its trail.
 
 ghost use Rattle.std.specs.Prelude.{◌≡◌, ◌≤◌, IfOk, length};
-ghost use Rattle.reducer.specs.Way.{way_of};
+ghost use Rattle.move_log.specs.Way.{way_of};
 
 use crate::way::Way;
 use game_sheet::{Act, Arg, Args, Event, MoveId, NoMemory};
@@ -10,7 +10,7 @@ use std::marker::Model;
 
 /// An action whose arguments take the room that they need, and not the room for eight. Contracts see the action.
 #[derive(Drop)]
-pub(crate) struct KeptAct {
+pub struct KeptAct {
     kept: Kept,
 }
 
@@ -29,7 +29,7 @@ enum Kept {
 
 impl Model for KeptAct {
     ghost use Rattle.game_sheet.specs.declared.act.Act.{Act};
-    ghost use Rattle.reducer.specs.KeptAct.{act_kept, FewArguments};
+    ghost use Rattle.move_log.specs.KeptAct.{act_kept, FewArguments};
 
     ghost Value = { Act };
 
@@ -40,7 +40,7 @@ impl Model for KeptAct {
 
 impl KeptAct {
     /// An equal action, which is kept.
-    pub(crate) fn of(alloc: Global, act: &Act) -> Result<Self, NoMemory>
+    pub fn of(alloc: Global, act: &Act) -> Result<Self, NoMemory>
         ensures { IfOk result (λ kept. kept ≡ act.now) }
     {
         let kept = match act {
@@ -56,7 +56,7 @@ impl KeptAct {
     }
 
     /// An equal action, with room for eight arguments.
-    pub(crate) fn act(&self) -> Act
+    pub fn act(&self) -> Act
         ensures { result ≡ self.now }
     {
         match &self.kept {
@@ -71,7 +71,7 @@ impl KeptAct {
     }
 
     /// Which way the action takes a match.
-    pub(crate) fn way(&self) -> Way
+    pub fn way(&self) -> Way
         ensures { result ≡ way_of self.now }
     {
         match &self.kept {

@@ -2,8 +2,8 @@
 use Rattle.std.specs.Prelude.{◌≤◌, length}
 use Rattle.game_sheet.specs.declared.act.Act.{Act}
 use Rattle.game_sheet.specs.declared.act.Act.TheVariants as whole
-use Rattle.reducer.specs.declared.kept_act.Kept.{Kept}
-use Rattle.reducer.specs.declared.kept_act.Kept.TheVariants.{Move, Event as Asks, Undo, Redo}
+use Rattle.move_log.specs.declared.kept_act.Kept.{Kept}
+use Rattle.move_log.specs.declared.kept_act.Kept.TheVariants.{Move, Event as Asks, Undo, Redo}
 
 abbrev pub act_kept : Kept → Act
 act_kept (Move id args) = whole.Move id args.items
