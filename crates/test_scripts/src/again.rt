@@ -1,23 +1,40 @@
 //! The line of a session for which there was no memory.
 
 use game_hall::SessionCore;
-use game_sheet::Bytes;
 use std::test::Fail;
 
-fn is(said: &Bytes, text: &[u8]) -> bool {
-    said.count() == 1 && said.piece(0) == text
+/// The line of a session that has no ticket.
+const AGAIN: &[u8] = b"{\"ticket\":null,\"type\":\"again\"}\n";
+
+/// Whether there is no value. One that is there is let go.
+fn is_none<T: Drop>(value: Option<T>) -> bool {
+    let none = value.is_none();
+    drop(value);
+    none
+}
+
+/// Whether a session says one line, and it is this.
+fn says(core: &mut SessionCore, text: &[u8]) -> bool {
+    let said = core.written();
+    let same = said.count() == 1 && said.piece(0) == text;
+    drop(said);
+    same
+}
+
+/// Whether a session says nothing, and asks nothing of a room.
+fn is_idle(core: &mut SessionCore) -> bool {
+    let said = core.written();
+    let silent = said.count() == 0;
+    drop(said);
+    silent && is_none(core.wants())
 }
 
 #[test]
 fn a_line_that_starves_is_answered_again_once(rt: HostRuntime) -> Result<(), Fail> {
-    let _alloc = rt.alloc();
     let mut core = SessionCore::new(3, 8);
     core.starve();
-    assert!(rt; core.is_again());
-    let said = core.written();
-    assert!(rt; is(&said, b"{\"ticket\":null,\"type\":\"again\"}\n"));
-    let none = core.written();
-    assert_eq!(rt; none.count(), 0);
-    assert!(rt; core.wants().is_none());
+    let once = core.is_again() && says(&mut core, AGAIN) && is_idle(&mut core);
+    drop(core);
+    assert!(rt; once);
     Ok(())
 }
