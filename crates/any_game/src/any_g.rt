@@ -15,7 +15,6 @@ use std::alloc::Global;
 use table_states::{Board, Heap, Scores};
 
 /// A state of one of the games.
-#[derive(Drop)]
 pub enum AnyG {
     /// Of tic-tac-toe.
     TicTacToe(Board),
@@ -29,6 +28,19 @@ pub enum AnyG {
     BlindBid(Bids),
     /// Of Captions.
     Captions(Texts),
+}
+
+impl Drop for AnyG {
+    fn drop(self) {
+        match self {
+            AnyG::TicTacToe(g) => drop(g),
+            AnyG::Countdown(g) => drop(g),
+            AnyG::Pig(g) => drop(g),
+            AnyG::HighHand(g) => drop(g),
+            AnyG::BlindBid(g) => drop(g),
+            AnyG::Captions(g) => drop(g),
+        }
+    }
 }
 
 impl AnyG {

@@ -30,9 +30,15 @@ macro_rules! picked {
 }
 
 /// One of the six games. Contracts see which one it is.
-#[derive(Drop)]
 pub struct AnyGame {
     game: Picked,
+}
+
+impl Drop for AnyGame {
+    fn drop(self) {
+        let AnyGame { game } = self;
+        drop(game);
+    }
 }
 
 #[derive(Drop)]

@@ -9,13 +9,26 @@ use std::alloc::Global;
 use std::marker::Model;
 
 /// A source of the bytes of a list.
-#[derive(Drop)]
 pub struct MemorySource {
     bytes: Vec<u8>,
     at: usize,
     calls: u64,
     failing: List<u64>,
     faults: u64,
+}
+
+impl Drop for MemorySource {
+    fn drop(self) {
+        let MemorySource {
+            bytes,
+            at: _,
+            calls: _,
+            failing,
+            faults: _,
+        } = self;
+        drop(bytes);
+        drop(failing);
+    }
 }
 
 impl Model for MemorySource {
@@ -87,12 +100,24 @@ fn copied(buf: &mut [u8], bytes: &[u8]) -> usize
 }
 
 /// A sink that keeps all its bytes.
-#[derive(Drop)]
 pub struct MemorySink {
     bytes: Vec<u8>,
     calls: u64,
     failing: List<u64>,
     faults: u64,
+}
+
+impl Drop for MemorySink {
+    fn drop(self) {
+        let MemorySink {
+            bytes,
+            calls: _,
+            failing,
+            faults: _,
+        } = self;
+        drop(bytes);
+        drop(failing);
+    }
 }
 
 impl Model for MemorySink {

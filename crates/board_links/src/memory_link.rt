@@ -32,7 +32,6 @@ pub enum AtEnd {
 }
 
 /// A link in memory.
-#[derive(Drop)]
 pub struct MemoryLink {
     alloc: Global,
     script: Vec<Scripted>,
@@ -42,6 +41,27 @@ pub struct MemoryLink {
     sent: Vec<u8>,
     failing: List<u64>,
     progress: Progress,
+}
+
+impl Drop for MemoryLink {
+    fn drop(self) {
+        let MemoryLink {
+            alloc: _,
+            script,
+            at_end,
+            limit: _,
+            answers,
+            sent,
+            failing,
+            progress,
+        } = self;
+        drop(script);
+        drop(at_end);
+        drop(answers);
+        drop(sent);
+        drop(failing);
+        drop(progress);
+    }
 }
 
 /// How far a link in memory has come: its place in the script, its calls and faults, and what it told of its end.

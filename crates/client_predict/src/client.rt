@@ -31,13 +31,26 @@ use std::marker::Model;
 use wire_json::{Asked, ServerMsg, WireNo, read_server};
 
 /// A client of a game, with the key of a seat or none.
-#[derive(Drop)]
 pub struct Client<X: Game + Drop> {
     alloc: Global,
     game: X,
     key: Option<Key>,
     gone: bool,
     part: Option<Part<X::G>>,
+}
+
+impl<X: Game + Drop> Drop for Client<X> {
+    fn drop(self) {
+        let Client {
+            alloc: _,
+            game,
+            key: _,
+            gone: _,
+            part,
+        } = self;
+        drop(game);
+        drop(part);
+    }
 }
 
 impl<X: Game + Drop> Model for Client<X> {

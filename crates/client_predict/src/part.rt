@@ -20,7 +20,6 @@ use std::alloc::Global;
 pub(crate) const MOST_WAITING: usize = 32;
 
 /// A client's part in a match since its last sync.
-#[derive(Drop)]
 pub(crate) struct Part<G> {
     /// Which match.
     pub(crate) name: MatchName,
@@ -34,6 +33,22 @@ pub(crate) struct Part<G> {
     pub(crate) guesses: Vec<Option<Guess<G>>>,
     /// The next ticket.
     pub(crate) ticket: u32,
+}
+
+impl<G: Drop> Drop for Part<G> {
+    fn drop(self) {
+        let Part {
+            name: _,
+            seat: _,
+            settled,
+            waiting,
+            guesses,
+            ticket: _,
+        } = self;
+        drop(settled);
+        drop(waiting);
+        drop(guesses);
+    }
 }
 
 impl<G: Drop> Part<G> {

@@ -4,7 +4,6 @@ use game_sheet::Number;
 use wire_json::Asked;
 
 /// An action that was sent and isn't answered yet.
-#[derive(Drop)]
 pub(crate) struct Waiting {
     /// Its ticket.
     pub(crate) ticket: u32,
@@ -12,4 +11,15 @@ pub(crate) struct Waiting {
     pub(crate) number: Number,
     /// What was asked for.
     pub(crate) asked: Asked,
+}
+
+impl Drop for Waiting {
+    fn drop(self) {
+        let Waiting {
+            ticket: _,
+            number: _,
+            asked,
+        } = self;
+        drop(asked);
+    }
 }

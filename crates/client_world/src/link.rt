@@ -8,9 +8,15 @@ use std::collections::VecDeque;
 use std::marker::Model;
 
 /// Lines on their way, first in, first out. Contracts see the lines, the oldest first.
-#[derive(Drop)]
 pub struct Link {
     waiting: VecDeque<Vec<u8>>,
+}
+
+impl Drop for Link {
+    fn drop(self) {
+        let Link { waiting } = self;
+        drop(waiting);
+    }
 }
 
 impl Model for Link {

@@ -14,7 +14,6 @@ use std::mem;
 use wire_json::Asked;
 
 /// A client's place in a world: the client, once one was attached, and the links to and from its session.
-#[derive(Drop)]
 pub struct Peer {
     /// The client.
     pub player: Option<Player>,
@@ -22,6 +21,15 @@ pub struct Peer {
     pub up: Link,
     /// What is on its way to the client.
     pub down: Link,
+}
+
+impl Drop for Peer {
+    fn drop(self) {
+        let Peer { player, up, down } = self;
+        drop(player);
+        drop(up);
+        drop(down);
+    }
 }
 
 impl Peer {

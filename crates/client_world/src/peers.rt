@@ -22,9 +22,15 @@ use wire_json::Asked;
 const CLIENTS: u8 = 32;
 
 /// The 32 clients of a world, with their links. Contracts see them, client 0's first.
-#[derive(Drop)]
 pub struct Peers {
     each: Vec<Peer>,
+}
+
+impl Drop for Peers {
+    fn drop(self) {
+        let Peers { each } = self;
+        drop(each);
+    }
 }
 
 impl Model for Peers {

@@ -22,10 +22,17 @@ use std::marker::Model;
 use wire_json::Asked;
 
 /// A client of a game that is picked by its name. Contracts see the client.
-#[derive(Drop)]
 pub struct Player {
     game: AnyGame,
     client: Client<AnyGame>,
+}
+
+impl Drop for Player {
+    fn drop(self) {
+        let Player { game, client } = self;
+        drop(game);
+        drop(client);
+    }
 }
 
 impl Model for Player {

@@ -38,11 +38,22 @@ use wire_json::{Asked, ClientMsg, Protocol, write_client};
 ///
 /// Contracts see what it holds, and that it stands for a world as `hall_history` has it. A client's session has the client's number
 /// as its pass. A step prints what its line of a world prints. After `NoMemory` a run is at its end, and no more is said of the world.
-#[derive(Drop)]
 pub struct ClientWorld {
     alloc: Global,
     hall: SessionHall,
     peers: Peers,
+}
+
+impl Drop for ClientWorld {
+    fn drop(self) {
+        let ClientWorld {
+            alloc: _,
+            hall,
+            peers,
+        } = self;
+        drop(hall);
+        drop(peers);
+    }
 }
 
 impl Model for ClientWorld {

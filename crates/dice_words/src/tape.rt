@@ -13,12 +13,22 @@ const MOST_WORDS: u32 = 256;
 /// The words of one stream of a seed, from a place on, or no words at all. An action draws at most 256 of them.
 ///
 /// Contracts see where the words come from, the place at which the action began, how many it has drawn and those that it has left.
-#[derive(Drop)]
 pub struct Tape {
     // None in a blank tape, whose start and count stay 0.
     stream: Option<Stream>,
     start: u64,
     used: u32,
+}
+
+impl Drop for Tape {
+    fn drop(self) {
+        let Tape {
+            stream,
+            start: _,
+            used: _,
+        } = self;
+        drop(stream);
+    }
 }
 
 impl Model for Tape {

@@ -17,10 +17,17 @@ use wire_json::{MatchRow, put_row};
 const ENDING: &[u8] = b"],\"type\":\"matches\"}\n";
 
 /// The rows of a game's matches so far, and the line that answers by them. Contracts see the rows.
-#[derive(Drop)]
 pub struct Rows {
     rows: List<MatchRow>,
     line: Vec<u8>,
+}
+
+impl Drop for Rows {
+    fn drop(self) {
+        let Rows { rows, line } = self;
+        drop(rows);
+        drop(line);
+    }
 }
 
 impl Model for Rows {

@@ -26,7 +26,6 @@ use std::mem;
 ///
 /// A line is given to `on_line`. As long as `wants` hands out a call it is made, and its reply given to `answered`. Then `written`
 /// hands out the direct answer, if there is one.
-#[derive(Drop)]
 pub struct SessionCore {
     pass: u32,
     rooms: u8,
@@ -34,6 +33,22 @@ pub struct SessionCore {
     call: Option<(u8, RoomCall<AnyGame>)>,
     request: Option<Request>,
     said: Option<WrittenAnswer>,
+}
+
+impl Drop for SessionCore {
+    fn drop(self) {
+        let SessionCore {
+            pass: _,
+            rooms: _,
+            at: _,
+            call,
+            request,
+            said,
+        } = self;
+        drop(call);
+        drop(request);
+        drop(said);
+    }
 }
 
 impl Model for SessionCore {

@@ -19,10 +19,17 @@ use wire_json::{MatchRow, Refusal, games_line};
 /// A direct answer whose line is finished. Contracts see the answer.
 ///
 /// The lines of all but matches and their rows stand in the program or in the value itself, and take no memory.
-#[derive(Drop)]
 pub struct WrittenAnswer {
     answer: Answer,
     line: Bytes,
+}
+
+impl Drop for WrittenAnswer {
+    fn drop(self) {
+        let WrittenAnswer { answer, line } = self;
+        drop(answer);
+        drop(line);
+    }
 }
 
 impl Model for WrittenAnswer {

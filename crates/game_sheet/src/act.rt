@@ -6,7 +6,6 @@ use crate::args::Args;
 use crate::ids::{MoveId, PhaseId, Seat, SpecId, StageId};
 
 /// An action on a match, its names resolved to places in the sheet.
-#[derive(Drop)]
 pub enum Act {
     /// A move of the game.
     Move {
@@ -21,6 +20,15 @@ pub enum Act {
     Undo,
     /// Does the first undone action again.
     Redo,
+}
+
+impl Drop for Act {
+    fn drop(self) {
+        match self {
+            Act::Move { id: _, args } => drop(args),
+            Act::Event(_) | Act::Undo | Act::Redo => {}
+        }
+    }
 }
 
 impl Act {

@@ -15,10 +15,15 @@ pub enum Arg {
 }
 
 /// At most eight arguments. Contracts see their list.
-#[derive(Drop)]
 pub struct Args {
     items: [Arg; 8],
     len: usize,
+}
+
+impl Drop for Args {
+    fn drop(self) {
+        let Args { items: _, len: _ } = self;
+    }
 }
 
 impl Model for Args {

@@ -11,9 +11,15 @@ use std::sync::Arc;
 ///
 /// They are read piece by piece: the pieces are the lines, each with its newline. None is empty, and the last alone may have no
 /// newline.
-#[derive(Drop)]
 pub struct Bytes {
     held: Held,
+}
+
+impl Drop for Bytes {
+    fn drop(self) {
+        let Bytes { held } = self;
+        drop(held);
+    }
 }
 
 /// Where the bytes stand.

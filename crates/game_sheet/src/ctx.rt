@@ -9,7 +9,6 @@ use crate::memory::NoMemory;
 use std::alloc::Global;
 
 /// What every viewer sees of a match besides the game's own state.
-#[derive(Drop)]
 pub struct Ctx {
     /// How many seats the match has, 1 to 16.
     pub seats: u8,
@@ -29,6 +28,24 @@ pub struct Ctx {
     pub moves: u32,
     /// How the match ended, if it has.
     pub over: Option<Outcome>,
+}
+
+impl Drop for Ctx {
+    fn drop(self) {
+        let Ctx {
+            seats: _,
+            turn: _,
+            current: _,
+            order,
+            pos: _,
+            phase: _,
+            active,
+            moves: _,
+            over: _,
+        } = self;
+        drop(order);
+        drop(active);
+    }
 }
 
 impl Ctx {

@@ -6,10 +6,15 @@ use crate::act::Event;
 use std::marker::Model;
 
 /// At most sixteen events, first in, first out. Contracts see their list.
-#[derive(Drop)]
 pub struct EventQueue {
     items: [Event; 16],
     len: usize,
+}
+
+impl Drop for EventQueue {
+    fn drop(self) {
+        let EventQueue { items: _, len: _ } = self;
+    }
 }
 
 /// A seventeenth event was queued.

@@ -6,7 +6,6 @@ use crate::list::List;
 use crate::text::Text;
 
 /// The fixed description of a game, by which the flow of its matches goes.
-#[derive(Drop)]
 pub struct Sheet {
     /// The game's name: 1 to 32 lower-case letters, digits and dashes.
     pub name: Text,
@@ -28,6 +27,31 @@ pub struct Sheet {
     pub specs: List<SpecRow>,
     /// The events that players may ask for.
     pub events: List<EventKind>,
+}
+
+impl Drop for Sheet {
+    fn drop(self) {
+        let Sheet {
+            name,
+            min_seats: _,
+            max_seats: _,
+            moves,
+            base,
+            turn,
+            phases,
+            stages,
+            specs,
+            events,
+        } = self;
+        drop(name);
+        drop(moves);
+        drop(base);
+        drop(turn);
+        drop(phases);
+        drop(stages);
+        drop(specs);
+        drop(events);
+    }
 }
 
 /// One move.

@@ -8,9 +8,15 @@ use std::alloc::Global;
 use std::marker::Model;
 
 /// UTF-8 text of any length, such as a name on a sheet or a player's name.
-#[derive(Drop)]
 pub struct Text {
     text: String,
+}
+
+impl Drop for Text {
+    fn drop(self) {
+        let Text { text } = self;
+        drop(text);
+    }
 }
 
 impl Model for Text {

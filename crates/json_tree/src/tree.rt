@@ -4,9 +4,15 @@ use serde_json::Value;
 use std::marker::Model;
 
 /// A JSON value without floats: a part of a message whose form the wire leaves to others.
-#[derive(Drop)]
 pub struct Tree {
     value: Value,
+}
+
+impl Drop for Tree {
+    fn drop(self) {
+        let Tree { value } = self;
+        drop(value);
+    }
 }
 
 impl Model for Tree {

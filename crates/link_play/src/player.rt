@@ -18,10 +18,17 @@ use std::marker::Model;
 use wire_json::Asked;
 
 /// A client of a match, beside its game. Contracts see the client.
-#[derive(Drop)]
 pub struct Player<X: Game + Drop> {
     game: X,
     client: Client<X>,
+}
+
+impl<X: Game + Drop> Drop for Player<X> {
+    fn drop(self) {
+        let Player { game, client } = self;
+        drop(game);
+        drop(client);
+    }
 }
 
 impl<X: Game + Drop> Model for Player<X> {

@@ -22,7 +22,6 @@ use std::sync::Arc;
 use wire_json::Protocol;
 
 /// One attachment.
-#[derive(Drop)]
 pub struct Attached {
     /// The seat that looks, with its key; none for a spectator.
     pub viewer: Viewer,
@@ -30,6 +29,17 @@ pub struct Attached {
     pub protocol: Protocol,
     /// What waits for it.
     pub outbox: Outbox,
+}
+
+impl Drop for Attached {
+    fn drop(self) {
+        let Attached {
+            viewer: _,
+            protocol: _,
+            outbox,
+        } = self;
+        drop(outbox);
+    }
 }
 
 /// The attachments by pass.

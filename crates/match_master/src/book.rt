@@ -22,13 +22,26 @@ use std::alloc::Global;
 use std::marker::Model;
 
 /// The book of one room. It answers one call at a time.
-#[derive(Drop)]
 pub struct Book<X: Game + Drop> {
     pub(crate) alloc: Global,
     pub(crate) room: u8,
     pub(crate) serials: u64,
     pub(crate) running: Option<RunningMatch<X, X::G>>,
     pub(crate) attachments: Attachments,
+}
+
+impl<X: Game + Drop> Drop for Book<X> {
+    fn drop(self) {
+        let Book {
+            alloc: _,
+            room: _,
+            serials: _,
+            running,
+            attachments,
+        } = self;
+        drop(running);
+        drop(attachments);
+    }
 }
 
 impl<X: Game + Drop> Model for Book<X> {

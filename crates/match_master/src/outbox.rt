@@ -17,7 +17,6 @@ const MOST_WAITING: usize = 4_194_304;
 /// The lines that wait, how many of their bytes count, and how the stream ended, if it has; and the same as it will be once what is
 /// staged is committed. So the lines of an action are staged at each attachment before the first has them, and all or none are told
 /// when memory runs out. Lines are shared with other outboxes.
-#[derive(Drop)]
 pub struct Outbox {
     lines: Vec<Arc<Vec<u8>>>,
     waiting: usize,
@@ -25,6 +24,20 @@ pub struct Outbox {
     end: Option<Bye>,
     staged_count: usize,
     staged_end: Option<Bye>,
+}
+
+impl Drop for Outbox {
+    fn drop(self) {
+        let Outbox {
+            lines,
+            waiting: _,
+            count: _,
+            end: _,
+            staged_count: _,
+            staged_end: _,
+        } = self;
+        drop(lines);
+    }
 }
 
 impl Model for Outbox {

@@ -15,7 +15,6 @@ use std::alloc::Global;
 use wire_json::MatchRow;
 
 /// The match that stands: its game, its state, its log, and who sits at its seats.
-#[derive(Drop)]
 pub struct RunningMatch<X, G> {
     /// The game.
     pub game: X,
@@ -29,6 +28,23 @@ pub struct RunningMatch<X, G> {
     pub log: List<KeptEntry>,
     /// Who sits at its seats.
     pub roster: Roster,
+}
+
+impl<X: Drop, G: Drop> Drop for RunningMatch<X, G> {
+    fn drop(self) {
+        let RunningMatch {
+            game,
+            seats: _,
+            serial: _,
+            state,
+            log,
+            roster,
+        } = self;
+        drop(game);
+        drop(state);
+        drop(log);
+        drop(roster);
+    }
 }
 
 impl<X: Game> RunningMatch<X, X::G> {

@@ -5,7 +5,6 @@ ghost use Rattle.std.specs.Prelude.{◌≡◌};
 use game_sheet::{Act, Args, Number, PhaseId, Seat, Sheet};
 
 /// An accepted action of a match, with the state that it was made on.
-#[derive(Drop)]
 pub struct Entry {
     /// Who acted.
     pub seat: Seat,
@@ -21,6 +20,21 @@ pub struct Entry {
     pub phase: Option<PhaseId>,
     /// How many random words the action drew; 0 in what a viewer sees.
     pub words: u32,
+}
+
+impl Drop for Entry {
+    fn drop(self) {
+        let Entry {
+            seat: _,
+            act,
+            hidden: _,
+            number: _,
+            turn: _,
+            phase: _,
+            words: _,
+        } = self;
+        drop(act);
+    }
 }
 
 impl Entry {

@@ -9,9 +9,15 @@ use std::alloc::Global;
 use std::marker::Model;
 
 /// An action whose arguments take the room that they need, and not the room for eight. Contracts see the action.
-#[derive(Drop)]
 pub struct KeptAct {
     kept: Kept,
+}
+
+impl Drop for KeptAct {
+    fn drop(self) {
+        let KeptAct { kept } = self;
+        drop(kept);
+    }
 }
 
 /// What is kept of an action.

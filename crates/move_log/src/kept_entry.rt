@@ -9,7 +9,6 @@ use std::alloc::Global;
 use std::marker::Model;
 
 /// An entry whose action takes the room that it needs. Contracts see the entry.
-#[derive(Drop)]
 pub struct KeptEntry {
     seat: Seat,
     act: KeptAct,
@@ -18,6 +17,21 @@ pub struct KeptEntry {
     turn: u32,
     phase: Option<PhaseId>,
     words: u32,
+}
+
+impl Drop for KeptEntry {
+    fn drop(self) {
+        let KeptEntry {
+            seat: _,
+            act,
+            hidden: _,
+            number: _,
+            turn: _,
+            phase: _,
+            words: _,
+        } = self;
+        drop(act);
+    }
 }
 
 impl Model for KeptEntry {

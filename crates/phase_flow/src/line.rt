@@ -8,9 +8,15 @@ use std::collections::VecDeque;
 use std::marker::Model;
 
 /// What waits, first in, first out. Contracts see its list.
-#[derive(Drop)]
 pub(crate) struct Line<T> {
     items: VecDeque<T>,
+}
+
+impl<T: Drop> Drop for Line<T> {
+    fn drop(self) {
+        let Line { items } = self;
+        drop(items);
+    }
 }
 
 impl<T> Model for Line<T> {

@@ -7,7 +7,6 @@ use stage_map::Active;
 pub const MOST_COUNT: u32 = 4_000_000_000;
 
 /// The state of the game, the context of the match and its map of active players.
-#[derive(Drop)]
 pub struct Table<G> {
     /// The state of the game.
     pub g: G,
@@ -15,4 +14,13 @@ pub struct Table<G> {
     pub ctx: Ctx,
     /// The map with its counts, its follower and the earlier maps; the context shows a part of it.
     pub active: Active,
+}
+
+impl<G: Drop> Drop for Table<G> {
+    fn drop(self) {
+        let Table { g, ctx, active } = self;
+        drop(g);
+        drop(ctx);
+        drop(active);
+    }
 }

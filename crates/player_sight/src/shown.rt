@@ -4,7 +4,6 @@ use game_sheet::{Ctx, List, Number};
 use move_log::Entry;
 
 /// What a viewer is shown of a match.
-#[derive(Drop)]
 pub struct Snapshot<G> {
     /// The state number.
     pub number: Number,
@@ -14,4 +13,18 @@ pub struct Snapshot<G> {
     pub g: G,
     /// The log, with what the viewer may not see left out.
     pub log: List<Entry>,
+}
+
+impl<G: Drop> Drop for Snapshot<G> {
+    fn drop(self) {
+        let Snapshot {
+            number: _,
+            ctx,
+            g,
+            log,
+        } = self;
+        drop(ctx);
+        drop(g);
+        drop(log);
+    }
 }

@@ -9,7 +9,6 @@ use phase_flow::Table;
 use std::marker::Model;
 
 /// What a match has come to by some actions, each of which led on from the one before.
-#[derive(Drop)]
 pub(crate) struct Checkpoint<G> {
     /// The state of the game, the context and the map.
     pub(crate) table: Table<G>,
@@ -21,13 +20,31 @@ pub(crate) struct Checkpoint<G> {
     pub(crate) count: u32,
 }
 
+impl<G: Drop> Drop for Checkpoint<G> {
+    fn drop(self) {
+        let Checkpoint {
+            table,
+            seed: _,
+            place: _,
+            count: _,
+        } = self;
+        drop(table);
+    }
+}
+
 /// An action of a seat.
-#[derive(Drop)]
 pub(crate) struct Deed {
     /// Whose action it is.
     pub(crate) seat: Seat,
     /// What is done.
     pub(crate) act: KeptAct,
+}
+
+impl Drop for Deed {
+    fn drop(self) {
+        let Deed { seat: _, act } = self;
+        drop(act);
+    }
 }
 
 impl Model for Deed {

@@ -90,12 +90,19 @@ pub(crate) fn perform<X: Game>(
     bounds_grow();
     let mut tape = Tape::live(from.seed, 0, from.place);
     match act_on(alloc, game, &from.table, seat, act, &mut tape) {
-        Ok(table) => Ok(Checkpoint {
-            table,
-            seed: from.seed,
-            place: tape.place(),
-            count: from.count + 1,
-        }),
-        Err(why) => Err(why),
+        Ok(table) => {
+            let place = tape.place();
+            drop(tape);
+            Ok(Checkpoint {
+                table,
+                seed: from.seed,
+                place,
+                count: from.count + 1,
+            })
+        }
+        Err(why) => {
+            drop(tape);
+            Err(why)
+        }
     }
 }

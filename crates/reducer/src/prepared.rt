@@ -13,10 +13,16 @@ use undo_redo::Step;
 /// An accepted action with the state that it comes to, which no state of a match has taken in yet.
 ///
 /// Contracts see the action, and the number and the table after it.
-#[derive(Drop)]
 pub struct Prepared<G> {
     pub(crate) number: Number,
     pub(crate) step: Step<Checkpoint<G>, Deed>,
+}
+
+impl<G: Drop> Drop for Prepared<G> {
+    fn drop(self) {
+        let Prepared { number: _, step } = self;
+        drop(step);
+    }
 }
 
 impl<G> Model for Prepared<G> {

@@ -9,10 +9,16 @@ use std::marker::Model;
 use undo_redo::Trail;
 
 /// A match after some accepted actions. Contracts see its number, what it began with, the actions done and undone, and what it has come to.
-#[derive(Drop)]
 pub struct State<G> {
     pub(crate) number: Number,
     pub(crate) trail: Trail<Checkpoint<G>, Deed>,
+}
+
+impl<G: Drop> Drop for State<G> {
+    fn drop(self) {
+        let State { number: _, trail } = self;
+        drop(trail);
+    }
 }
 
 impl<G> Model for State<G> {

@@ -20,10 +20,16 @@ use std::snapshot::Snapshot;
 pub const MOST_PASSES: u32 = 65_536;
 
 /// A desk. Contracts see it as which it is, its object's number, and how many passes it was set up with.
-#[derive(Drop)]
 pub struct Desk<O: Object> {
     pub(crate) table: Table<Option<O>, View<O::Call>, Beginning<O>, Turns<O>, Global>,
     pub(crate) passes: u32,
+}
+
+impl<O: Object> Drop for Desk<O> {
+    fn drop(self) {
+        let Desk { table, passes: _ } = self;
+        drop(table);
+    }
 }
 
 impl<O: Object> Model for Desk<O> {

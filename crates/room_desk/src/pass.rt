@@ -10,10 +10,16 @@ use std::marker::Model;
 
 /// A pass of a desk. A thread that has it makes calls there, one after another. Contracts see it as its desk, its number, and the history that it has
 /// seen. A pass that is dropped is missing where the desk is closed.
-#[derive(Drop)]
 pub struct Pass<O: Object> {
     pub(crate) number: u32,
     pub(crate) seat: Seat<Option<O>, View<O::Call>>,
+}
+
+impl<O: Object> Drop for Pass<O> {
+    fn drop(self) {
+        let Pass { number: _, seat } = self;
+        drop(seat);
+    }
 }
 
 impl<O: Object> Model for Pass<O> {

@@ -11,10 +11,16 @@ use std::alloc::Global;
 use std::marker::Model;
 
 /// Who sits at a seat.
-#[derive(Drop)]
 struct Holder {
     name: Text,
     key: Key,
+}
+
+impl Drop for Holder {
+    fn drop(self) {
+        let Holder { name, key: _ } = self;
+        drop(name);
+    }
 }
 
 impl Model for Holder {
@@ -26,9 +32,15 @@ impl Model for Holder {
 }
 
 /// The seats of one match, which contracts see as a list with one entry a seat. No call shows a key.
-#[derive(Drop)]
 pub struct Roster {
     seats: Vec<Option<Holder>>,
+}
+
+impl Drop for Roster {
+    fn drop(self) {
+        let Roster { seats } = self;
+        drop(seats);
+    }
 }
 
 impl Model for Roster {

@@ -8,7 +8,6 @@ use game_sheet::{List, NoMemory, Seat};
 use std::alloc::Global;
 
 /// A state in three parts: what everybody sees, what nobody sees, and what each player alone sees.
-#[derive(Drop)]
 pub struct Split<C, S, P> {
     /// What everybody sees.
     pub common: C,
@@ -16,6 +15,19 @@ pub struct Split<C, S, P> {
     pub secret: Option<S>,
     /// An entry for each seat, in order of the seats, which its player alone sees. None where it is hidden.
     pub players: List<Option<P>>,
+}
+
+impl<C: Drop, S: Drop, P: Drop> Drop for Split<C, S, P> {
+    fn drop(self) {
+        let Split {
+            common,
+            secret,
+            players,
+        } = self;
+        drop(common);
+        drop(secret);
+        drop(players);
+    }
 }
 
 impl<C: CopyPart, S: Drop, P: CopyPart> Split<C, S, P> {

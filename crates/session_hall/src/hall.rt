@@ -25,13 +25,27 @@ const PASSES: u32 = 32;
 /// The rooms and the sessions of one process, with the words that they draw.
 ///
 /// Contracts see what it holds, and that it stands for a hall as `hall_history` has it. Sessions have the passes 0 to 31.
-#[derive(Drop)]
 pub struct SessionHall {
     alloc: Global,
     books: Vec<Book<AnyGame>>,
     cores: Vec<SessionCore>,
     tape: Tape,
     seed: Option<[u8; 32]>,
+}
+
+impl Drop for SessionHall {
+    fn drop(self) {
+        let SessionHall {
+            alloc: _,
+            books,
+            cores,
+            tape,
+            seed: _,
+        } = self;
+        drop(books);
+        drop(cores);
+        drop(tape);
+    }
 }
 
 impl Model for SessionHall {

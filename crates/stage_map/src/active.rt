@@ -26,12 +26,24 @@ pub struct Kept {
 }
 
 /// Who is active, in which stages and with which counts. The map is null where the current seat alone may act.
-#[derive(Drop)]
 pub struct Active {
     rows: Option<List<Row>>,
     next: Option<SpecId>,
     stack: VecDeque<Kept>,
     alloc: Global,
+}
+
+impl Drop for Active {
+    fn drop(self) {
+        let Active {
+            rows,
+            next: _,
+            stack,
+            alloc: _,
+        } = self;
+        drop(rows);
+        drop(stack);
+    }
 }
 
 impl Model for Active {

@@ -25,12 +25,24 @@ const POLLS: u32 = 3_000;
 const SEND_WAIT: u64 = 10;
 
 /// A connection to a peer.
-#[derive(Drop)]
 pub struct Connection {
     stream: TcpStream,
     watch: Watch,
     /// What came and hasn't been told.
     pub lines: LineBuffer,
+}
+
+impl Drop for Connection {
+    fn drop(self) {
+        let Connection {
+            stream,
+            watch,
+            lines,
+        } = self;
+        drop(stream);
+        drop(watch);
+        drop(lines);
+    }
 }
 
 impl Connection {

@@ -43,11 +43,21 @@ pub enum Fill {
 }
 
 /// Bytes that came and haven't been told. Contracts see these bytes.
-#[derive(Drop)]
 pub struct LineBuffer {
     alloc: Global,
     bytes: Vec<u8>,
     searched: usize,
+}
+
+impl Drop for LineBuffer {
+    fn drop(self) {
+        let LineBuffer {
+            alloc: _,
+            bytes,
+            searched: _,
+        } = self;
+        drop(bytes);
+    }
 }
 
 impl Model for LineBuffer {

@@ -16,12 +16,24 @@ use std::sync::Wait;
 pub const SERVER_LINE: u32 = 8_388_608;
 
 /// A link over a TCP socket. It tells neither its answers nor what it was sent.
-#[derive(Drop)]
 pub struct TcpLink {
     connection: Connection,
     limit: u32,
     faults: u64,
     stage: Stage,
+}
+
+impl Drop for TcpLink {
+    fn drop(self) {
+        let TcpLink {
+            connection,
+            limit: _,
+            faults: _,
+            stage,
+        } = self;
+        drop(connection);
+        drop(stage);
+    }
 }
 
 impl TcpLink {

@@ -12,10 +12,17 @@ use std::time::Duration;
 const EVENTS: usize = 4;
 
 /// A poll in which one socket alone is registered.
-#[derive(Drop)]
 pub struct Watch {
     poll: Poll,
     events: Events,
+}
+
+impl Drop for Watch {
+    fn drop(self) {
+        let Watch { poll, events } = self;
+        drop(poll);
+        drop(events);
+    }
 }
 
 impl Watch {

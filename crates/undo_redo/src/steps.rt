@@ -10,10 +10,17 @@ use std::marker::Model;
 use std::sync::Arc;
 
 /// An act and the state that it led to. Contracts see both; a copy shares them.
-#[derive(Drop)]
 pub struct Step<S, A> {
     act: Arc<A>,
     after: Arc<S>,
+}
+
+impl<S: Drop, A: Drop> Drop for Step<S, A> {
+    fn drop(self) {
+        let Step { act, after } = self;
+        drop(act);
+        drop(after);
+    }
 }
 
 impl<S, A> Model for Step<S, A> {

@@ -22,11 +22,22 @@ pub const ROOM: usize = MOST_ACTIONS as usize;
 ///
 /// Contracts see its first state, the two lists, the present state and the states that are kept besides. An undo, a redo and a step
 /// that is put in while fewer than [`ROOM`] are done take no memory, and none of them runs a step of the machine.
-#[derive(Drop)]
 pub struct Trail<S, A> {
     first: Arc<S>,
     steps: Vec<Step<S, A>>,
     count: usize,
+}
+
+impl<S: Drop, A: Drop> Drop for Trail<S, A> {
+    fn drop(self) {
+        let Trail {
+            first,
+            steps,
+            count: _,
+        } = self;
+        drop(first);
+        drop(steps);
+    }
 }
 
 impl<S, A> Model for Trail<S, A> {

@@ -4,7 +4,6 @@ use game_sheet::{Args, EventKind, NoMemory, Seat, Text};
 use std::alloc::Global;
 
 /// An action that a client asks for.
-#[derive(Drop)]
 pub enum Asked {
     /// A move of the game.
     Move {
@@ -26,8 +25,20 @@ pub enum Asked {
     Redo,
 }
 
+impl Drop for Asked {
+    fn drop(self) {
+        match self {
+            Asked::Move { name, args } => {
+                drop(name);
+                drop(args);
+            }
+            Asked::Event { kind: _, to } => drop(to),
+            Asked::Undo | Asked::Redo => {}
+        }
+    }
+}
+
 /// What an event is aimed at.
-#[derive(Drop)]
 pub enum AskedTo {
     /// Nothing.
     Nothing,
@@ -35,6 +46,15 @@ pub enum AskedTo {
     Seat(Seat),
     /// A phase or a stage by its name, 1 to 32 bytes.
     Name(Text),
+}
+
+impl Drop for AskedTo {
+    fn drop(self) {
+        match self {
+            AskedTo::Name(name) => drop(name),
+            AskedTo::Nothing | AskedTo::Seat(_) => {}
+        }
+    }
 }
 
 impl Asked {

@@ -3,7 +3,6 @@
 use game_sheet::{List, MatchName, Seat, Text};
 
 /// One match and who sits in it.
-#[derive(Drop)]
 pub struct MatchRow {
     /// The game's name.
     pub game: Text,
@@ -13,4 +12,17 @@ pub struct MatchRow {
     pub over: bool,
     /// The seats in rising order, each with the name of its player, if any.
     pub players: List<(Seat, Option<Text>)>,
+}
+
+impl Drop for MatchRow {
+    fn drop(self) {
+        let MatchRow {
+            game,
+            name: _,
+            over: _,
+            players,
+        } = self;
+        drop(game);
+        drop(players);
+    }
 }

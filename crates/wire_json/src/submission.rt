@@ -4,7 +4,6 @@ use crate::asked::Asked;
 use game_sheet::{Key, MatchName, Number};
 
 /// An action that a session submits to a match.
-#[derive(Drop)]
 pub struct Submission {
     /// Which match.
     pub name: MatchName,
@@ -16,4 +15,17 @@ pub struct Submission {
     pub ticket: u32,
     /// What is asked for.
     pub asked: Asked,
+}
+
+impl Drop for Submission {
+    fn drop(self) {
+        let Submission {
+            name: _,
+            key: _,
+            number: _,
+            ticket: _,
+            asked,
+        } = self;
+        drop(asked);
+    }
 }

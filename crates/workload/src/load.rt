@@ -29,13 +29,28 @@ const ROOMS: u8 = 8;
 ///
 /// Contracts see what it holds, and that it stands for a workload as `hall_history` has it. After `NoMemory` a run is at its end, and
 /// no more is said of it.
-#[derive(Drop)]
 pub struct Load {
     alloc: Global,
     world: ClientWorld,
     places: Vec<Place>,
     tape: Tape,
     counts: Counts,
+}
+
+impl Drop for Load {
+    fn drop(self) {
+        let Load {
+            alloc: _,
+            world,
+            places,
+            tape,
+            counts,
+        } = self;
+        drop(world);
+        drop(places);
+        drop(tape);
+        drop(counts);
+    }
 }
 
 impl Model for Load {

@@ -8,11 +8,20 @@ use board_links::{Piece, Source};
 use std::marker::Model;
 
 /// The bytes of one read that aren't used yet. Contracts see them as a list.
-#[derive(Drop)]
 pub struct Chunk {
     bytes: [u8; 4096],
     at: usize,
     end: usize,
+}
+
+impl Drop for Chunk {
+    fn drop(self) {
+        let Chunk {
+            bytes: _,
+            at: _,
+            end: _,
+        } = self;
+    }
 }
 
 impl Model for Chunk {

@@ -17,13 +17,27 @@ const MOST_BYTES: usize = 65_536;
 const MOST_LINES: u32 = 1_000_000;
 
 /// A reader of lines. Contracts see which lines are still to come, where the source tells its bytes.
-#[derive(Drop)]
 pub struct Lines {
     chunk: Chunk,
     line: Vec<u8>,
     begun: Vec<u8>,
     given: u32,
     ended: bool,
+}
+
+impl Drop for Lines {
+    fn drop(self) {
+        let Lines {
+            chunk,
+            line,
+            begun,
+            given: _,
+            ended: _,
+        } = self;
+        drop(chunk);
+        drop(line);
+        drop(begun);
+    }
 }
 
 impl Model for Lines {

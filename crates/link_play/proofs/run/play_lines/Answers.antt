@@ -87,9 +87,6 @@ returns-in-Some-end_at-clause-ends g c = λ p t who first k e.
     (c.given-in-lines.ensures.value ∙ counts_line c.next_line-next.result c.given.result c.next_line-next.new.self.given c.lines.lines.given n c.next_line-next.ensures.given)
     (sym c.end_at.ensures ∙ c.in-Some-end_at.is)
 
-pub same-lines : goal.same-lines
-same-lines g c = refl
-
 pub lines-smaller : goal.lines-smaller
 lines-smaller g c =
     let counts : c.next_line-next.new.self.given ≡ c.lines.lines.given + 1 =

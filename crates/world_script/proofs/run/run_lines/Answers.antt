@@ -51,9 +51,6 @@ returns-in-Some-end_at-clause-ends g c = λ p k.
     (c.run_line-ran.ensures.ran (c.lines.invariant.sink_tells k))
     (c.given-in-lines.ensures.value ∙ c.next_line-next.ensures.given) (sym c.end_at.ensures ∙ c.in-Some-end_at.is)
 
-pub same-lines : goal.same-lines
-same-lines g c = refl
-
 pub lines-smaller : goal.lines-smaller
 lines-smaller g c =
     let counts : c.next_line-next.new.self.given ≡ c.lines.lines.given + 1 =
