@@ -1,4 +1,5 @@
 pub mod Answers
 pub mod Numbers
+pub mod Options
 pub mod Play
 pub mod Serve

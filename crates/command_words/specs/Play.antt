@@ -1,33 +1,18 @@
 -- What the words of `play` ask for. They are those of a simple command: which server, game and match, and for whom.
-use Rattle.std.specs.Prelude.{ℕ, List, [], ◌∷◌, nat_lt, if◌then◌else◌, Option, Some, None, option_and_then, codes, true}
-use Rattle.clap.specs.Words.{App, Row, Rule, fault_of, first_of, matches_of, new_app, new_rule, with_rule}
-use Rattle.clap.specs.declared.builder.action.ArgAction.TheVariants.{Set}
+use Rattle.std.specs.Prelude.{ℕ, List, [], ◌∷◌, nat_lt, if◌then◌else◌, Option, Some, None, option_and_then, codes}
+use Rattle.clap.specs.Words.{App, Row, fault_of, first_of, matches_of, new_app, with_rule}
 use Rattle.any_game.specs.AnyRules.{named}
 use Rattle.any_game.specs.GameKind.{GameKind}
 use Rattle.game_sheet.specs.MatchName.{Name}
 use Rattle.game_sheet.specs.Viewer.{Viewer}
 use Rattle.wire_json.specs.KeyText.{key_from}
 use Rattle.wire_json.specs.MatchText.{match_from, number_from}
+use Rattle.command_words.specs.Options.{needed_rule, option_rule}
 use Rattle.command_words.specs.Serve.{unless_refused}
 use Rattle.command_words.specs.declared.play.PlayWords.{PlayWords}
 
-abbrev pub connect_rule : Rule
-connect_rule = record (new_rule (codes "connect")) { long = Some (codes "connect"); required = true; action = Some Set }
-
-abbrev pub game_rule : Rule
-game_rule = record (new_rule (codes "game")) { long = Some (codes "game"); required = true; action = Some Set }
-
-abbrev pub match_rule : Rule
-match_rule = record (new_rule (codes "match")) { long = Some (codes "match"); required = true; action = Some Set }
-
-abbrev pub seat_rule : Rule
-seat_rule = record (new_rule (codes "seat")) { long = Some (codes "seat"); action = Some Set }
-
-abbrev pub key_rule : Rule
-key_rule = record (new_rule (codes "key")) { long = Some (codes "key"); action = Some Set }
-
 abbrev pub play_app : App
-play_app = with_rule (with_rule (with_rule (with_rule (with_rule (new_app (codes "play")) connect_rule) game_rule) match_rule) seat_rule) key_rule
+play_app = with_rule (with_rule (with_rule (with_rule (with_rule (new_app (codes "play")) (needed_rule (codes "connect"))) (needed_rule (codes "game"))) (needed_rule (codes "match"))) (option_rule (codes "seat"))) (option_rule (codes "key"))
 
 abbrev pub seat_below : Option ℕ → Option ℕ
 seat_below None = None

@@ -1,25 +1,13 @@
 -- What the words of `serve` ask for. They are those of a simple command: where to listen, and how many rooms, workers and sessions.
-use Rattle.std.specs.Prelude.{ℕ, List, [], ◌∷◌, Option, Some, None, codes, true}
-use Rattle.clap.specs.Words.{App, Row, Rule, fault_of, first_of, matches_of, new_app, new_rule, with_rule}
+use Rattle.std.specs.Prelude.{ℕ, List, [], ◌∷◌, Option, Some, None, codes}
+use Rattle.clap.specs.Words.{App, Row, fault_of, first_of, matches_of, new_app, with_rule}
 use Rattle.clap.specs.Kinds.{Kinds}
-use Rattle.clap.specs.declared.builder.action.ArgAction.TheVariants.{Set}
 use Rattle.command_words.specs.Numbers.{number_or}
+use Rattle.command_words.specs.Options.{needed_rule, option_rule}
 use Rattle.command_words.specs.declared.serve.ServeWords.{ServeWords}
 
-abbrev pub listen_rule : Rule
-listen_rule = record (new_rule (codes "listen")) { long = Some (codes "listen"); required = true; action = Some Set }
-
-abbrev pub rooms_rule : Rule
-rooms_rule = record (new_rule (codes "rooms")) { long = Some (codes "rooms"); action = Some Set }
-
-abbrev pub workers_rule : Rule
-workers_rule = record (new_rule (codes "workers")) { long = Some (codes "workers"); action = Some Set }
-
-abbrev pub sessions_rule : Rule
-sessions_rule = record (new_rule (codes "sessions")) { long = Some (codes "sessions"); action = Some Set }
-
 abbrev pub serve_app : App
-serve_app = with_rule (with_rule (with_rule (with_rule (new_app (codes "serve")) listen_rule) rooms_rule) workers_rule) sessions_rule
+serve_app = with_rule (with_rule (with_rule (with_rule (new_app (codes "serve")) (needed_rule (codes "listen"))) (option_rule (codes "rooms"))) (option_rule (codes "workers"))) (option_rule (codes "sessions"))
 
 abbrev pub with_numbers : List ℕ → Option ℕ → Option ℕ → Option ℕ → Option ServeWords
 with_numbers listen (Some rooms) (Some workers) (Some sessions) = Some (record { listen = listen; rooms = rooms; workers = workers; sessions = sessions })

@@ -2,6 +2,7 @@
 #![tactic(auto)]
 
 mod numbers;
+mod options;
 mod play;
 mod serve;
 mod words_no;

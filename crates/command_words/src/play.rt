@@ -6,9 +6,10 @@ ghost use Rattle.any_game.specs.AnyRules.{named};
 ghost use Rattle.command_words.specs.Answers.{Answers};
 ghost use Rattle.command_words.specs.Play.{play_app, play_from, play_of, seat_from, viewer_from};
 
+use crate::options::{needed, option};
 use crate::words_no::{WordsNo, word_of};
 use any_game::{AnyGame, by_name};
-use clap::{Arg, ArgAction, ArgMatches, Command, Error};
+use clap::{ArgMatches, Command, Error};
 use game_sheet::{MatchName, Seat, Text, Viewer};
 use std::alloc::Global;
 use wire_json::{decimal_of, key_of, match_of};
@@ -44,26 +45,12 @@ fn matches_of<'a>(alloc: Global, words: &'a [String]) -> Result<ArgMatches<'a>, 
     ensures matches { IfOk result (HasMatchesOf play_app (map string_bytes words.entry.now)) }
     ensures faults { FailsBy (fault_of play_app (map string_bytes words.entry.now)) result }
 {
-    let connect = Arg::new(alloc, "connect")
-        .long("connect")
-        .required(true)
-        .action(ArgAction::Set);
-    let game = Arg::new(alloc, "game")
-        .long("game")
-        .required(true)
-        .action(ArgAction::Set);
-    let name = Arg::new(alloc, "match")
-        .long("match")
-        .required(true)
-        .action(ArgAction::Set);
-    let seat = Arg::new(alloc, "seat").long("seat").action(ArgAction::Set);
-    let key = Arg::new(alloc, "key").long("key").action(ArgAction::Set);
     let command = Command::new(alloc, "play")
-        .arg(connect)?
-        .arg(game)?
-        .arg(name)?
-        .arg(seat)?
-        .arg(key)?;
+        .arg(needed(alloc, "connect"))?
+        .arg(needed(alloc, "game"))?
+        .arg(needed(alloc, "match"))?
+        .arg(option(alloc, "seat"))?
+        .arg(option(alloc, "key"))?;
     command.try_get_matches_from(words)
 }
 

@@ -6,8 +6,9 @@ ghost use Rattle.command_words.specs.Answers.{Answers};
 ghost use Rattle.command_words.specs.Serve.{serve_app, serve_from, serve_of};
 
 use crate::numbers::number_or;
+use crate::options::{needed, option};
 use crate::words_no::{WordsNo, word_of};
-use clap::{Arg, ArgAction, ArgMatches, Command, Error};
+use clap::{ArgMatches, Command, Error};
 use game_sheet::Text;
 use std::alloc::Global;
 
@@ -43,24 +44,11 @@ fn matches_of<'a>(alloc: Global, words: &'a [String]) -> Result<ArgMatches<'a>, 
     ensures matches { IfOk result (HasMatchesOf serve_app (map string_bytes words.entry.now)) }
     ensures faults { FailsBy (fault_of serve_app (map string_bytes words.entry.now)) result }
 {
-    let listen = Arg::new(alloc, "listen")
-        .long("listen")
-        .required(true)
-        .action(ArgAction::Set);
-    let rooms = Arg::new(alloc, "rooms")
-        .long("rooms")
-        .action(ArgAction::Set);
-    let workers = Arg::new(alloc, "workers")
-        .long("workers")
-        .action(ArgAction::Set);
-    let sessions = Arg::new(alloc, "sessions")
-        .long("sessions")
-        .action(ArgAction::Set);
     let command = Command::new(alloc, "serve")
-        .arg(listen)?
-        .arg(rooms)?
-        .arg(workers)?
-        .arg(sessions)?;
+        .arg(needed(alloc, "listen"))?
+        .arg(option(alloc, "rooms"))?
+        .arg(option(alloc, "workers"))?
+        .arg(option(alloc, "sessions"))?;
     command.try_get_matches_from(words)
 }
 

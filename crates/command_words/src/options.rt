@@ -1,0 +1,24 @@
+//! The options among a command's words.
+
+ghost use Rattle.std.specs.Prelude.{◌≡◌, false};
+ghost use Rattle.clap.specs.Words.{rule_of};
+ghost use Rattle.command_words.specs.Options.{needed_rule, option_rule};
+
+use clap::{Arg, ArgAction};
+use std::alloc::Global;
+
+/// An option that takes a value, by its long name.
+pub(crate) fn option<'a>(alloc: Global, name: &'a str) -> Arg<'a>
+    ensures rule { rule_of result ≡ option_rule name.entry.now }
+    ensures own { result.global ≡ false }
+{
+    Arg::new(alloc, name).long(name).action(ArgAction::Set)
+}
+
+/// One that has to be said.
+pub(crate) fn needed<'a>(alloc: Global, name: &'a str) -> Arg<'a>
+    ensures rule { rule_of result ≡ needed_rule name.entry.now }
+    ensures own { result.global ≡ false }
+{
+    option(alloc, name).required(true)
+}
