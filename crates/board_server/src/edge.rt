@@ -3,11 +3,7 @@
 
 ghost use Rattle.std.specs.Prelude.{◌≡◌, false};
 
-use crate::page::print_page;
-use crate::play::play;
-use crate::process::of_run;
-use crate::run::run;
-use crate::serve::serve;
+use board_commands::{of_run, play, print_page, run, serve};
 use board_links::{Door, ReaderSource, WriterSink};
 use command_words::{WordsNo, play_words, serve_words};
 use link_play::Exit;

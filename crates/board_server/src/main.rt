@@ -3,21 +3,11 @@
 //! plays by itself, by the words of a seed and for a number of steps, and tells what came of it.
 #![tactic(auto)]
 
-mod command;
 mod edge;
-mod mode;
-mod page;
-mod play;
-mod process;
-mod run;
-mod serve;
-mod workloads;
 
+use board_commands::{HELP, Mode, VERSION, after_name, mode_of, report, status};
 use edge::{play_there, print_here, run_here, serve_there};
 use link_play::Exit;
-use mode::{Mode, mode_of};
-use page::{HELP, VERSION};
-use process::{after_name, report, status};
 use std::process::ExitCode;
 use std::sync::Wait;
 use std::thread::Threads;
@@ -53,12 +43,3 @@ fn perform<R: Threads + Wait + Sync>(leave: &R, rt: &HostRuntime, words: &[Strin
         Mode::Run => run_here(rt, words),
     }
 }
-
-#[cfg(test)]
-mod play_tests;
-#[cfg(test)]
-mod serve_tests;
-#[cfg(test)]
-mod tests;
-#[cfg(test)]
-mod workload_tests;

@@ -1,6 +1,6 @@
 //! Workloads: what they tell at their end, twice the same, and words that ask for none.
 
-use crate::run::run;
+use board_commands::run;
 use board_links::{MemorySink, MemorySource};
 use game_sheet::{List, NoMemory};
 use std::alloc::Global;

@@ -1,7 +1,6 @@
 //! Runs in memory: of another word, and with reads and writes that fail.
 
-use crate::process::{of_run, status};
-use crate::run::run;
+use board_commands::{of_run, run, status};
 use board_links::{MemorySink, MemorySource};
 use game_sheet::{List, NoMemory};
 use std::alloc::Global;

@@ -1,7 +1,7 @@
 //! What goes between the program and its caller: the words that it is called with, and what it says at its end.
 
 ghost use Rattle.std.specs.Prelude.{◌≡◌, ◌≤◌, ◌++◌, ◌∷◌, [], decimal, drop, length};
-ghost use Rattle.board_server.specs.Process.{of_run, report, status};
+ghost use Rattle.board_commands.specs.Process.{of_run, report, status};
 
 use arrayvec::ArrayString;
 use itoa::Buffer;

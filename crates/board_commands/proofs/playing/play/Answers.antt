@@ -1,7 +1,7 @@
 use Rattle.board_links.specs.Pieces.{told_bytes}
-use Rattle.board_server.proofs.Players.{starved}
-use Rattle.board_server.specs.Playing.{who_asks}
-use Rattle.board_server.proofs.play.play.Goals as goal
+use Rattle.board_commands.proofs.Players.{starved}
+use Rattle.board_commands.specs.Playing.{who_asks}
+use Rattle.board_commands.proofs.playing.play.Goals as goal
 
 pub returns-in-Err-NoMemory-clause-ends : goal.returns-in-Err-NoMemory-clause-ends
 returns-in-Err-NoMemory-clause-ends g c asked is tells told =

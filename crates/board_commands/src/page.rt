@@ -2,7 +2,7 @@
 
 ghost use Rattle.std.specs.Prelude.{◌≡◌, ◌≤◌, IsSome};
 ghost use Rattle.board_links.specs.Pieces.{told_bytes};
-ghost use Rattle.board_server.specs.Page.{PageEnds, PageRaises};
+ghost use Rattle.board_commands.specs.Page.{PageEnds, PageRaises};
 
 use board_links::{Put, Sink};
 use link_play::Exit;

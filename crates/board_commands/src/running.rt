@@ -9,10 +9,10 @@ ghost use Rattle.world_script.specs.Running.{AreInForm, Ends, ExitRaises, IsComp
 ghost use Rattle.world_script.specs.ScriptPlay.{script_play};
 ghost use Rattle.world_script.specs.WorldPlay.{world_play};
 ghost use Rattle.world_script.specs.declared.exit.Exit.TheVariants.{Usage};
-ghost use Rattle.board_server.specs.Words.{command_of};
-ghost use Rattle.board_server.specs.Workloads.{Prints, workload_text};
-ghost use Rattle.board_server.specs.declared.command.Command.{Command as Asked};
-ghost use Rattle.board_server.specs.declared.command.Command.TheVariants.{Script, World, Workload};
+ghost use Rattle.board_commands.specs.Words.{command_of};
+ghost use Rattle.board_commands.specs.Workloads.{Prints, workload_text};
+ghost use Rattle.board_commands.specs.declared.command.Command.{Command as Asked};
+ghost use Rattle.board_commands.specs.declared.command.Command.TheVariants.{Script, World, Workload};
 
 use crate::command::{Command, command_of};
 use crate::workloads::run_workload;

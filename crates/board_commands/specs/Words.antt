@@ -1,7 +1,7 @@
 -- What the words of a call of the program ask for.
 use Rattle.std.specs.Prelude.{ℕ, if◌then◌else◌, ◌&&◌, nat_le, List, [], ◌∷◌, Option, Some, None, bytes_eq, codes, String, string_bytes}
-use Rattle.board_server.specs.declared.command.Command.{Command}
-use Rattle.board_server.specs.declared.command.Command.TheVariants.{Script, World, Workload}
+use Rattle.board_commands.specs.declared.command.Command.{Command}
+use Rattle.board_commands.specs.declared.command.Command.TheVariants.{Script, World, Workload}
 use Rattle.wire_json.specs.MatchText.{number_from}
 
 -- what a word alone asks for

@@ -6,8 +6,8 @@ ghost use Rattle.command_words.specs.Serve.{serve_from};
 ghost use Rattle.command_words.specs.declared.serve.ServeWords.{ServeWords as Asked};
 ghost use Rattle.link_play.specs.Ends.{IsComplete};
 ghost use Rattle.link_play.specs.declared.exit.Exit.TheVariants.{Usage};
-ghost use Rattle.board_server.specs.Playing.{IsRefused};
-ghost use Rattle.board_server.specs.Serving.{Serves, exit_of};
+ghost use Rattle.board_commands.specs.Playing.{IsRefused};
+ghost use Rattle.board_commands.specs.Serving.{Serves, exit_of};
 
 use any_game::AnyGame;
 use board_links::{Door, Sink};

@@ -1,7 +1,7 @@
 //! The words that the program is called with.
 
 ghost use Rattle.std.specs.Prelude.{◌≡◌};
-ghost use Rattle.board_server.specs.Words.{command_by, command_of, workload_by, workload_of};
+ghost use Rattle.board_commands.specs.Words.{command_by, command_of, workload_by, workload_of};
 
 use wire_json::decimal_of;
 

@@ -7,7 +7,7 @@ use Rattle.link_play.specs.Doing.{Who}
 use Rattle.link_play.specs.Plan.{plan_of}
 use Rattle.link_play.specs.declared.exit.Exit.TheVariants.{NoMemory}
 use Rattle.world_script.specs.ScriptLines.{script}
-use Rattle.board_server.specs.Playing.{Plays}
+use Rattle.board_commands.specs.Playing.{Plays}
 
 -- nothing is done
 pub starved : (game : GameKind) (who : Who) (bytes : List ℕ) (held sent : Option (List ℕ)) (answers : Option (List Came)) → Plays game who NoMemory bytes bytes held sent answers held sent answers

@@ -12,7 +12,7 @@ ghost use Rattle.link_play.specs.Doing.{key_of};
 ghost use Rattle.link_play.specs.Ends.{AreInForm, IsComplete};
 ghost use Rattle.link_play.specs.Sitting.{Tell};
 ghost use Rattle.link_play.specs.declared.exit.Exit.TheVariants.{Usage};
-ghost use Rattle.board_server.specs.Playing.{IsRefused, Plays, who_asks};
+ghost use Rattle.board_commands.specs.Playing.{IsRefused, Plays, who_asks};
 
 use any_game::AnyGame;
 use board_links::{Link, Sink, Source};

@@ -2,7 +2,7 @@
 
 ghost use Rattle.std.specs.Prelude.{◌≡◌, IfOk, false};
 
-use crate::serve::serve;
+use board_commands::serve;
 use board_links::{AtEnd, Door, MemoryDoor, MemoryLink, MemorySink, Scripted};
 use game_sheet::{List, NoMemory};
 use link_play::Exit;

@@ -1,7 +1,7 @@
 -- Which part of the program words are for.
 use Rattle.std.specs.Prelude.{ℕ, if◌then◌else◌, ◌||◌, List, [], ◌∷◌, bytes_eq, codes, String, string_bytes}
-use Rattle.board_server.specs.declared.mode.Mode.{Mode}
-use Rattle.board_server.specs.declared.mode.Mode.TheVariants.{Help, Version, Serve, Play, Run}
+use Rattle.board_commands.specs.declared.mode.Mode.{Mode}
+use Rattle.board_commands.specs.declared.mode.Mode.TheVariants.{Help, Version, Serve, Play, Run}
 
 -- by the first word
 abbrev pub mode_by : List ℕ → Mode

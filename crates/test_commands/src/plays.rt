@@ -1,6 +1,6 @@
 //! A match played over a link in memory, by words.
 
-use crate::play::play;
+use board_commands::play;
 use board_links::{AtEnd, MemoryLink, MemorySink, MemorySource, Scripted};
 use game_sheet::{List, NoMemory};
 use link_play::Exit;

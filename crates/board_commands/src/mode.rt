@@ -1,7 +1,7 @@
 //! Which part of the program its words are for.
 
 ghost use Rattle.std.specs.Prelude.{◌≡◌};
-ghost use Rattle.board_server.specs.Modes.{mode_alone, mode_by, mode_of};
+ghost use Rattle.board_commands.specs.Modes.{mode_alone, mode_by, mode_of};
 
 /// A part of the program.
 #[derive(Clone, Copy, PartialEq, Eq, Debug)]

@@ -1,0 +1,20 @@
+//! What the program does with the words that it is called with: it runs a script, a world or a workload, serves matches, or plays one. What
+//! goes between it and its caller stands here too: its words, its pages, its status and the line on standard error.
+#![tactic(auto)]
+
+mod command;
+mod mode;
+mod page;
+mod playing;
+mod process;
+mod running;
+mod serving;
+mod workloads;
+
+pub use command::{Command, command_of};
+pub use mode::{Mode, mode_of};
+pub use page::{HELP, VERSION, print_page};
+pub use playing::play;
+pub use process::{after_name, of_run, report, status};
+pub use running::run;
+pub use serving::serve;

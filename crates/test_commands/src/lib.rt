@@ -1,0 +1,12 @@
+//! Tests of the program's commands: runs whose reads and writes fail, a match played over a link in memory, matches served over a door in
+//! memory, and what workloads tell.
+#![tactic(auto)]
+
+#[cfg(test)]
+mod plays;
+#[cfg(test)]
+mod runs;
+#[cfg(test)]
+mod serves;
+#[cfg(test)]
+mod workloads;
