@@ -27,23 +27,28 @@ fn lines_of(alloc: Global, mut source: MemorySource) -> Result<(Vec<u8>, Next), 
     Ok((text, Next::Line))
 }
 
+/// Bytes, and the lines in them.
+const CASES: [(&[u8], &[u8]); 7] = [
+    (b"", b""),
+    (b"\n", b"[]"),
+    (b"a\nb", b"[a][b]"),
+    (b"a\nb\n", b"[a][b]"),
+    (b"a\r\n\r\nb\r", b"[a][][b\r]"),
+    (b"a\r\r\nb\rc\n", b"[a\r][b\rc]"),
+    (b"# x\n\ns0 ", b"[# x][][s0 ]"),
+];
+
+/// Whether these lines are read from bytes of which the reads of these numbers fail, up to the end.
+fn reads(alloc: Global, bytes: &[u8], failing: &[u64], want: &[u8]) -> Result<bool, Fail> {
+    let source = source(Vec::from_slice(alloc, bytes)?, alloc, failing)?;
+    let (text, end) = lines_of(alloc, source)?;
+    Ok(text.as_slice() == want && end == Next::End)
+}
+
 #[test]
 fn carriage_returns_and_last_lines(rt: HostRuntime) -> Result<(), Fail> {
-    let alloc = rt.alloc();
-    let cases: [(&[u8], &[u8]); 7] = [
-        (b"", b""),
-        (b"\n", b"[]"),
-        (b"a\nb", b"[a][b]"),
-        (b"a\nb\n", b"[a][b]"),
-        (b"a\r\n\r\nb\r", b"[a][][b\r]"),
-        (b"a\r\r\nb\rc\n", b"[a\r][b\rc]"),
-        (b"# x\n\ns0 ", b"[# x][][s0 ]"),
-    ];
-    for (bytes, want) in cases {
-        let source = source(Vec::from_slice(alloc, bytes)?, alloc, &[])?;
-        let (text, end) = lines_of(alloc, source)?;
-        assert_eq!(rt; text.as_slice(), want);
-        assert_eq!(rt; end, Next::End);
+    for (bytes, want) in CASES {
+        assert!(rt; reads(rt.alloc(), bytes, &[], want)?, "{}", bytes.len());
     }
     Ok(())
 }
@@ -63,15 +68,21 @@ fn after_long(alloc: Global, count: usize, end: &[u8]) -> Result<(bool, Next), F
     }
 }
 
+/// How many bytes a line has, what comes behind them, and how it is read.
+const LONG: [(usize, &[u8], (bool, Next)); 6] = [
+    (65_536, b"\n", (true, Next::End)),
+    (65_536, b"", (true, Next::End)),
+    (65_535, b"\r\n", (true, Next::End)),
+    (65_536, b"\r\n", (false, Next::TooLong)),
+    (65_537, b"\n", (false, Next::TooLong)),
+    (65_537, b"", (false, Next::TooLong)),
+];
+
 #[test]
 fn a_line_has_at_most_65536_bytes(rt: HostRuntime) -> Result<(), Fail> {
-    let alloc = rt.alloc();
-    assert_eq!(rt; after_long(alloc, 65_536, b"\n")?, (true, Next::End));
-    assert_eq!(rt; after_long(alloc, 65_536, b"")?, (true, Next::End));
-    assert_eq!(rt; after_long(alloc, 65_535, b"\r\n")?, (true, Next::End));
-    assert_eq!(rt; after_long(alloc, 65_536, b"\r\n")?, (false, Next::TooLong));
-    assert_eq!(rt; after_long(alloc, 65_537, b"\n")?, (false, Next::TooLong));
-    assert_eq!(rt; after_long(alloc, 65_537, b"")?, (false, Next::TooLong));
+    for (count, end, read) in LONG {
+        assert_eq!(rt; after_long(rt.alloc(), count, end)?, read);
+    }
     Ok(())
 }
 
@@ -95,34 +106,47 @@ fn after_a_million(alloc: Global, end: &[u8]) -> Result<(u32, Next), Fail> {
 
 #[test]
 fn a_script_has_at_most_a_million_lines(rt: HostRuntime) -> Result<(), Fail> {
-    let alloc = rt.alloc();
-    assert_eq!(rt; after_a_million(alloc, b"")?, (1_000_000, Next::End));
-    assert_eq!(rt; after_a_million(alloc, b"\n")?, (1_000_000, Next::TooMany));
-    assert_eq!(rt; after_a_million(alloc, b"x")?, (1_000_000, Next::TooMany));
+    let rows: [(&[u8], Next); 3] = [
+        (b"", Next::End),
+        (b"\n", Next::TooMany),
+        (b"x", Next::TooMany),
+    ];
+    for (end, read) in rows {
+        assert_eq!(rt; after_a_million(rt.alloc(), end)?, (1_000_000, read));
+    }
     Ok(())
+}
+
+/// What so many calls for a line come to, each line in brackets, a fault as `!` and the end as `.`, and how many lines that were.
+fn told(alloc: Global, mut source: MemorySource, calls: u32) -> Result<(Vec<u8>, u32), AllocError> {
+    let mut lines = Lines::new(alloc);
+    let mut text = Vec::new(alloc);
+    for _ in 0..calls {
+        match lines.next_line(&mut source) {
+            Next::Line => {
+                text.push(b'[')?;
+                text.extend_from_slice(lines.line())?;
+                text.push(b']')?;
+            }
+            Next::ReadFault => text.push(b'!')?,
+            Next::End => text.push(b'.')?,
+            _ => text.push(b'?')?,
+        }
+    }
+    Ok((text, lines.given()))
 }
 
 #[test]
 fn after_a_fault_the_same_lines_come(rt: HostRuntime) -> Result<(), Fail> {
     let alloc = rt.alloc();
-    let mut source = source(Vec::from_slice(alloc, b"one\ntwo")?, alloc, &[2])?;
-    let mut lines = Lines::new(alloc);
-    assert_eq!(rt; lines.next_line(&mut source), Next::Line);
-    assert_eq!(rt; lines.line(), b"one".as_slice());
-    assert_eq!(rt; lines.next_line(&mut source), Next::ReadFault);
-    assert_eq!(rt; lines.next_line(&mut source), Next::Line);
-    assert_eq!(rt; lines.line(), b"two".as_slice());
-    assert_eq!(rt; lines.next_line(&mut source), Next::End);
-    assert_eq!(rt; lines.given(), 2);
+    let source = source(Vec::from_slice(alloc, b"one\ntwo")?, alloc, &[2])?;
+    let (text, given) = told(alloc, source, 4)?;
+    assert!(rt; text.as_slice() == b"[one]![two].".as_slice() && given == 2);
     Ok(())
 }
 
 #[test]
 fn after_its_end_a_source_is_not_read(rt: HostRuntime) -> Result<(), Fail> {
-    let alloc = rt.alloc();
-    let source = source(Vec::from_slice(alloc, b"one\ntwo")?, alloc, &[3])?;
-    let (text, end) = lines_of(alloc, source)?;
-    assert_eq!(rt; text.as_slice(), b"[one][two]".as_slice());
-    assert_eq!(rt; end, Next::End);
+    assert!(rt; reads(rt.alloc(), b"one\ntwo", &[3], b"[one][two]")?);
     Ok(())
 }
