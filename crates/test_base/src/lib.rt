@@ -1,8 +1,6 @@
-//! Tests of the crates that know no game: sheets, words and dice, play orders, views, rosters and logs.
+//! Tests of the crates that know no game: sheets, short texts, words and dice, play orders and rosters.
 #![tactic(auto)]
 
-#[cfg(test)]
-mod logs;
 #[cfg(test)]
 mod orders;
 #[cfg(test)]
@@ -11,7 +9,5 @@ mod rosters;
 mod sheets;
 #[cfg(test)]
 mod shorts;
-#[cfg(test)]
-mod views;
 #[cfg(test)]
 mod words;

@@ -1,12 +1,10 @@
-//! Sheets that break each rule, sheets at the bounds of the rules, and the small types over memory.
+//! Sheets that break each rule, and sheets at the bounds of the rules.
 
 use game_sheet::{
-    Bytes, Crowded, Ctx, Event, EventQueue, List, MoveId, MoveRow, NoMemory, Order, Outcome,
-    PhaseId, PhaseRow, Place, Sheet, SpecId, SpecRow, StageId, StageRow, Text, TurnRow,
-    check_sheet,
+    List, MoveId, MoveRow, NoMemory, Order, PhaseRow, Place, Sheet, SpecId, SpecRow, StageId,
+    StageRow, Text, TurnRow, check_sheet,
 };
 use std::alloc::Global;
-use std::process::Abort;
 use std::test::Fail;
 
 fn row(alloc: Global, name: &str) -> Result<MoveRow, NoMemory> {
@@ -340,110 +338,5 @@ fn what_stands_at_a_bound_passes(rt: HostRuntime) -> Result<(), Fail> {
         assert!(rt; rule == AT_A_BOUND[nr as usize], "sheet {nr}");
     }
     assert!(rt; rule_of(plain(rt.alloc()))? == 0);
-    Ok(())
-}
-
-/// A context in which nothing is as at the beginning.
-fn moved_on(alloc: Global) -> Result<Ctx, NoMemory> {
-    let order = List::from_slice(alloc, &[1, 0])?;
-    let active = List::from_slice(alloc, &[(0, Some(StageId::at(2))), (1, None)])?;
-    Ok(Ctx {
-        seats: 2,
-        turn: 7,
-        current: 1,
-        order,
-        pos: 0,
-        phase: Some(PhaseId::at(3)),
-        active: Some(active),
-        moves: 5,
-        over: Some(Outcome::Winner(1)),
-    })
-}
-
-/// The numbers of a context, and how many seats are on its map.
-fn numbers(ctx: &Ctx) -> [usize; 6] {
-    let active = match &ctx.active {
-        Some(rows) => rows.len(),
-        None => 9,
-    };
-    let (seats, turn, moves) = (ctx.seats as usize, ctx.turn as usize, ctx.moves as usize);
-    let (current, pos) = (ctx.current as usize, ctx.pos as usize);
-    [seats, turn, current, pos, moves, active]
-}
-
-/// Whether a copy of a context is the one that has moved on.
-fn is_copied(alloc: Global, ctx: Result<Ctx, NoMemory>) -> Result<bool, NoMemory> {
-    let ctx = ctx?;
-    let copy = ctx.copy(alloc);
-    drop(ctx);
-    let copy = copy?;
-    let same_numbers = numbers(&copy) == [2, 7, 1, 0, 5, 2];
-    let same_order = copy.order.as_slice() == [1, 0].as_slice();
-    let same_end = copy.over == Some(Outcome::Winner(1)) && copy.phase == Some(PhaseId::at(3));
-    drop(copy);
-    Ok(same_numbers && same_order && same_end)
-}
-
-#[test]
-fn contexts_are_copied_whole(rt: HostRuntime) -> Result<(), Fail> {
-    let alloc = rt.alloc();
-    assert!(rt; is_copied(alloc, moved_on(alloc))?);
-    Ok(())
-}
-
-/// Whether a text's copy is this text and no other.
-fn is_copied_text(alloc: Global, text: Text) -> Result<bool, NoMemory> {
-    let copy = text.copy(alloc);
-    drop(text);
-    let copy = copy?;
-    let is_same = copy.as_str() == "draw" && copy.is("draw") && !copy.is("Draw");
-    drop(copy);
-    Ok(is_same)
-}
-
-#[test]
-fn texts_are_copied_whole(rt: HostRuntime) -> Result<(), Fail> {
-    let text = Text::from_str(rt.alloc(), "draw")?;
-    assert!(rt; is_copied_text(rt.alloc(), text)?);
-    Ok(())
-}
-
-#[test]
-fn a_queue_takes_sixteen_events(rt: HostRuntime) {
-    let mut queue = EventQueue::new();
-    for _event in 0..16 {
-        assert_eq!(rt; queue.push(Event::EndPhase), Ok(()));
-    }
-    assert_eq!(rt; queue.push(Event::EndStage), Err(Crowded));
-    assert_eq!(rt; queue.list().len(), 16);
-}
-
-/// The lines of bytes, each in brackets.
-fn bracketed(alloc: Global, bytes: &Bytes) -> Result<Vec<u8>, NoMemory> {
-    let mut text = Vec::new(alloc);
-    for place in 0..bytes.count() {
-        text.push(b'[')?;
-        text.extend_from_slice(bytes.piece(place))?;
-        text.push(b']')?;
-    }
-    Ok(text)
-}
-
-/// Compares the lines of bytes.
-fn has_lines(rt: &impl Abort, alloc: Global, bytes: Bytes, lines: &[u8]) -> Result<(), NoMemory> {
-    let text = bracketed(alloc, &bytes);
-    drop(bytes);
-    let text = text?;
-    assert_eq!(rt; text.as_slice(), lines);
-    Ok(())
-}
-
-#[test]
-fn bytes_come_line_by_line(rt: HostRuntime) -> Result<(), Fail> {
-    let alloc = rt.alloc();
-    has_lines(&rt, alloc, Bytes::none(), b"")?;
-    has_lines(&rt, alloc, Bytes::fixed(b"one\n\n"), b"[one\n][\n]")?;
-    let owned = Bytes::from_vec(Vec::from_slice(alloc, b"one\ntwo")?);
-    has_lines(&rt, alloc, owned, b"[one\n][two]")?;
     Ok(())
 }
