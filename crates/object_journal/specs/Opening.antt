@@ -19,11 +19,11 @@ pub record IsOpened {O C D : Type 0} (stands_for : O → List (Entry C) → Type
   pub had : HasRecords (seen disk) (records h)
   pub follow : AllFollow may_follow [] (records h)
 
--- a damaged file is as it was, but that one of at most one byte begins anew
+-- why a file wasn't opened; one of at most one byte has no records, and is never damaged
 abbrev pub IsRefused : {D : Type 0} → (List (List ℕ) → List ℕ → Bool) → (D → Type 0) → (D → List ℕ) → (D → ℕ) → D → D → OpenNo → Type 0
 IsRefused may_follow is_told seen faults disk after open_no.DiskFault = HasRisen (faults disk) (faults after)
 IsRefused may_follow is_told seen faults disk after open_no.Long = is_told disk → longest < length (seen disk)
-IsRefused may_follow is_told seen faults disk after (open_no.Damaged place) = is_told disk → IsDamaged may_follow (seen after) place
+IsRefused may_follow is_told seen faults disk after (open_no.Damaged place) = is_told disk → (1 < length (seen disk)) × IsDamaged may_follow (seen disk) place
 IsRefused may_follow is_told seen faults disk after open_no.NoMemory = Unit {0}
 
 abbrev pub reason_as : NotReady → OpenNo

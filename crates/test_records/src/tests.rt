@@ -44,7 +44,7 @@ fn kept(alloc: Global, mut disk: MemoryDisk) -> (u32, MemoryDisk) {
 fn count(bytes: &[u8]) -> u32 {
     let mut rest = bytes;
     let mut records = 0;
-    for _ in 0..4 {
+    for before in 0..4 {
         if rest.is_empty() || rest.len() > 100 {
             break;
         }
@@ -52,7 +52,7 @@ fn count(bytes: &[u8]) -> u32 {
             break;
         };
         rest = &rest[5 + count..];
-        records += 1;
+        records = before + 1;
     }
     records
 }

@@ -1,4 +1,4 @@
-use Rattle.std.proofs.Common.{◌≤◌, List, ℕ, length, sym, ◌∙◌, ap, subst, arith}
+use Rattle.std.proofs.Common.{inr, ◌≤◌, List, ℕ, length, sym, ◌∙◌, ap, subst, arith}
 use Rattle.board_links.specs.Faults.{HasRisen}
 use Rattle.room_disk.specs.Disk.{Only}
 use Rattle.record_file.specs.Records.{HasRecords}
@@ -23,6 +23,7 @@ returns-in-Done-clause-bytes g c told =
     let begun = c.in-Done.ensures.begun (c.measured.ensures.told told) short in
     record {
       same = c.in-Ok-from_array.ensures.items ∙ sym begun.0;
+      whole = inr (few, c.in-Ok-from_array.ensures.items);
       durable = begun.1;
       some = omega (arith, ap length c.in-Ok-from_array.ensures.items);
       few = omega (arith, ap length c.in-Ok-from_array.ensures.items);
