@@ -1,0 +1,4 @@
+pub mod Damage
+pub mod Gates
+pub mod Ready
+pub mod Records
