@@ -66,10 +66,8 @@ const AGAIN: &str = "{\"ticket\":null,\"type\":\"again\"}";
 
 /// Does the steps with a new client of Pig that has no key.
 fn rolls(rt: &impl Abort, alloc: Global, steps: &[Step<'_>]) -> Result<(), NoMemory> {
-    let game = Pig::new(alloc)?;
     let client = Client::new(alloc, Pig::new(alloc)?, None);
-    does(rt, alloc, &game, client, steps);
-    drop(game);
+    does(rt, alloc, client, steps);
     Ok(())
 }
 

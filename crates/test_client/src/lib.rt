@@ -2,8 +2,6 @@
 #![tactic(auto)]
 
 #[cfg(test)]
-mod corrected;
-#[cfg(test)]
 mod gone;
 #[cfg(test)]
 mod lines;

@@ -12,20 +12,6 @@ pub const BID_OF_TWO: [(&str, &str); 2] = [
     ),
 ];
 
-/// The same of three players, with the lines of seat 1's and of seat 2's bid.
-pub const BIDS_OF_THREE: [(&str, &str, &str); 2] = [
-    (
-        "{\"match\":\"0-1\",\"seat\":0,\"snapshot\":{\"ctx\":{\"activePlayers\":{\"0\":\"bid\",\"1\":\"bid\",\"2\":\"bid\"},\"currentPlayer\":0,\"gameover\":null,\"numMoves\":0,\"numPlayers\":3,\"phase\":null,\"playOrder\":[0,1,2],\"playOrderPos\":0,\"turn\":1},\"g\":{\"common\":{\"boasts\":[0,0,0],\"revealed\":null},\"players\":[{\"bid\":null},null,null],\"secret\":null},\"log\":[],\"number\":0},\"type\":\"sync\"}",
-        "{\"ctx\":{\"activePlayers\":{\"0\":\"bid\",\"2\":\"bid\"},\"currentPlayer\":0,\"gameover\":null,\"numMoves\":0,\"numPlayers\":3,\"phase\":null,\"playOrder\":[0,1,2],\"playOrderPos\":0,\"turn\":1},\"entry\":{\"act\":{\"args\":null,\"kind\":\"move\",\"move\":\"bid\"},\"number\":0,\"phase\":null,\"seat\":1,\"turn\":1},\"g\":{\"common\":{\"boasts\":[0,0,0],\"revealed\":null},\"players\":[{\"bid\":null},null,null],\"secret\":null},\"number\":1,\"type\":\"update\"}",
-        "{\"ctx\":{\"activePlayers\":{\"0\":\"bid\"},\"currentPlayer\":0,\"gameover\":null,\"numMoves\":0,\"numPlayers\":3,\"phase\":null,\"playOrder\":[0,1,2],\"playOrderPos\":0,\"turn\":1},\"entry\":{\"act\":{\"args\":null,\"kind\":\"move\",\"move\":\"bid\"},\"number\":1,\"phase\":null,\"seat\":2,\"turn\":1},\"g\":{\"common\":{\"boasts\":[0,0,0],\"revealed\":null},\"players\":[{\"bid\":null},null,null],\"secret\":null},\"number\":2,\"type\":\"update\"}",
-    ),
-    (
-        "{\"match\":\"0-1\",\"protocol\":2,\"seat\":0,\"snapshot\":{\"ctx\":{\"activePlayers\":{\"0\":\"bid\",\"1\":\"bid\",\"2\":\"bid\"},\"currentPlayer\":0,\"gameover\":null,\"numMoves\":0,\"numPlayers\":3,\"phase\":null,\"playOrder\":[0,1,2],\"playOrderPos\":0,\"turn\":1},\"g\":{\"common\":{\"boasts\":[0,0,0],\"revealed\":null},\"players\":[{\"bid\":null},null,null],\"secret\":null},\"log\":[],\"number\":0},\"type\":\"sync\"}",
-        "{\"ctx\":{\"activePlayers\":{\"0\":\"bid\",\"2\":\"bid\"}},\"entry\":{\"act\":{\"args\":null,\"kind\":\"move\",\"move\":\"bid\"},\"number\":0,\"phase\":null,\"seat\":1,\"turn\":1},\"g\":{\"gone\":[],\"put\":{}},\"number\":1,\"type\":\"change\",\"was\":0}",
-        "{\"ctx\":{\"activePlayers\":{\"0\":\"bid\"}},\"entry\":{\"act\":{\"args\":null,\"kind\":\"move\",\"move\":\"bid\"},\"number\":1,\"phase\":null,\"seat\":2,\"turn\":1},\"g\":{\"gone\":[],\"put\":{}},\"number\":2,\"type\":\"change\",\"was\":1}",
-    ),
-];
-
 /// The sync line of Pig and the line of seat 0's roll of 5.
 pub const ROLL: [(&str, &str); 2] = [
     (

@@ -6,7 +6,6 @@ ghost use Rattle.wire_json.specs.Asking.{IsAskable};
 use client_predict::{ActNo, Client, FeedNo, Predicted, Told};
 use game_sheet::{Arg, Args, NoMemory, Text};
 use game_trait::Game;
-use json_tree::line_of;
 use std::alloc::Global;
 use std::process::Abort;
 use wire_json::Asked;
@@ -27,21 +26,13 @@ pub enum Step<'a> {
     Reads(&'a str, Result<Told, FeedNo>),
     /// The client makes a move.
     Makes(Move, Result<Predicted, ActNo>),
-    /// The client shows this number and, as text with a newline, this state.
-    Shows(u32, &'a str),
 }
 
-/// Does the steps one after the other with a client of a game. A game like it writes the states.
-pub fn does<X: Game + Drop>(
-    rt: &impl Abort,
-    alloc: Global,
-    game: &X,
-    client: Client<X>,
-    steps: &[Step<'_>],
-) {
+/// Does the steps one after the other with a client of a game.
+pub fn does<X: Game + Drop>(rt: &impl Abort, alloc: Global, client: Client<X>, steps: &[Step<'_>]) {
     let mut client = client;
     for step in steps {
-        do_step(rt, alloc, game, &mut client, step);
+        do_step(rt, alloc, &mut client, step);
     }
     drop(client);
 }
@@ -49,14 +40,12 @@ pub fn does<X: Game + Drop>(
 fn do_step<X: Game + Drop>(
     rt: &impl Abort,
     alloc: Global,
-    game: &X,
     client: &mut Client<X>,
     step: &Step<'_>,
 ) {
     match step {
         Step::Reads(line, told) => assert_eq!(rt; client.feed(line.as_bytes()), *told, "{line}"),
         Step::Makes(made, predicted) => assert_eq!(rt; make(alloc, client, *made), *predicted),
-        Step::Shows(number, state) => shows(rt, alloc, game, client, *number, state),
     }
 }
 
@@ -95,37 +84,5 @@ fn asked_of(alloc: Global, made: Move) -> Result<Asked, NoMemory>
                 args: Args::new(),
             })
         }
-    }
-}
-
-/// The client shows a state of this number and text.
-fn shows<X: Game + Drop>(
-    rt: &impl Abort,
-    alloc: Global,
-    game: &X,
-    client: &Client<X>,
-    number: u32,
-    state: &str,
-) {
-    let Some(shown) = client.shown() else {
-        assert!(rt; false, "nothing is shown");
-        return;
-    };
-    assert_eq!(rt; shown.number, number);
-    assert!(rt; has_text(alloc, game, shown.g, state), "{state}");
-}
-
-/// Whether a state is written as this text.
-fn has_text<X: Game>(alloc: Global, game: &X, g: &X::G, text: &str) -> bool {
-    match game.to_value(alloc, g) {
-        Ok(value) => {
-            let line = line_of(alloc, &value);
-            drop(value);
-            match line {
-                Ok(line) => line.as_slice() == text.as_bytes(),
-                Err(_) => false,
-            }
-        }
-        Err(NoMemory) => false,
     }
 }

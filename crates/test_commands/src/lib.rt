@@ -1,9 +1,11 @@
-//! Tests of the program's commands: runs whose reads and writes fail, a match played over a link in memory, matches served over a door in
-//! memory, and what workloads tell.
+//! Tests of the program's commands: runs whose reads and writes fail, scripts of a million lines, a match played over a link in memory,
+//! matches served over a door in memory, and what workloads tell.
 #![tactic(auto)]
 
 #[cfg(test)]
 mod plays;
+#[cfg(test)]
+mod puts;
 #[cfg(test)]
 mod runs;
 #[cfg(test)]

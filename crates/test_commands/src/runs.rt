@@ -137,7 +137,7 @@ fn runs(rt: &impl Abort, alloc: Global, row: Row) -> Result<(), NoMemory> {
 }
 
 /// A program's words, of which there is one.
-fn words(alloc: Global, word: &str) -> Result<Vec<String>, NoMemory> {
+pub fn words(alloc: Global, word: &str) -> Result<Vec<String>, NoMemory> {
     let mut words = Vec::new(alloc);
     words.push(String::from_str(alloc, word)?)?;
     Ok(words)
