@@ -25,7 +25,7 @@ class Connection:
         self.socket.sendall(json.dumps(message).encode() + b"\n")
 
     def read(self):
-        """The next line. None within the time-out may mean that all workers of the server are busy."""
+        """The next line."""
         while b"\n" not in self.bytes:
             piece = self.socket.recv(65_536)
             if not piece:
@@ -132,4 +132,7 @@ def main(address, command, *words):
 
 
 if __name__ == "__main__":
-    main(*sys.argv[1:]) if sys.argv[2:] else sys.exit(__doc__)
+    try:
+        main(*sys.argv[1:]) if sys.argv[2:] else sys.exit(__doc__)
+    except TimeoutError:
+        sys.exit("no answer in 10 seconds: all workers of the server may be busy")
