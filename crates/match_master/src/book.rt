@@ -76,7 +76,7 @@ impl<X: Game + Drop> Book<X> {
     ///
     /// A book that stands for a history of its room answers the reply to the entry of this call after it, and then stands
     /// for the history with the entry. A refused action leaves the match and every other pass's lines as they were. After
-    /// `NoMemory` nothing has changed; a Leave, a Take and a Detach take no memory.
+    /// `NoMemory` nothing has changed; a Leave, a Take, a Detach and a Clear take no memory.
     pub fn apply(&mut self, pass: u32, call: RoomCall<X>) -> RoomReply
         ensures room { self.new.room ≡ self.old.room }
         ensures answered { (h : List (Entry (Asks X))) → StandsFor X.rules self.old h → result ≡ reply X.rules self.old.room h (entry pass call (is_starved result)) }
@@ -121,6 +121,7 @@ impl<X: Game + Drop> Book<X> {
             RoomCall::Submit(submission) => self.submit(pass, &submission),
             RoomCall::Take => self.take(pass),
             RoomCall::Detach => self.detach(pass),
+            RoomCall::Clear { serial } => self.clear(serial),
         }
     }
 
