@@ -25,6 +25,7 @@ impl<X: Game + Drop> Book<X> {
         ensures does { (standing : Option (Match X X.G)) → self.old.running ≡ option_map (running_of X.rules) standing
             → Does self.old result self.new (reply_by (λ (m : Match X X.G). answer.Created m.serial) (created_match X.rules self.old.serials standing game seats seed.now))
             (with_new_match X.rules self.old (created_match X.rules self.old.serials standing game seats seed.now)) }
+        ensures starved { is_starved result ≡ true → self.new ≡ self.old }
     {
         if self.running.is_some() || self.serials == u64::MAX {
             return RoomReply::Busy;
@@ -44,6 +45,7 @@ impl<X: Game + Drop> Book<X> {
         ensures room { self.new.room ≡ self.old.room }
         ensures does { Does self.old result self.new (answer.Created (self.old.serials + 1))
             (record self.old { serials = self.old.serials + 1; running = Some (record { game = game; seats = seats; serial = self.old.serials + 1; state = state; log = []; roster = free_seats seats }) }) }
+        ensures starved { is_starved result ≡ true → self.new ≡ self.old }
     {
         let Ok(roster) = Roster::new(self.alloc, seats) else {
             return RoomReply::NoMemory;
@@ -61,12 +63,13 @@ impl<X: Game + Drop> Book<X> {
         RoomReply::Created { serial }
     }
 
-    /// Seats a player at a free seat of the match that stands.
+    /// Seats a player at a free seat of the match that stands. It takes no memory.
     pub(crate) fn join(&mut self, serial: u64, seat: Seat, name: Text, key: Key) -> RoomReply
         ensures room { self.new.room ≡ self.old.room }
         ensures does { (standing : Option (Match X X.G)) → self.old.running ≡ option_map (running_of X.rules) standing
             → Does self.old result self.new (reply_by (λ (m : Match X X.G). answer.Joined) (reseated_match (named_match standing serial) (λ roster. join roster seat name key)))
             (with_match X.rules self.old (reseated_match (named_match standing serial) (λ roster. join roster seat name key))) }
+        ensures fed { is_starved result ≡ false }
     {
         let Some(running) = &mut self.running else {
             return RoomReply::NoMatch;
@@ -80,12 +83,13 @@ impl<X: Game + Drop> Book<X> {
         }
     }
 
-    /// Gives the player at a seat of the match that stands another name.
+    /// Gives the player at a seat of the match that stands another name. It takes no memory.
     pub(crate) fn rename(&mut self, serial: u64, seat: Seat, key: &Key, name: Text) -> RoomReply
         ensures room { self.new.room ≡ self.old.room }
         ensures does { (standing : Option (Match X X.G)) → self.old.running ≡ option_map (running_of X.rules) standing
             → Does self.old result self.new (reply_by (λ (m : Match X X.G). answer.Renamed) (reseated_match (named_match standing serial) (λ roster. rename roster seat key.now name)))
             (with_match X.rules self.old (reseated_match (named_match standing serial) (λ roster. rename roster seat key.now name))) }
+        ensures fed { is_starved result ≡ false }
     {
         let Some(running) = &mut self.running else {
             return RoomReply::NoMatch;
