@@ -11,7 +11,7 @@ use Rattle.phase_flow.specs.Action.{begin}
 use Rattle.phase_flow.specs.IsGood.{IsGood}
 use Rattle.phase_flow.specs.Reached.{Reached}
 use Rattle.reducer.specs.Accepted.{Accepted}
-use Rattle.room_history.specs.Does.{Room, room_after, room_after_want, with_new_match, with_match, with_left_seat, with_removed_if, with_session, with_fate, with_one, after_action, after_leaving, after_submission, after_want, new_session, is_left}
+use Rattle.room_history.specs.Does.{Room, room_after, room_after_want, with_new_match, with_match, with_left_seat, with_removed_if, with_session, with_fate, with_one, after_action, after_leaving, after_submission, after_want, new_session, is_left, left_where, with_cleared}
 use Rattle.room_history.specs.Item.{GameAnswer, Item, Left, Detached, Starved, Submitted, Took}
 use Rattle.room_history.specs.Match.{Match, number_of, table_of}
 use Rattle.room_history.specs.Piece.{State, Open, Ended, Closed}
@@ -22,11 +22,11 @@ use Rattle.room_history.specs.Session.{Session, after_detach, after_take, handfu
 use Rattle.room_history.specs.Shown.{snapshot}
 use Rattle.room_history.specs.Verdict.{first_reason, game_reason, is_named, match_accepting, public_reason, with_act}
 use Rattle.room_history.specs.declared.call.RoomCall.{RoomCall}
-use Rattle.room_history.specs.declared.call.RoomCall.TheVariants.{Create, Join, Rename, Leave, Look, Attach, Submit, Take, Detach}
+use Rattle.room_history.specs.declared.call.RoomCall.TheVariants.{Create, Join, Rename, Leave, Look, Attach, Submit, Take, Detach, Clear}
 use Rattle.room_history.specs.declared.reply.RoomReply.{RoomReply}
 use Rattle.room_history.specs.declared.reply.RoomReply.TheVariants as reply
 use Rattle.room_history.proofs.Growth.{grown}
-use Rattle.room_history.proofs.Keeps.{Reseated, reseated}
+use Rattle.room_history.proofs.Keeps.{Reseated, reseated, named_stays}
 use Rattle.room_history.proofs.RuleLaws.{IsAdmitted, or_none, public_admits}
 use Rattle.room_object.specs.Entry.{Entry}
 use Rattle.seat_roster.specs.Roster.{is_empty, join, leave, rename}
@@ -222,6 +222,11 @@ module _ {X G : Type 0} (rules : X → Rules G) (room : ℕ) (low : room ≤ 63)
       (λ q. latest_fits (after_leaving seat (is_empty m.roster)) (left_fits seat (is_empty m.roster)) (r.sessions q) (k.sessions q))
   known_left r (Err why) seat f k = k
 
+  known_cleared : (r : Room X G) (result : Result (Match X G) RoomReply) → Reseated rules room r.standing result → Known r → Known (with_cleared r result)
+  known_cleared r (Ok m) f k =
+      known_removed true r m (λ q. with_latest (left_where true) (r.sessions q)) (reseated_grounded r.standing m f k.standing) k (λ q. latest_fits (left_where true) (left_fits 0 true) (r.sessions q) (k.sessions q))
+  known_cleared r (Err why) f k = k
+
   known_session : (r : Room X G) (result : Result (Match X G) RoomReply) (pass : ℕ) (viewer : Viewer) (protocol : Protocol) → IsWithin 255 (seat_of viewer) → Known r → Known (with_session rules room pass viewer protocol r result)
   known_session r (Ok m) pass viewer protocol w k =
       record { serials = k.serials; standing = k.standing; removed = k.removed; sessions = λ q. begun_fits rules room (pass == q) m viewer protocol (r.sessions q) w (k.sessions q) }
@@ -245,6 +250,7 @@ module _ {X G : Type 0} (rules : X → Rules G) (room : ℕ) (low : room ≤ 63)
   known_call r pass (Join serial seat name key) w k = known_match r (reseated_match (named_match r.standing serial) (λ roster. join roster seat name key)) (reseated rules room r.standing serial (λ roster. join roster seat name key)) k
   known_call r pass (Rename serial seat key name) w k = known_match r (reseated_match (named_match r.standing serial) (λ roster. rename roster seat key name)) (reseated rules room r.standing serial (λ roster. rename roster seat key name)) k
   known_call r pass (Leave serial seat key) w k = known_left r (reseated_match (named_match r.standing serial) (λ roster. leave roster seat key)) seat (reseated rules room r.standing serial (λ roster. leave roster seat key)) k
+  known_call r pass (Clear serial) w k = known_cleared r (named_match r.standing serial) (named_stays rules room r.standing serial) k
   known_call r pass (Look serial) w k = k
   known_call r pass (Attach serial viewer protocol) w k = known_session r (attached_match r.standing (latest_state (r.sessions pass)) serial viewer) pass viewer protocol w k
   known_call r pass (Submit s) w k =
@@ -258,6 +264,7 @@ module _ {X G : Type 0} (rules : X → Rules G) (room : ℕ) (low : room ≤ 63)
   known_want r pass (Join serial seat name key) w k = k
   known_want r pass (Rename serial seat key name) w k = k
   known_want r pass (Leave serial seat key) w k = k
+  known_want r pass (Clear serial) w k = k
   known_want r pass (Look serial) w k = k
   known_want r pass (Attach serial viewer protocol) w k = k
   known_want r pass (Submit s) w k = known_one r pass (after_want rules room s) (λ c f. submitted_fits (number_in c.sight) s Starved w.1 c f) k

@@ -58,6 +58,7 @@ plain_asks (call.Create game seats seed) h = tt
 plain_asks (call.Join serial seat name key) h = tt
 plain_asks (call.Rename serial seat key name) h = tt
 plain_asks (call.Leave serial seat key) h = tt
+plain_asks (call.Clear serial) h = absurd h
 plain_asks (call.Look serial) h = tt
 plain_asks (call.Attach serial viewer protocol) h = tt
 plain_asks (call.Submit s) h = tt

@@ -36,6 +36,7 @@ module _ {X G : Type 0} (rules : X → Rules G) (pass room j : ℕ) where
   told_hall w c hall reply.Joined = refl
   told_hall w c hall reply.Renamed = refl
   told_hall w c hall reply.Left = refl
+  told_hall w c hall reply.Cleared = refl
   told_hall w c hall (reply.Looked row) = refl
   told_hall w c hall reply.Attached = refl
   told_hall w c hall (reply.Verdict v) = refl

@@ -15,7 +15,7 @@ use Rattle.room_history.specs.Reply.{Fate, Goes, Turned, Unheard, attached_match
 use Rattle.room_history.specs.Room.{reply, room_of}
 use Rattle.room_history.specs.Session.{Session, detach_reply, latest_state, latest_take_reply, session_state, stream_of, take_reply_in}
 use Rattle.room_history.specs.declared.call.RoomCall.{RoomCall}
-use Rattle.room_history.specs.declared.call.RoomCall.TheVariants.{Create, Join, Rename, Leave, Look, Attach, Submit, Take, Detach}
+use Rattle.room_history.specs.declared.call.RoomCall.TheVariants.{Create, Join, Rename, Leave, Look, Attach, Submit, Take, Detach, Clear}
 use Rattle.room_history.specs.declared.reply.RoomReply.{RoomReply}
 use Rattle.room_history.specs.declared.reply.RoomReply.TheVariants as reply
 use Rattle.seat_roster.specs.Player.{Seats}
@@ -139,6 +139,7 @@ starved_by (Create game seats seed) true told h = tt
 starved_by (Join serial seat name key) true told h = tt
 starved_by (Rename serial seat key name) true told h = tt
 starved_by (Leave serial seat key) true told h = tt
+starved_by (Clear serial) true told h = tt
 starved_by (Look serial) true told h = tt
 starved_by (Attach serial viewer protocol) true told h = tt
 starved_by (Submit s) true told h = tt
@@ -152,6 +153,7 @@ module _ {X G : Type 0} (rules : X → Rules G) (room : ℕ) where
       by_plain (λ (m : Match X G). reply.Joined) (λ m. tt) _ (reseated_refused (named_match r.standing serial) (λ roster. join roster seat name key) (named_refused r.standing serial))
   call_replied r pass (Rename serial seat key name) =
       by_plain (λ (m : Match X G). reply.Renamed) (λ m. tt) _ (reseated_refused (named_match r.standing serial) (λ roster. rename roster seat key name) (named_refused r.standing serial))
+  call_replied r pass (Clear serial) = by_plain (λ (m : Match X G). reply.Cleared) (λ m. tt) _ (named_refused r.standing serial)
   call_replied r pass (Leave serial seat key) =
       by_plain (λ (m : Match X G). reply.Left) (λ m. tt) _ (reseated_refused (named_match r.standing serial) (λ roster. leave roster seat key) (named_refused r.standing serial))
   call_replied r pass (Look serial) = by_plain (λ (m : Match X G). reply.Looked (match_row rules room m)) (λ m. tt) _ (looked_refused r.standing serial)
@@ -190,6 +192,7 @@ reply_named Take told h = taking_named told h
 reply_named (Join serial seat name key) told h = plain_named told h
 reply_named (Rename serial seat key name) told h = plain_named told h
 reply_named (Leave serial seat key) told h = plain_named told h
+reply_named (Clear serial) told h = plain_named told h
 reply_named (Look serial) told h = plain_named told h
 reply_named (Attach serial viewer protocol) told h = plain_named told h
 reply_named Detach told h = plain_named told h
@@ -221,6 +224,7 @@ unjudged Take told n h = taking_unjudged told h
 unjudged (Join serial seat name key) told n h = plain_unjudged told h
 unjudged (Rename serial seat key name) told n h = plain_unjudged told h
 unjudged (Leave serial seat key) told n h = plain_unjudged told h
+unjudged (Clear serial) told n h = plain_unjudged told h
 unjudged (Look serial) told n h = plain_unjudged told h
 unjudged (Attach serial viewer protocol) told n h = plain_unjudged told h
 unjudged Detach told n h = plain_unjudged told h
@@ -249,6 +253,7 @@ keeps_bytes Take told n h = absurd n
 keeps_bytes (Join serial seat name key) told n h = plain_keeps told h
 keeps_bytes (Rename serial seat key name) told n h = plain_keeps told h
 keeps_bytes (Leave serial seat key) told n h = plain_keeps told h
+keeps_bytes (Clear serial) told n h = plain_keeps told h
 keeps_bytes (Look serial) told n h = plain_keeps told h
 keeps_bytes (Attach serial viewer protocol) told n h = plain_keeps told h
 keeps_bytes Detach told n h = plain_keeps told h

@@ -68,6 +68,7 @@ module _ {X G : Type 0} (rules : X → Rules G) (room : ℕ) (pass j : ℕ) wher
   asks_no_take (call.Join serial seat name key) h = refl
   asks_no_take (call.Rename serial seat key name) h = refl
   asks_no_take (call.Leave serial seat key) h = refl
+  asks_no_take (call.Clear serial) h = absurd h
   asks_no_take (call.Look serial) h = refl
   asks_no_take (call.Attach serial viewer protocol) h = refl
   asks_no_take (call.Submit s) h = refl

@@ -44,6 +44,7 @@ module _ {X G : Type 0} (rules : X → Rules G) where
   takes_hall w c hall (Some reply.Joined) p q = q
   takes_hall w c hall (Some reply.Renamed) p q = q
   takes_hall w c hall (Some reply.Left) p q = q
+  takes_hall w c hall (Some reply.Cleared) p q = q
   takes_hall w c hall (Some (reply.Looked row)) p q = q
   takes_hall w c hall (Some reply.Attached) p q = q
   takes_hall w c hall (Some (reply.Verdict v)) p q = q

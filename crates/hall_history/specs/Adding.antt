@@ -1,14 +1,15 @@
 -- What lines add to the rooms' histories.
 use Rattle.std.specs.Prelude.{◌≡◌, ℕ, List, [], ◌∷◌, ◌++◌, length}
 use Rattle.room_history.specs.declared.call.RoomCall.{RoomCall}
-use Rattle.room_history.specs.declared.call.RoomCall.TheVariants.{Attach, Take, Detach}
+use Rattle.room_history.specs.declared.call.RoomCall.TheVariants.{Attach, Take, Detach, Clear}
 use Rattle.room_object.specs.Entry.{Entry}
 use Rattle.hall_history.specs.Rooms.{Rooms, history_of}
 
--- a call that takes nothing and sets nobody free
+-- a call that takes nothing, sets nobody free and clears no match
 abbrev pub IsAsking : {X : Type 0} → RoomCall X → Type 0
 IsAsking Take = ⊥
 IsAsking Detach = ⊥
+IsAsking (Clear serial) = ⊥
 IsAsking call = Unit {0}
 
 -- one that attaches nobody either
@@ -16,6 +17,7 @@ abbrev pub IsPlain : {X : Type 0} → RoomCall X → Type 0
 IsPlain (Attach serial viewer protocol) = ⊥
 IsPlain Take = ⊥
 IsPlain Detach = ⊥
+IsPlain (Clear serial) = ⊥
 IsPlain call = Unit {0}
 
 -- entries of one pass, with such calls

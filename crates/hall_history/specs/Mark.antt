@@ -4,7 +4,7 @@
 use Rattle.std.specs.Prelude.{ℕ, zero, suc, ◌==◌, Bool, true, false, ◌&&◌, if◌then◌else◌, Option, Some, None}
 use Rattle.game_trait.specs.Rules.{Rules}
 use Rattle.room_history.specs.declared.call.RoomCall.{RoomCall}
-use Rattle.room_history.specs.declared.call.RoomCall.TheVariants.{Leave, Take, Detach}
+use Rattle.room_history.specs.declared.call.RoomCall.TheVariants.{Join, Rename, Leave, Take, Detach, Clear}
 use Rattle.room_history.specs.declared.reply.RoomReply.{RoomReply}
 use Rattle.room_history.specs.declared.reply.RoomReply.TheVariants.{NoMemory, Busy, Looked}
 use Rattle.room_object.specs.Entry.{Entry, entry}
@@ -35,9 +35,12 @@ abbrev pub runs_out_there : Luck → Bool
 runs_out_there None = false
 runs_out_there (Some luck) = luck.0 == 1 && luck.1
 
--- a Leave, a Take and a Detach take no memory
+-- what is asked of a roster, a Take, a Detach and a Clear take no memory
 abbrev pub takes_memory : {X : Type 0} → RoomCall X → Bool
+takes_memory (Join serial seat name key) = false
+takes_memory (Rename serial seat key name) = false
 takes_memory (Leave serial seat key) = false
+takes_memory (Clear serial) = false
 takes_memory Take = false
 takes_memory Detach = false
 takes_memory call = true

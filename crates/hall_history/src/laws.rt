@@ -81,8 +81,8 @@ pub fn want_of_memory_takes_nothing<X: Game>(game: &X)
     let _game = game;
 }
 
-/// A line adds calls of its own session to the rooms' histories, none a Take or a Detach, and an open calls of pass 32 that attach
-/// and free nobody.
+/// A line adds calls of its own session to the rooms' histories, none a Take, a Detach or a Clear, and an open calls of pass 32
+/// that attach and free nobody.
 pub fn lines_add_their_own_calls<X: Game>(game: &X)
     ensures line { (named : List ℕ → Option X) (tape : ℕ → List ℕ) (mark : Mark) (h : Hall X) (pass : ℕ) (line : List ℕ)
         → Adds IsAsking pass h.rooms (after_line named X.rules tape mark h pass line).0.rooms }

@@ -15,11 +15,11 @@ use Rattle.wire_json.specs.declared.protocol.Protocol.TheVariants.{One, Two}
 use Rattle.wire_json.specs.declared.reason.Reason.{Reason}
 use Rattle.wire_json.specs.declared.submission.Submission.{Submission}
 use Rattle.room_history.specs.Does.{is_left}
-use Rattle.room_history.specs.Held.{attachment_after, attachment_after_action, attachment_after_attach, attachment_after_leave, attachment_after_submission, attachment_fate, attachment_state, attachment_take_reply, attachment_with, new_attachment, reply_held, update_for}
+use Rattle.room_history.specs.Held.{attachment_after, attachment_after_action, attachment_after_attach, attachment_after_clear, attachment_after_leave, attachment_after_submission, attachment_fate, attachment_state, attachment_take_reply, attachment_with, new_attachment, reply_held, update_for}
 use Rattle.room_history.specs.Match.{Match, number_of}
 use Rattle.room_history.specs.Message.{Message, No, Ok as Accepts, line}
 use Rattle.room_history.specs.Outbox.{Attachment, Outbox, line_or_lagging, outbox_with, unless_ended}
-use Rattle.room_history.specs.Piece.{Line, Mark, counted_size}
+use Rattle.room_history.specs.Piece.{End, Line, Mark, counted_size}
 use Rattle.room_history.specs.Reply.{Fate, Goes, Turned, Unheard, attached_match, created_match, fate_by, looked_match, match_row, named_match, reply_by, reseated_match, submit_reply}
 use Rattle.room_history.specs.Session.{detach_reply}
 use Rattle.room_history.specs.Showing.{update_message}
@@ -27,11 +27,11 @@ use Rattle.room_history.specs.Shown.{snapshot}
 use Rattle.room_history.specs.Stream.{most_waiting}
 use Rattle.room_history.specs.Verdict.{first_reason}
 use Rattle.room_history.specs.declared.call.RoomCall.{RoomCall}
-use Rattle.room_history.specs.declared.call.RoomCall.TheVariants.{Create, Join, Rename, Leave, Look, Attach, Submit, Take, Detach}
+use Rattle.room_history.specs.declared.call.RoomCall.TheVariants.{Create, Join, Rename, Leave, Look, Attach, Submit, Take, Detach, Clear}
 use Rattle.room_history.specs.declared.reply.RoomReply.{RoomReply}
 use Rattle.room_history.specs.declared.reply.RoomReply.TheVariants as answer
-use Rattle.match_master.specs.Attached.{Becomes, Lines, all_left, all_told, left, open_viewer, own_told, told_at, viewer_if}
-use Rattle.match_master.specs.Does.{Answers, Does, GoesBy, Says, SubmitDoes, after_fate, match_after, match_by_fate, match_left, match_made, serials_made, with_attachment, with_left_seat, with_match, with_new_match}
+use Rattle.match_master.specs.Attached.{Becomes, Lines, all_left, all_told, leaver, left, open_viewer, own_told, told_at, viewer_if}
+use Rattle.match_master.specs.Does.{Answers, Does, GoesBy, Says, SubmitDoes, after_fate, match_after, match_by_fate, match_cleared, match_left, match_made, serials_made, with_attachment, with_cleared, with_left_seat, with_match, with_new_match}
 use Rattle.match_master.specs.Held.{Held, is_starved, running_of}
 use Rattle.match_master.specs.Outgoing.{gained, with_line, with_line_if}
 use Rattle.match_master.proofs.AttachedLaws.{found_at, lookup-mapped, lookup-put, made_at}
@@ -128,12 +128,16 @@ module _ {X G : Type 0} (rules : X → Rules G) where
   left_one true a = refl
   left_one false a = refl
 
-  left_if : (seat : ℕ) (m : Match X G) (o : Option Attachment) → option_map (left seat (is_empty m.roster)) o ≡ attachment_after_leave seat (Ok m) o
+  left_if : (seat : ℕ) (m : Match X G) (o : Option Attachment) → option_map (left (leaver seat (is_empty m.roster))) o ≡ attachment_after_leave seat (Ok m) o
   left_if seat m None = refl
-  left_if seat m (Some a) = left_one (is_left seat (is_empty m.roster) a.viewer) a
+  left_if seat m (Some a) = by (is_empty m.roster)
+    where
+      by : (b : Bool) → option_map (left (leaver seat b)) (Some a) ≡ (if is_left seat b a.viewer then attachment_with (End bye.Left) (Some a) else Some a)
+      by true = refl
+      by false = left_one (is_left seat false a.viewer) a
 
   left_attachments : (seat : ℕ) (old : Held X G) (r : Result (Match X G) RoomReply) (q : ℕ) → lookup (nat_eq q) (with_left_seat rules seat old r).attachments ≡ attachment_after_leave seat r (lookup (nat_eq q) old.attachments)
-  left_attachments seat old (Ok m) q = lookup-mapped (λ k a. left seat (is_empty m.roster) a) old.attachments q ∙ left_if seat m (lookup (nat_eq q) old.attachments)
+  left_attachments seat old (Ok m) q = lookup-mapped (λ k a. left (leaver seat (is_empty m.roster)) a) old.attachments q ∙ left_if seat m (lookup (nat_eq q) old.attachments)
   left_attachments seat old (Err why) q = refl
 
   pub leave_goes : (old : Held X G) (st : Option (Match X G)) → old.running ≡ option_map (running_of rules) st → (pass serial seat : ℕ) (key : List ℕ) (reply : RoomReply) (new : Held X G)
@@ -143,6 +147,33 @@ module _ {X G : Type 0} (rules : X → Rules G) where
       let r : Result (Match X G) RoomReply = reseated_match (named_match st serial) (λ roster. leave roster seat key) in
       does_goes old st pass (Leave serial seat key) reply new (reply_by (λ (m : Match X G). answer.Left) r) (with_left_seat rules seat old r) d
       (record { replied = refl; room = left_room seat old r; serials = left_serials seat old r; running = left_running seat old st r e; attachments = left_attachments seat old r })
+
+  cleared_room : (old : Held X G) (r : Result (Match X G) RoomReply) → (with_cleared old r).room ≡ old.room
+  cleared_room old (Ok m) = refl
+  cleared_room old (Err why) = refl
+
+  cleared_serials : (old : Held X G) (r : Result (Match X G) RoomReply) → (with_cleared old r).serials ≡ old.serials
+  cleared_serials old (Ok m) = refl
+  cleared_serials old (Err why) = refl
+
+  cleared_running : (old : Held X G) (st : Option (Match X G)) (r : Result (Match X G) RoomReply) → old.running ≡ option_map (running_of rules) st → (with_cleared old r).running ≡ option_map (running_of rules) (match_cleared st r)
+  cleared_running old st (Ok m) e = refl
+  cleared_running old st (Err why) e = e
+
+  cleared_one : (o : Option Attachment) → option_map (left None) o ≡ attachment_with (End bye.Left) o
+  cleared_one None = refl
+  cleared_one (Some a) = refl
+
+  cleared_attachments : (old : Held X G) (r : Result (Match X G) RoomReply) (q : ℕ) → lookup (nat_eq q) (with_cleared old r).attachments ≡ attachment_after_clear r (lookup (nat_eq q) old.attachments)
+  cleared_attachments old (Ok m) q = lookup-mapped (λ k a. left None a) old.attachments q ∙ cleared_one (lookup (nat_eq q) old.attachments)
+  cleared_attachments old (Err why) q = refl
+
+  pub clear_goes : (old : Held X G) (st : Option (Match X G)) → old.running ≡ option_map (running_of rules) st → (pass serial : ℕ) (reply : RoomReply) (new : Held X G)
+      → Does old reply new (reply_by (λ (m : Match X G). answer.Cleared) (named_match st serial)) (with_cleared old (named_match st serial)) → GoesBy rules old st pass (Clear serial) reply new
+  clear_goes old st e pass serial reply new d =
+      let r : Result (Match X G) RoomReply = named_match st serial in
+      does_goes old st pass (Clear serial) reply new (reply_by (λ (m : Match X G). answer.Cleared) r) (with_cleared old r) d
+      (record { replied = refl; room = cleared_room old r; serials = cleared_serials old r; running = cleared_running old st r e; attachments = cleared_attachments old r })
 
   pub look_goes : (old : Held X G) (st : Option (Match X G)) → old.running ≡ option_map (running_of rules) st → (pass : ℕ) (serial : Option ℕ) (reply : RoomReply)
       → Says reply (reply_by (λ m. answer.Looked (match_row rules old.room m)) (looked_match st serial)) → GoesBy rules old st pass (Look serial) reply old

@@ -5,7 +5,7 @@ use Rattle.std.specs.Map.{lookup}
 use Rattle.game_trait.specs.Rules.{Rules}
 use Rattle.room_object.specs.Entry.{Entry, entry}
 use Rattle.seat_roster.specs.Roster.{is_empty, join, rename, leave}
-use Rattle.room_history.specs.Does.{Room, room_after, with_each, with_fate, with_left_seat, with_match, with_new_match, with_one, with_removed_if, with_session, after_leaving, after_submission}
+use Rattle.room_history.specs.Does.{Room, room_after, with_cleared, with_each, with_fate, with_left_seat, with_match, with_new_match, with_one, with_removed_if, with_session, after_leaving, after_submission}
 use Rattle.room_history.specs.Held.{attachment_after, reply_held}
 use Rattle.room_history.specs.Match.{Match}
 use Rattle.room_history.specs.Others.{KeepsAll}
@@ -16,13 +16,13 @@ use Rattle.room_history.specs.Reply.{Fate, Goes, Turned, Unheard, attached_match
 use Rattle.room_history.specs.Room.{latest_seat, reply, room_of, seat_in, serials, standing}
 use Rattle.room_history.specs.Session.{Session, latest_state, session_state, stream_of}
 use Rattle.room_history.specs.declared.call.RoomCall.{RoomCall}
-use Rattle.room_history.specs.declared.call.RoomCall.TheVariants.{Create, Join, Rename, Leave, Look, Attach, Submit, Take, Detach}
+use Rattle.room_history.specs.declared.call.RoomCall.TheVariants.{Create, Join, Rename, Leave, Look, Attach, Submit, Take, Detach, Clear}
 use Rattle.room_history.specs.declared.reply.RoomReply.{RoomReply}
 use Rattle.room_history.specs.declared.reply.RoomReply.TheVariants as answer
 use Rattle.room_history.proofs.Attachments.{attachment_step, fate_held, reply_by_held}
 use Rattle.room_history.proofs.Others.{want_keeps_all}
 use Rattle.match_master.specs.Attached.{open_viewer}
-use Rattle.match_master.specs.Does.{Answers, GoesBy, match_after, match_by_fate, match_left, match_made, serials_after, serials_made}
+use Rattle.match_master.specs.Does.{Answers, GoesBy, match_after, match_by_fate, match_cleared, match_left, match_made, serials_after, serials_made}
 use Rattle.match_master.specs.Held.{Held, StandsFor, is_starved, running_of}
 
 pub starved_is : (r : RoomReply) → is_starved r ≡ true → r ≡ answer.NoMemory
@@ -62,6 +62,14 @@ module _ {X G : Type 0} where
   left_match seat r (Ok m) = removed_match (is_empty m.roster) m (with_each (after_leaving seat (is_empty m.roster)) r)
   left_match seat r (Err why) = refl
 
+  cleared_serials : (r : Room X G) (result : Result (Match X G) RoomReply) → (with_cleared r result).serials ≡ r.serials
+  cleared_serials r (Ok m) = refl
+  cleared_serials r (Err why) = refl
+
+  cleared_match : (r : Room X G) (result : Result (Match X G) RoomReply) → (with_cleared r result).standing ≡ match_cleared r.standing result
+  cleared_match r (Ok m) = refl
+  cleared_match r (Err why) = refl
+
 module _ {X G : Type 0} (rules : X → Rules G) where
   session_same : (room : ℕ) (r : Room X G) (pass : ℕ) (viewer : _) (protocol : _) (result : Result (Match X G) RoomReply)
       → ((with_session rules room pass viewer protocol r result).serials ≡ r.serials) × ((with_session rules room pass viewer protocol r result).standing ≡ r.standing)
@@ -89,6 +97,7 @@ module _ {X G : Type 0} (rules : X → Rules G) where
   serials_go room r pass (Submit s) = fate_serials room (with_one pass (after_submission rules room r.standing s) r) (fate rules room r.standing (r.sessions pass) s)
   serials_go room r pass Take = refl
   serials_go room r pass Detach = refl
+  serials_go room r pass (Clear serial) = cleared_serials r (named_match r.standing serial)
 
   -- and which stands
   match_goes : (room : ℕ) (r : Room X G) (pass : ℕ) (call : RoomCall X) → (room_after rules room r pass call).standing ≡ match_after rules room r.serials r.standing (attachment_of (r.sessions pass)) call
@@ -103,6 +112,7 @@ module _ {X G : Type 0} (rules : X → Rules G) where
       ∙ ap (match_by_fate r.standing) (sym (fate_held rules room r.standing (r.sessions pass) s))
   match_goes room r pass Take = refl
   match_goes room r pass Detach = refl
+  match_goes room r pass (Clear serial) = cleared_match r (named_match r.standing serial)
 
   -- a book stands for a history in the room that it is in
   stands_in : (held : Held X G) (room : ℕ) (h : List (Entry (RoomCall X))) → held.room ≡ room → held.serials ≡ serials rules room h → held.running ≡ option_map (running_of rules) (standing rules room h)

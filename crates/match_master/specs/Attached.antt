@@ -55,15 +55,24 @@ told_at pass said (Some a) entries = insert_entry nat_eq entries pass (record a 
 abbrev pub own_told : ℕ → List ℕ → List (ℕ × Attachment) → List (ℕ × Attachment)
 own_told pass said entries = told_at pass said (lookup (nat_eq pass) entries) entries
 
--- an attachment once its seat is left, or the match is removed
-abbrev pub left : ℕ → Bool → Attachment → Attachment
-left seat removed a = if is_left seat removed a.viewer then record a { outbox = with_end Left a.outbox } else a
+-- who leaves: the player of a seat, or all that look where the match is removed
+abbrev pub leaver : ℕ → Bool → Option ℕ
+leaver seat true = None
+leaver seat false = Some seat
 
-abbrev pub left_entry : ℕ → Bool → ℕ × Attachment → ℕ × Attachment
-left_entry seat removed e = (e.0, left seat removed e.1)
+abbrev pub leaves : Option ℕ → Viewer → Bool
+leaves None viewer = true
+leaves (Some seat) viewer = is_left seat false viewer
 
-abbrev pub all_left : ℕ → Bool → List (ℕ × Attachment) → List (ℕ × Attachment)
-all_left seat removed entries = map (left_entry seat removed) entries
+-- an attachment once they have left
+abbrev pub left : Option ℕ → Attachment → Attachment
+left who a = if leaves who a.viewer then record a { outbox = with_end Left a.outbox } else a
+
+abbrev pub left_entry : Option ℕ → ℕ × Attachment → ℕ × Attachment
+left_entry who e = (e.0, left who e.1)
+
+abbrev pub all_left : Option ℕ → List (ℕ × Attachment) → List (ℕ × Attachment)
+all_left who entries = map (left_entry who) entries
 
 -- what waited was taken out
 abbrev pub emptied_of : Attachment → Attachment

@@ -23,11 +23,11 @@ use Rattle.room_history.specs.Outbox.{Attachment}
 use Rattle.room_history.specs.Reply.{Fate, Unheard, Turned, Goes, created_match, fate_by, lets_in, named_match, reseated_match, submit_reply}
 use Rattle.room_history.specs.Verdict.{first_reason}
 use Rattle.room_history.specs.declared.call.RoomCall.{RoomCall}
-use Rattle.room_history.specs.declared.call.RoomCall.TheVariants.{Create, Join, Rename, Leave, Submit}
+use Rattle.room_history.specs.declared.call.RoomCall.TheVariants.{Create, Join, Rename, Leave, Submit, Clear}
 use Rattle.room_history.specs.declared.reply.RoomReply.{RoomReply}
 use Rattle.room_history.specs.declared.reply.RoomReply.TheVariants as answer
 use Rattle.match_master.specs.declared.running_match.RunningMatch.{RunningMatch}
-use Rattle.match_master.specs.Attached.{all_left, all_told, own_told}
+use Rattle.match_master.specs.Attached.{all_left, all_told, leaver, own_told}
 use Rattle.match_master.specs.Held.{Held, is_starved, running_of}
 use Rattle.match_master.specs.Outgoing.{with_sync}
 use Rattle.match_master.specs.UpdateText.{action_line}
@@ -56,6 +56,14 @@ seen_at rules state log seat = snap_of rules (seen rules state.number state.tabl
 
 abbrev pub with_refused : {X G : Type 0} → Held X G → ℕ → ℕ → Reason → ℕ → Held X G
 with_refused old pass number reason ticket = record old { attachments = own_told pass (line (No number reason ticket)) old.attachments }
+
+-- the match is removed, and all leave it
+abbrev pub without_match : {X G : Type 0} → Held X G → Held X G
+without_match old = record old { running = None; attachments = all_left None old.attachments }
+
+abbrev pub with_cleared : {X G : Type 0} → Held X G → Result (Match X G) RoomReply → Held X G
+with_cleared old (Ok m) = without_match old
+with_cleared old (Err why) = old
 
 module _ {X G : Type 0} (rules : X → Rules G) where
   -- what everybody may see of a match, by what is held of it
@@ -100,7 +108,7 @@ module _ {X G : Type 0} (rules : X → Rules G) where
   abbrev pub with_left_seat : ℕ → Held X G → Result (Match X G) RoomReply → Held X G
   with_left_seat seat old (Ok m) = record old {
     running = running_unless (is_empty m.roster) m;
-    attachments = all_left seat (is_empty m.roster) old.attachments;
+    attachments = all_left (leaver seat (is_empty m.roster)) old.attachments;
   }
   with_left_seat seat old (Err why) = old
 
@@ -137,6 +145,10 @@ abbrev pub match_left : {X G : Type 0} → Option (Match X G) → Result (Match 
 match_left standing (Ok m) = if is_empty m.roster then None else Some m
 match_left standing (Err why) = standing
 
+abbrev pub match_cleared : {X G : Type 0} → Option (Match X G) → Result (Match X G) RoomReply → Option (Match X G)
+match_cleared standing (Ok m) = None
+match_cleared standing (Err why) = standing
+
 abbrev pub match_by_fate : {X G : Type 0} → Option (Match X G) → Fate X G → Option (Match X G)
 match_by_fate standing (Goes m) = Some m
 match_by_fate standing other = standing
@@ -152,6 +164,7 @@ module _ {X G : Type 0} (rules : X → Rules G) where
   match_after room serials standing caller (Rename serial seat key name) = match_made standing (reseated_match (named_match standing serial) (λ roster. rename roster seat key name))
   match_after room serials standing caller (Leave serial seat key) = match_left standing (reseated_match (named_match standing serial) (λ roster. leave roster seat key))
   match_after room serials standing caller (Submit s) = match_by_fate standing (attachment_fate rules room standing caller s)
+  match_after room serials standing caller (Clear serial) = match_cleared standing (named_match standing serial)
   match_after room serials standing caller call = standing
 
   -- a call that didn't starve, by what was held and the match that stood: its reply, and what is then held

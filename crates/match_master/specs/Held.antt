@@ -10,7 +10,7 @@ use Rattle.room_history.specs.Outbox.{Attachment}
 use Rattle.room_history.specs.Room.{serials, standing}
 use Rattle.room_history.specs.Shown.{log_of}
 use Rattle.room_history.specs.declared.call.RoomCall.{RoomCall}
-use Rattle.room_history.specs.declared.call.RoomCall.TheVariants.{Leave, Take, Detach}
+use Rattle.room_history.specs.declared.call.RoomCall.TheVariants.{Join, Rename, Leave, Take, Detach, Clear}
 use Rattle.room_history.specs.declared.reply.RoomReply.{RoomReply}
 use Rattle.room_history.specs.declared.reply.RoomReply.TheVariants as answer
 use Rattle.match_master.specs.declared.running_match.RunningMatch.{RunningMatch}
@@ -29,9 +29,12 @@ is_starved other = false
 
 -- whether a call may be answered by want of memory
 abbrev pub may_starve : {X : Type 0} → RoomCall X → Bool
+may_starve (Join serial seat name key) = false
+may_starve (Rename serial seat key name) = false
 may_starve (Leave serial seat key) = false
 may_starve Take = false
 may_starve Detach = false
+may_starve (Clear serial) = false
 may_starve other = true
 
 module _ {X G : Type 0} (rules : X → Rules G) where

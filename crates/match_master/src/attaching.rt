@@ -1,6 +1,6 @@
 //! The calls on a room by which passes look at its match, and take what waits for them.
 
-ghost use Rattle.std.specs.Prelude.{◌≡◌, ◌≤◌, ℕ, Bool, Option, None, Some, IsSome, IfSome, false, if◌then◌else◌, option_map, nat_eq, is_some};
+ghost use Rattle.std.specs.Prelude.{◌≡◌, ◌≤◌, ℕ, Bool, Option, None, Some, IsSome, IfSome, true, false, if◌then◌else◌, option_map, nat_eq, is_some};
 ghost use Rattle.std.specs.Map.{lookup};
 ghost use Rattle.indexmap.specs.IndexMap.{insert_entry};
 ghost use Rattle.game_sheet.specs.Viewer.{seat_of};
@@ -36,6 +36,7 @@ impl<X: Game + Drop> Book<X> {
         ensures does { (standing : Option (Match X X.G)) → self.old.running ≡ option_map (running_of X.rules) standing
             → Does self.old result self.new (reply_by (λ (m : Match X X.G). answer.Attached) (attached_match standing (attachment_state (lookup (nat_eq pass) self.old.attachments)) serial viewer))
             (with_attachment X.rules self.old pass viewer protocol (attached_match standing (attachment_state (lookup (nat_eq pass) self.old.attachments)) serial viewer)) }
+        ensures starved { is_starved result ≡ true → self.new ≡ self.old }
     {
         let before = attachments::is_attached(&self.attachments, pass);
         match barred(&self.running, before, serial, &viewer) {
@@ -50,6 +51,7 @@ impl<X: Game + Drop> Book<X> {
         ensures room { self.new.room ≡ self.old.room }
         ensures does { IfSome self.old.running (λ r. Does self.old result self.new answer.Attached
             (record self.old { attachments = insert_entry nat_eq self.old.attachments pass (sync_at X.rules self.old.room r viewer protocol) })) }
+        ensures starved { is_starved result ≡ true → self.new ≡ self.old }
     {
         let Some(running) = &self.running else {
             unreachable!();

@@ -9,7 +9,7 @@ ghost use Rattle.game_sheet.specs.Viewer.{seat_of};
 ghost use Rattle.room_history.specs.Does.{is_left};
 ghost use Rattle.room_history.specs.Held.{attachment_with, attachment_take_reply};
 ghost use Rattle.room_history.specs.Piece.{Mark};
-ghost use Rattle.match_master.specs.Attached.{Becomes, Lines, all_held, all_left, all_ready, emptied_of, has_end, held_of, left, left_entry, open_viewer, own_told, sent, staged, taken_reply, with_staged};
+ghost use Rattle.match_master.specs.Attached.{Becomes, Lines, all_held, all_left, all_ready, emptied_of, has_end, held_of, leaves, left, left_entry, open_viewer, own_told, sent, staged, taken_reply, with_staged};
 ghost use Rattle.match_master.specs.Outgoing.{with_sync};
 ghost use Rattle.match_master.specs.Places.{at_place};
 ghost use Rattle.match_master.specs.declared.attachments.Attached.{Attached as Entry};
@@ -264,34 +264,44 @@ fn commit_at(attachments: &mut Attachments, place: usize)
     attached.outbox.commit();
 }
 
-/// Ends the attachments of a seat that is left, and all of them where the match is removed with it. It takes no memory.
-pub fn leave_all(attachments: &mut Attachments, seat: Seat, removed: bool)
-    ensures { all_held attachments.new.entries ≡ all_left seat removed (all_held attachments.old.entries) }
+/// Ends the attachments of a seat that is left, or all of them where the match is removed (`None`). It takes no memory.
+pub fn leave_all(attachments: &mut Attachments, who: Option<Seat>)
+    ensures { all_held attachments.new.entries ≡ all_left who (all_held attachments.old.entries) }
 {
     let count = attachments.len();
     for place in 0..count {
-        leave_at(attachments, place, seat, removed);
+        leave_at(attachments, place, who);
     }
 }
 
-/// Ends the attachment at a place, if it is one of the seat that is left, or the match is removed.
-fn leave_at(attachments: &mut Attachments, place: usize, seat: Seat, removed: bool)
+/// Ends the attachment at a place, if it is one of those that leave.
+fn leave_at(attachments: &mut Attachments, place: usize, who: Option<Seat>)
     requires { place < length attachments.old.entries }
     ensures many { length attachments.new.entries ≡ length attachments.old.entries }
-    ensures left { all_held attachments.new.entries ≡ at_place place (left_entry seat removed) (all_held attachments.old.entries) }
+    ensures left { all_held attachments.new.entries ≡ at_place place (left_entry who) (all_held attachments.old.entries) }
 {
     let Some(attached) = attachments.get_index_mut(place) else {
         unreachable!();
     };
-    leave(attached, seat, removed);
+    leave(attached, who);
 }
 
-/// Ends an attachment, if it is one of the seat that is left, or the match is removed.
-fn leave(attached: &mut Attached, seat: Seat, removed: bool)
-    ensures { held_of attached.new ≡ left seat removed (held_of attached.old) }
+/// Ends an attachment, if it is one of those that leave.
+fn leave(attached: &mut Attached, who: Option<Seat>)
+    ensures { held_of attached.new ≡ left who (held_of attached.old) }
 {
-    if removed || is_of(&attached.viewer, seat) {
+    if leaves(who, &attached.viewer) {
         attached.outbox.close(Bye::Left);
+    }
+}
+
+/// Whether a viewer is one of those that leave.
+fn leaves(who: Option<Seat>, viewer: &Viewer) -> bool
+    ensures { result ≡ leaves who viewer.now }
+{
+    match who {
+        None => true,
+        Some(seat) => is_of(viewer, seat),
     }
 }
 

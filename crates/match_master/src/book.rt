@@ -76,7 +76,7 @@ impl<X: Game + Drop> Book<X> {
     ///
     /// A book that stands for a history of its room answers the reply to the entry of this call after it, and then stands
     /// for the history with the entry. A refused action leaves the match and every other pass's lines as they were. After
-    /// `NoMemory` nothing has changed; a Leave, a Take and a Detach take no memory.
+    /// `NoMemory` nothing has changed; only a Create, a Look, an Attach and a Submit take memory.
     pub fn apply(&mut self, pass: u32, call: RoomCall<X>) -> RoomReply
         ensures room { self.new.room ≡ self.old.room }
         ensures answered { (h : List (Entry (Asks X))) → StandsFor X.rules self.old h → result ≡ reply X.rules self.old.room h (entry pass call (is_starved result)) }
@@ -86,6 +86,7 @@ impl<X: Game + Drop> Book<X> {
         ensures judged { (h : List (Entry (Asks X))) → StandsFor X.rules self.old h → JudgesBySight X.rules self.old.room h pass call result call }
         ensures alike { (h : List (Entry (Asks X))) → StandsFor X.rules self.old h → TellsAlike X.rules self.old.room h pass call result }
         ensures others { (h : List (Entry (Asks X))) → StandsFor X.rules self.old h → LeavesOthers X.rules self.old.room h pass call result call }
+        ensures starved { is_starved result ≡ true → self.new ≡ self.old }
         ensures fed { is_starved result ≡ true → may_starve call ≡ true }
     {
         self.answer(pass, call)
@@ -95,6 +96,7 @@ impl<X: Game + Drop> Book<X> {
     fn answer(&mut self, pass: u32, call: RoomCall<X>) -> RoomReply
         ensures room { self.new.room ≡ self.old.room }
         ensures goes { (standing : Option (Match X X.G)) → self.old.running ≡ option_map (running_of X.rules) standing → GoesBy X.rules self.old standing pass call result self.new }
+        ensures starved { is_starved result ≡ true → self.new ≡ self.old }
         ensures fed { is_starved result ≡ true → may_starve call ≡ true }
     {
         match call {
@@ -121,6 +123,7 @@ impl<X: Game + Drop> Book<X> {
             RoomCall::Submit(submission) => self.submit(pass, &submission),
             RoomCall::Take => self.take(pass),
             RoomCall::Detach => self.detach(pass),
+            RoomCall::Clear { serial } => self.clear(serial),
         }
     }
 

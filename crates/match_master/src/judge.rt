@@ -12,7 +12,7 @@ ghost use Rattle.match_master.specs.Judged.{IsJudged, JudgedReady, entry_at};
 ghost use Rattle.game_sheet.specs.Viewer.{seat_of};
 ghost use Rattle.wire_json.specs.Resolve.{act_of};
 
-use crate::rule::{Request, rule_for};
+use crate::rule::public_rule;
 use crate::running_match::RunningMatch;
 use game_sheet::{Act, GameNo, GameRule, Key, MatchName, NoMemory, Seat, Viewer, seat_of};
 use game_trait::Game;
@@ -47,38 +47,34 @@ pub fn judge<X: Game>(
     ensures ready { IfOk result (JudgedReady (X.rules running.now.game) running.now.state) }
     ensures judged { IfOk result (λ judged. (m : Match X X.G) → running.now ≡ running_of X.rules m → IsJudged X.rules room m viewer.now submission.now judged) }
 {
-    let act = resolve(running.game.sheet(), &submission.asked);
-    match check(room, running, viewer, submission, &act) {
+    match check(room, running, viewer, submission) {
         Some(reason) => Ok(Judged::Refused(reason)),
-        None => play(alloc, room, running, viewer, submission, act),
+        None => {
+            let act = resolve(running.game.sheet(), &submission.asked);
+            play(alloc, room, running, viewer, submission, act)
+        }
     }
 }
 
-/// The public rule that a submission breaks, if it breaks one, whose names stand for this action.
+/// The public rule that a submission breaks, if it breaks one.
 fn check<X: Game>(
     room: u8,
     running: &RunningMatch<X, X::G>,
     viewer: &Viewer,
     submission: &Submission,
-    act: &Option<Act>,
 ) -> Option<Reason>
-    requires { act.now ≡ act_of (X.rules running.now.game).sheet submission.now.asked }
     ensures { result ≡ public (X.rules running.now.game).sheet running.now.state.table.ctx running.now.state.number (is_named room running.now.serial submission.now.name) (seat_of viewer.now) (has_key viewer.now submission.now.key) submission.now.asked submission.now.number }
 {
     let state = &running.state;
-    let request = Request {
-        asked: &submission.asked,
-        act,
-        number: submission.number,
-    };
-    rule_for(
+    public_rule(
         running.game.sheet(),
         state.ctx(),
         state.number(),
         names(room, running.serial, &submission.name),
         seat_of(viewer),
         has_key(viewer, &submission.key),
-        &request,
+        &submission.asked,
+        submission.number,
     )
 }
 

@@ -6,7 +6,7 @@ ghost use Rattle.seat_roster.specs.Roster.{free_seats, join, rename, leave};
 ghost use Rattle.room_history.specs.Match.{Match};
 ghost use Rattle.room_history.specs.Reply.{created_match, looked_match, match_row, named_match, reply_by, reseated_match, roster_reply};
 ghost use Rattle.room_history.specs.declared.reply.RoomReply.TheVariants as answer;
-ghost use Rattle.match_master.specs.Does.{Does, Says, with_left_seat, with_match, with_new_match};
+ghost use Rattle.match_master.specs.Does.{Does, Says, with_cleared, with_left_seat, with_match, with_new_match, without_match};
 ghost use Rattle.match_master.specs.Held.{is_starved, running_of};
 
 use crate::attachments;
@@ -25,6 +25,7 @@ impl<X: Game + Drop> Book<X> {
         ensures does { (standing : Option (Match X X.G)) → self.old.running ≡ option_map (running_of X.rules) standing
             → Does self.old result self.new (reply_by (λ (m : Match X X.G). answer.Created m.serial) (created_match X.rules self.old.serials standing game seats seed.now))
             (with_new_match X.rules self.old (created_match X.rules self.old.serials standing game seats seed.now)) }
+        ensures starved { is_starved result ≡ true → self.new ≡ self.old }
     {
         if self.running.is_some() || self.serials == u64::MAX {
             return RoomReply::Busy;
@@ -44,6 +45,7 @@ impl<X: Game + Drop> Book<X> {
         ensures room { self.new.room ≡ self.old.room }
         ensures does { Does self.old result self.new (answer.Created (self.old.serials + 1))
             (record self.old { serials = self.old.serials + 1; running = Some (record { game = game; seats = seats; serial = self.old.serials + 1; state = state; log = []; roster = free_seats seats }) }) }
+        ensures starved { is_starved result ≡ true → self.new ≡ self.old }
     {
         let Ok(roster) = Roster::new(self.alloc, seats) else {
             return RoomReply::NoMemory;
@@ -61,12 +63,13 @@ impl<X: Game + Drop> Book<X> {
         RoomReply::Created { serial }
     }
 
-    /// Seats a player at a free seat of the match that stands.
+    /// Seats a player at a free seat of the match that stands. It takes no memory.
     pub(crate) fn join(&mut self, serial: u64, seat: Seat, name: Text, key: Key) -> RoomReply
         ensures room { self.new.room ≡ self.old.room }
         ensures does { (standing : Option (Match X X.G)) → self.old.running ≡ option_map (running_of X.rules) standing
             → Does self.old result self.new (reply_by (λ (m : Match X X.G). answer.Joined) (reseated_match (named_match standing serial) (λ roster. join roster seat name key)))
             (with_match X.rules self.old (reseated_match (named_match standing serial) (λ roster. join roster seat name key))) }
+        ensures fed { is_starved result ≡ false }
     {
         let Some(running) = &mut self.running else {
             return RoomReply::NoMatch;
@@ -80,12 +83,13 @@ impl<X: Game + Drop> Book<X> {
         }
     }
 
-    /// Gives the player at a seat of the match that stands another name.
+    /// Gives the player at a seat of the match that stands another name. It takes no memory.
     pub(crate) fn rename(&mut self, serial: u64, seat: Seat, key: &Key, name: Text) -> RoomReply
         ensures room { self.new.room ≡ self.old.room }
         ensures does { (standing : Option (Match X X.G)) → self.old.running ≡ option_map (running_of X.rules) standing
             → Does self.old result self.new (reply_by (λ (m : Match X X.G). answer.Renamed) (reseated_match (named_match standing serial) (λ roster. rename roster seat key.now name)))
             (with_match X.rules self.old (reseated_match (named_match standing serial) (λ roster. rename roster seat key.now name))) }
+        ensures fed { is_starved result ≡ false }
     {
         let Some(running) = &mut self.running else {
             return RoomReply::NoMatch;
@@ -116,12 +120,37 @@ impl<X: Game + Drop> Book<X> {
         if let Err(why) = running.leave(seat, key) {
             return roster_reply(why);
         }
-        let removed = running.roster.is_empty();
-        if removed {
-            self.running = None;
+        if running.roster.is_empty() {
+            self.remove();
+        } else {
+            attachments::leave_all(&mut self.attachments, Some(seat));
         }
-        attachments::leave_all(&mut self.attachments, seat, removed);
         RoomReply::Left
+    }
+
+    /// Removes the match that stands, if it is the one that is named, and ends its attachments. It takes no memory.
+    pub(crate) fn clear(&mut self, serial: u64) -> RoomReply
+        ensures room { self.new.room ≡ self.old.room }
+        ensures does { (standing : Option (Match X X.G)) → self.old.running ≡ option_map (running_of X.rules) standing
+            → Does self.old result self.new (reply_by (λ (m : Match X X.G). answer.Cleared) (named_match standing serial)) (with_cleared self.old (named_match standing serial)) }
+        ensures fed { is_starved result ≡ false }
+    {
+        let Some(running) = &self.running else {
+            return RoomReply::NoMatch;
+        };
+        if running.serial != serial {
+            return RoomReply::NoMatch;
+        }
+        self.remove();
+        RoomReply::Cleared
+    }
+
+    /// Removes the match that stands. Every attachment ends. It takes no memory.
+    fn remove(&mut self)
+        ensures { self.new ≡ without_match self.old }
+    {
+        self.running = None;
+        attachments::leave_all(&mut self.attachments, None);
     }
 
     /// Shows the match that stands: the one that is named, or whichever it is.

@@ -12,13 +12,13 @@ use wire_json::{Asked, Reason, resolve};
 
 /// What a line asks for.
 #[derive(Clone, Copy)]
-pub(crate) struct Request<'a> {
+struct Request<'a> {
     /// The action, by its names.
-    pub(crate) asked: &'a Asked,
+    asked: &'a Asked,
     /// The action that the names stand for in the sheet; none where it has no such names.
-    pub(crate) act: &'a Option<Act>,
+    act: &'a Option<Act>,
     /// The line's state number.
-    pub(crate) number: Number,
+    number: Number,
 }
 
 /// The first public rule that an action breaks, if it breaks one. It takes no memory.
@@ -26,6 +26,7 @@ pub(crate) struct Request<'a> {
 /// The public rules rest on the sheet, the context, the state number, the seat and the line alone. `same_match` says
 /// whether the line names the match that stands, `key_fits` whether its key is the seat's; a session without a seat is
 /// unauthorized. The order of the rules is that of `Reason`.
+#[tactic(auto, unfolding(room_history::specs::Rule::public))]
 pub fn public_rule(
     sheet: &Sheet,
     ctx: &Ctx,
@@ -39,30 +40,6 @@ pub fn public_rule(
     requires { SheetFits sheet.now }
     ensures { result ≡ public sheet.now ctx.now number same_match seat key_fits asked.now asked_number }
 {
-    let act = resolve(sheet, asked);
-    let request = Request {
-        asked,
-        act: &act,
-        number: asked_number,
-    };
-    rule_for(sheet, ctx, number, same_match, seat, key_fits, &request)
-}
-
-/// The first public rule that a request breaks, whose names were looked up.
-#[tactic(auto, unfolding(room_history::specs::Rule::public))]
-pub(crate) fn rule_for(
-    sheet: &Sheet,
-    ctx: &Ctx,
-    number: Number,
-    same_match: bool,
-    seat: Option<Seat>,
-    key_fits: bool,
-    request: &Request<'_>,
-) -> Option<Reason>
-    requires fits { SheetFits sheet.now }
-    requires resolved { request.now.act.now ≡ act_of sheet.now request.now.asked.now }
-    ensures { result ≡ public sheet.now ctx.now number same_match seat key_fits request.now.asked.now request.now.number }
-{
     if !same_match {
         return Some(Reason::NoMatch);
     }
@@ -72,7 +49,13 @@ pub(crate) fn rule_for(
             if !key_fits {
                 return Some(Reason::Unauthorized);
             }
-            seat_rule(sheet, ctx, number, seat, request)
+            let act = resolve(sheet, asked);
+            let request = Request {
+                asked,
+                act: &act,
+                number: asked_number,
+            };
+            seat_rule(sheet, ctx, number, seat, &request)
         }
     }
 }

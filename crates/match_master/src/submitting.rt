@@ -1,6 +1,6 @@
 //! The actions that are submitted to a room.
 
-ghost use Rattle.std.specs.Prelude.{◌≡◌, ◌+◌, ℕ, Option, IsSome, IfOk, IfSome, option_map, nat_eq};
+ghost use Rattle.std.specs.Prelude.{◌≡◌, ◌+◌, ℕ, Option, IsSome, IfOk, IfSome, true, option_map, nat_eq};
 ghost use Rattle.std.specs.Map.{lookup};
 ghost use Rattle.reducer.specs.Prepared.{IsReady};
 ghost use Rattle.wire_json.specs.declared.verdict.Verdict.TheVariants as verdict;
@@ -9,7 +9,7 @@ ghost use Rattle.room_history.specs.Message.{Ok as Accepts, line};
 ghost use Rattle.room_history.specs.declared.reply.RoomReply.TheVariants as answer;
 ghost use Rattle.match_master.specs.Attached.{open_viewer};
 ghost use Rattle.match_master.specs.Does.{Does, SubmitDoes, with_accepted, with_refused};
-ghost use Rattle.match_master.specs.Held.{running_of};
+ghost use Rattle.match_master.specs.Held.{is_starved, running_of};
 
 use crate::book::Book;
 use crate::judge::{Judged, judge};
@@ -30,6 +30,7 @@ impl<X: Game + Drop> Book<X> {
         ensures room { self.new.room ≡ self.old.room }
         ensures does { (standing : Option (Match X X.G)) → self.old.running ≡ option_map (running_of X.rules) standing
             → SubmitDoes X.rules self.old pass submission.now result self.new (open_viewer (lookup (nat_eq pass) self.old.attachments)) standing }
+        ensures starved { is_starved result ≡ true → self.new ≡ self.old }
     {
         let Some(viewer) = attachments::open_viewer(&self.attachments, pass) else {
             return RoomReply::NotAttached;
@@ -54,6 +55,7 @@ impl<X: Game + Drop> Book<X> {
     fn refuse(&mut self, pass: u32, number: Number, reason: Reason, ticket: u32) -> RoomReply
         ensures room { self.new.room ≡ self.old.room }
         ensures does { Does self.old result self.new (answer.Verdict (verdict.No number reason)) (with_refused self.old pass number reason ticket) }
+        ensures starved { is_starved result ≡ true → self.new ≡ self.old }
     {
         let Ok(line) = line::no(self.alloc, number, reason, ticket) else {
             return RoomReply::NoMemory;
@@ -79,6 +81,7 @@ impl<X: Game + Drop> Book<X> {
         requires ready { IfSome self.old.running (λ r. IsReady (X.rules r.game) r.state prepared) }
         ensures room { self.new.room ≡ self.old.room }
         ensures does { IfSome self.old.running (λ r. Does self.old result self.new (answer.Verdict (verdict.Ok prepared.number)) (with_accepted X.rules self.old r pass prepared entry ticket)) }
+        ensures starved { is_starved result ≡ true → self.new ≡ self.old }
     {
         let number = prepared.number();
         let Ok(verdict) = accepted_line(self.alloc, number, ticket) else {

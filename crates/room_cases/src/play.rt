@@ -12,23 +12,29 @@ use std::alloc::Global;
 use std::io;
 use wire_json::{Asked, AskedTo, Protocol, Submission, Verdict};
 
-/// Plays each row.
+/// Plays each row. The next match, if the rows ask for one, is of this game.
 pub fn play_rows<X: Game + Drop>(
     rt: &HostRuntime,
     book: &mut Book<X>,
+    next: &mut Option<X>,
     rows: &str,
 ) -> io::Result<()> {
     for row in rows.lines() {
         println!(rt; "{row}")?;
         if !row.is_empty() && !row.starts_with('#') {
-            play_row(rt, book, row)?;
+            play_row(rt, book, next, row)?;
         }
     }
     Ok(())
 }
 
 /// Plays a row, and prints what comes of it.
-fn play_row<X: Game + Drop>(rt: &HostRuntime, book: &mut Book<X>, line: &str) -> io::Result<()> {
+fn play_row<X: Game + Drop>(
+    rt: &HostRuntime,
+    book: &mut Book<X>,
+    next: &mut Option<X>,
+    line: &str,
+) -> io::Result<()> {
     match row_of(line) {
         None => println!(rt; "  in no form"),
         Some(Row::Waiting(pass)) => print_waiting(rt, book.waiting(pass)),
@@ -44,7 +50,7 @@ fn play_row<X: Game + Drop>(rt: &HostRuntime, book: &mut Book<X>, line: &str) ->
             refusals(book, rt.alloc(), seat, count, ticket)
         ),
         Some(Row::Boasts(count)) => println!(rt; "  {} accepted", boasts(book, rt.alloc(), count)),
-        Some(row) => match call_of(rt.alloc(), row) {
+        Some(row) => match call_of(rt.alloc(), next, row) {
             Some((pass, call)) => print_reply(rt, &book.apply(pass, call)),
             None => println!(rt; "  no call"),
         },
@@ -59,7 +65,7 @@ fn print_waiting(rt: &HostRuntime, waiting: Option<usize>) -> io::Result<()> {
 }
 
 /// The pass and the call of a row; none where the row is no call.
-fn call_of<X>(alloc: Global, row: Row<'_>) -> Option<(u32, RoomCall<X>)> {
+fn call_of<X>(alloc: Global, next: &mut Option<X>, row: Row<'_>) -> Option<(u32, RoomCall<X>)> {
     match row {
         Row::Attach(seat) => Some((u32::from(seat), attach(Some(seat), Protocol::One))),
         Row::Second(seat) => Some((u32::from(seat), attach(Some(seat), Protocol::Two))),
@@ -71,6 +77,8 @@ fn call_of<X>(alloc: Global, row: Row<'_>) -> Option<(u32, RoomCall<X>)> {
                 serial: Some(serial),
             },
         )),
+        Row::Clear(serial) => Some((33, RoomCall::Clear { serial })),
+        Row::Create(seats) => Some((33, create(next.take()?, seats))),
         Row::Detach(pass) => Some((pass, RoomCall::Detach)),
         Row::Take(pass) => Some((pass, RoomCall::Take)),
         Row::Move {
@@ -87,6 +95,12 @@ fn call_of<X>(alloc: Global, row: Row<'_>) -> Option<(u32, RoomCall<X>)> {
         }
         Row::Waiting(_) | Row::Pieces(_) | Row::Refusals { .. } | Row::Boasts(_) => None,
     }
+}
+
+/// Makes a match with the seed of zeros.
+fn create<X>(game: X, seats: u8) -> RoomCall<X> {
+    let seed = [0; 32];
+    RoomCall::Create { game, seats, seed }
 }
 
 /// Attaches as the player of a seat, or as a spectator.

@@ -26,7 +26,7 @@ pub fn play_room(rt: &HostRuntime, game: &str, places: &str, rows: &str) -> io::
 /// In a room of Blind Bid.
 fn play_bids(rt: &HostRuntime, seats: &str, rows: &str) -> io::Result<()> {
     match BlindBid::new(rt.alloc()) {
-        Ok(game) => play_game(rt, game, seats, rows),
+        Ok(game) => play_game(rt, game, None, seats, rows),
         Err(NoMemory) => println!(rt; "  no memory"),
     }
 }
@@ -34,23 +34,23 @@ fn play_bids(rt: &HostRuntime, seats: &str, rows: &str) -> io::Result<()> {
 /// In a room of Countdown.
 fn play_heap(rt: &HostRuntime, seats: &str, rows: &str) -> io::Result<()> {
     match Countdown::new(rt.alloc()) {
-        Ok(game) => play_game(rt, game, seats, rows),
+        Ok(game) => play_game(rt, game, None, seats, rows),
         Err(NoMemory) => println!(rt; "  no memory"),
     }
 }
 
-/// In a room of Tic-tac-toe.
+/// In a room of Tic-tac-toe, with a game for the next match.
 fn play_board(rt: &HostRuntime, seats: &str, rows: &str) -> io::Result<()> {
-    match TicTacToe::new(rt.alloc()) {
-        Ok(game) => play_game(rt, game, seats, rows),
-        Err(NoMemory) => println!(rt; "  no memory"),
+    match (TicTacToe::new(rt.alloc()), TicTacToe::new(rt.alloc())) {
+        (Ok(game), Ok(next)) => play_game(rt, game, Some(next), seats, rows),
+        _ => println!(rt; "  no memory"),
     }
 }
 
 /// In a room of High Hand with a shuffled pack.
 fn play_cards(rt: &HostRuntime, seats: &str, rows: &str) -> io::Result<()> {
     match HighHand::new(rt.alloc()) {
-        Ok(game) => play_game(rt, game, seats, rows),
+        Ok(game) => play_game(rt, game, None, seats, rows),
         Err(NoMemory) => println!(rt; "  no memory"),
     }
 }
@@ -66,7 +66,7 @@ fn play_dealt(rt: &HostRuntime, places: &str, rows: &str) -> io::Result<()> {
 /// In a room of a game for two, if there is one.
 fn play_deck<X: Game + Drop>(rt: &HostRuntime, game: Option<X>, rows: &str) -> io::Result<()> {
     match game {
-        Some(game) => play_game(rt, game, "2", rows),
+        Some(game) => play_game(rt, game, None, "2", rows),
         None => println!(rt; "  no memory"),
     }
 }
@@ -105,13 +105,19 @@ fn dealt(alloc: Global, one: usize, other: usize) -> Option<HighHand>
 }
 
 /// Plays rows in a room of a game for so many seats.
-fn play_game<X: Game + Drop>(rt: &HostRuntime, game: X, seats: &str, rows: &str) -> io::Result<()> {
+fn play_game<X: Game + Drop>(
+    rt: &HostRuntime,
+    game: X,
+    mut next: Option<X>,
+    seats: &str,
+    rows: &str,
+) -> io::Result<()> {
     let Ok(seats) = seats.parse::<u8>() else {
         return println!(rt; "  in no form");
     };
     match seated(rt.alloc(), game, seats) {
         Some(mut book) => {
-            let played = play_rows(rt, &mut book, rows);
+            let played = play_rows(rt, &mut book, &mut next, rows);
             drop(book);
             played
         }

@@ -15,6 +15,10 @@ pub enum Row<'a> {
     Leave(Seat),
     /// `look N`: what everybody may see of the match of a serial.
     Look(u64),
+    /// `clear N`: the host removes the match of a serial.
+    Clear(u64),
+    /// `create C`: another match of the room's game, for so many seats. A room of Tic-tac-toe has one more game for it.
+    Create(u8),
     /// `detach P`: a pass ends its attachment.
     Detach(u32),
     /// `take P`: a pass takes its lines.
@@ -78,6 +82,8 @@ pub fn row_of(line: &str) -> Option<Row<'_>> {
         "second" => Some(Row::Second(rest.parse::<u8>().ok()?)),
         "leave" => Some(Row::Leave(rest.parse::<u8>().ok()?)),
         "look" => Some(Row::Look(rest.parse::<u64>().ok()?)),
+        "clear" => Some(Row::Clear(rest.parse::<u64>().ok()?)),
+        "create" => Some(Row::Create(rest.parse::<u8>().ok()?)),
         _ => counted(verb, rest.parse::<u32>().ok()?),
     }
 }

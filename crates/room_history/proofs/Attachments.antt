@@ -5,8 +5,8 @@ use Rattle.room_object.specs.Entry.{Entry, entry}
 use Rattle.seat_roster.specs.Roster.{is_empty, join, rename, leave}
 use Rattle.wire_json.specs.declared.protocol.Protocol.{Protocol}
 use Rattle.game_sheet.specs.Viewer.{Viewer}
-use Rattle.room_history.specs.Does.{Room, reply_to, with_new_match, with_match, with_left_seat, with_removed_if, with_session, with_each, after_leaving, new_session}
-use Rattle.room_history.specs.Held.{attachment_after, attachment_after_attach, attachment_after_leave, attachment_after_submission, attachment_fate, attachment_with, reply_held}
+use Rattle.room_history.specs.Does.{Room, reply_to, with_new_match, with_match, with_left_seat, with_removed_if, with_session, with_each, after_leaving, new_session, with_cleared}
+use Rattle.room_history.specs.Held.{attachment_after, attachment_after_attach, attachment_after_leave, attachment_after_submission, attachment_fate, attachment_with, reply_held, attachment_after_clear}
 use Rattle.room_history.specs.Match.{Match}
 use Rattle.room_history.specs.Outbox.{Attachment, attachment_of, outbox_in, with_outbox}
 use Rattle.room_history.specs.Piece.{Piece, Mark, State, Open, Ended, Closed}
@@ -14,13 +14,13 @@ use Rattle.room_history.specs.Reply.{created_match, named_match, reseated_match,
 use Rattle.room_history.specs.Room.{room_of, reply as reply_after}
 use Rattle.room_history.specs.Session.{Session, after_take, after_detach, detach_reply, latest_state, session_state, stream_of, with_latest}
 use Rattle.room_history.specs.declared.call.RoomCall.{RoomCall}
-use Rattle.room_history.specs.declared.call.RoomCall.TheVariants.{Create, Join, Rename, Leave, Look, Attach, Submit, Take, Detach}
+use Rattle.room_history.specs.declared.call.RoomCall.TheVariants.{Create, Join, Rename, Leave, Look, Attach, Submit, Take, Detach, Clear}
 use Rattle.room_history.specs.declared.reply.RoomReply.{RoomReply}
 use Rattle.room_history.specs.declared.reply.RoomReply.TheVariants as reply
 use Rattle.wire_json.specs.declared.submission.Submission.{Submission}
 use Rattle.room_history.proofs.Keeps.{Listed, Kept, kept}
 use Rattle.room_history.proofs.Others.{submission_held}
-use Rattle.room_history.proofs.Taking.{state_is, reply_is, taken_held, detached_held, left_held, begun_held}
+use Rattle.room_history.proofs.Taking.{state_is, reply_is, taken_held, detached_held, left_held, begun_held, cleared_held}
 
 module _ {X G : Type 0} (rules : X → Rules G) (room : ℕ) where
   -- what becomes of a submission is found from the attachment
@@ -52,6 +52,10 @@ module _ {X G : Type 0} (rules : X → Rules G) (room : ℕ) where
   left_step r k seat (Ok m) q =
       ap attachment_of (removed_same (is_empty m.roster) m (with_each (after_leaving seat (is_empty m.roster)) r) q) ∙ left_held rules room r.standing (r.sessions q) m seat (k.all q)
   left_step r k seat (Err why) q = refl
+
+  cleared_step : (r : Room X G) → Kept rules room r → (result : Result (Match X G) RoomReply) (q : ℕ) → attachment_of ((with_cleared r result).sessions q) ≡ attachment_after_clear result (attachment_of (r.sessions q))
+  cleared_step r k (Ok m) q = cleared_held rules room r.standing (r.sessions q) (k.all q)
+  cleared_step r k (Err why) q = refl
 
   same_either : (b : Bool) (a : Option Attachment) → a ≡ (if b then a else a)
   same_either true a = refl
@@ -94,6 +98,7 @@ module _ {X G : Type 0} (rules : X → Rules G) (room : ℕ) where
       ∙ ap (λ f. attachment_after_submission rules (room_of rules room h).standing f (pass == q) s.ticket (attachment_of ((room_of rules room h).sessions q))) (sym (fate_held (room_of rules room h).standing ((room_of rules room h).sessions pass) s))
   attachment_step h pass q Take = take_step (pass == q) (room_of rules room h).standing ((room_of rules room h).sessions q) ((kept rules room h).all q)
   attachment_step h pass q Detach = detach_step (pass == q) ((room_of rules room h).sessions q)
+  attachment_step h pass q (Clear serial) = cleared_step (room_of rules room h) (kept rules room h) (named_match (room_of rules room h).standing serial) q
 
   -- and its reply
   pub reply_is_held : (r : Room X G) (pass : ℕ) (call : RoomCall X) → reply_to rules room r pass call ≡ reply_held rules room r.serials r.standing (attachment_of (r.sessions pass)) call
@@ -106,6 +111,7 @@ module _ {X G : Type 0} (rules : X → Rules G) (room : ℕ) where
   reply_is_held r pass (Submit s) = ap submit_reply (sym (fate_held r.standing (r.sessions pass) s))
   reply_is_held r pass Take = sym (reply_is (r.sessions pass))
   reply_is_held r pass Detach = ap detach_reply (sym (state_is (r.sessions pass)))
+  reply_is_held r pass (Clear serial) = refl
 
   pub reply_by_held : (h : List (Entry (RoomCall X))) (pass : ℕ) (call : RoomCall X)
       → reply_after rules room h (entry pass call false) ≡ reply_held rules room (room_of rules room h).serials (room_of rules room h).standing (attachment_of ((room_of rules room h).sessions pass)) call

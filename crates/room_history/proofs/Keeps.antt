@@ -11,7 +11,7 @@ use Rattle.seat_roster.specs.declared.refusal.RosterNo.{RosterNo}
 use Rattle.wire_json.specs.declared.protocol.Protocol.{Protocol}
 use Rattle.wire_json.specs.declared.reason.Reason.{Reason}
 use Rattle.room_history.specs.Course.{Grows, IsOpen, SameView}
-use Rattle.room_history.specs.Does.{Room, after_action, after_leaving, after_submission, after_want, is_left, new_session, room_after, room_after_want, with_each, with_fate, with_left_seat, with_match, with_new_match, with_one, with_removed_if, with_session}
+use Rattle.room_history.specs.Does.{Room, after_action, after_leaving, after_submission, after_want, is_left, new_session, room_after, room_after_want, with_each, with_fate, with_left_seat, with_match, with_new_match, with_one, with_removed_if, with_session, left_where, with_cleared}
 use Rattle.room_history.specs.Item.{Accepted, Detached, GameAnswer, Left, Refused, Starved, Submitted, Unasked}
 use Rattle.room_history.specs.Match.{Match}
 use Rattle.room_history.specs.Piece.{Closed, Ended, Open, State, state_of}
@@ -22,7 +22,7 @@ use Rattle.room_history.specs.Shown.{snapshot, snapshots_of}
 use Rattle.room_history.specs.Verdict.{else_reason, first_reason, game_reason, match_accepting, public_reason}
 use Rattle.game_sheet.specs.Viewer.{Viewer, seat_of}
 use Rattle.room_history.specs.declared.call.RoomCall.{RoomCall}
-use Rattle.room_history.specs.declared.call.RoomCall.TheVariants.{Create, Join, Rename, Leave, Look, Attach, Submit, Take, Detach}
+use Rattle.room_history.specs.declared.call.RoomCall.TheVariants.{Create, Join, Rename, Leave, Look, Attach, Submit, Take, Detach, Clear}
 use Rattle.room_history.specs.declared.reply.RoomReply.{RoomReply}
 use Rattle.room_history.specs.declared.reply.RoomReply.TheVariants as reply
 use Rattle.wire_json.specs.declared.submission.Submission.{Submission}
@@ -173,6 +173,19 @@ module _ {X G : Type 0} (rules : X → Rules G) (room : ℕ) where
   left_leads : (r : Room X G) (q seat : ℕ) (result : Result (Match X G) RoomReply) → Reseated r.standing result → Listed r.standing (r.sessions q) → Leads (with_left_seat seat r result).standing (r.sessions q) ((with_left_seat seat r result).sessions q)
   left_leads r q seat (Ok m) f k = removed_leads (is_empty m.roster) m (with_each (after_leaving seat (is_empty m.roster)) r) q (r.sessions q) (left_list (is_empty m.roster) r.standing m seat (r.sessions q) f k)
   left_leads r q seat (Err why) f k = same_leads r.standing (r.sessions q) k
+
+  -- Clear: all leave, as when the last player does
+  pub named_stays : (st : Option (Match X G)) (serial : ℕ) → Reseated st (named_match st serial)
+  named_stays None serial = tt
+  named_stays (Some m) serial = by (m.serial == serial)
+    where
+      by : (b : Bool) → Reseated (Some m) (if b then Ok m else Err reply.NoMatch)
+      by true = (m.roster, refl)
+      by false = tt
+
+  cleared_leads : (r : Room X G) (q : ℕ) (result : Result (Match X G) RoomReply) → Reseated r.standing result → Listed r.standing (r.sessions q) → Leads (with_cleared r result).standing (r.sessions q) ((with_cleared r result).sessions q)
+  cleared_leads r q (Ok m) f k = left_list true r.standing m 0 (r.sessions q) f k
+  cleared_leads r q (Err why) f k = same_leads r.standing (r.sessions q) k
 
   -- Attach
   abbrev Stands : Option (Match X G) → Result (Match X G) RoomReply → Type 0
@@ -390,6 +403,7 @@ module _ {X G : Type 0} (rules : X → Rules G) (room : ℕ) where
       (pass_list (pass == q) r.standing (r.sessions pass) (r.sessions q) s (λ h. ap r.sessions (same_pass pass q h)) (k.all q))
   call_leads r k pass Take q = one_leads (pass == q) r.standing after_take (r.sessions q) taken_onward (fits_took r.standing) (k.all q)
   call_leads r k pass Detach q = one_leads (pass == q) r.standing (after_detach) (r.sessions q) detached_onward (fits_detached r.standing) (k.all q)
+  call_leads r k pass (Clear serial) q = cleared_leads r q (named_match r.standing serial) (named_stays r.standing serial) (k.all q)
 
   starved_leads : (r : Room X G) → Kept r → (pass : ℕ) (call : RoomCall X) (q : ℕ) → Leads (room_after_want rules room r pass call).standing (r.sessions q) ((room_after_want rules room r pass call).sessions q)
   starved_leads r k pass (Create game seats seed) q = same_leads r.standing (r.sessions q) (k.all q)
@@ -402,6 +416,7 @@ module _ {X G : Type 0} (rules : X → Rules G) (room : ℕ) where
       one_leads (pass == q) r.standing (after_want rules room s) (r.sessions q) (λ c g. submitted_onward c g s Starved refl) (λ c f. fits_submitted r.standing c (number_in c.sight) s Starved f) (k.all q)
   starved_leads r k pass Take q = same_leads r.standing (r.sessions q) (k.all q)
   starved_leads r k pass Detach q = same_leads r.standing (r.sessions q) (k.all q)
+  starved_leads r k pass (Clear serial) q = same_leads r.standing (r.sessions q) (k.all q)
 
   step_by : (b : Bool) (r : Room X G) → Kept r → (pass : ℕ) (call : RoomCall X) (q : ℕ)
       → Leads (if b then room_after_want rules room r pass call else room_after rules room r pass call).standing (r.sessions q) ((if b then room_after_want rules room r pass call else room_after rules room r pass call).sessions q)

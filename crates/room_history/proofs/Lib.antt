@@ -3,6 +3,7 @@ pub mod Apart
 pub mod Aside
 pub mod Attachments
 pub mod Clauses
+pub mod Clearing
 pub mod Cutting
 pub mod Growing
 pub mod Growth

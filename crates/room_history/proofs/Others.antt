@@ -17,7 +17,7 @@ use Rattle.room_history.specs.Reply.{Fate, Unheard, Turned, Goes, fate, submit_r
 use Rattle.room_history.specs.Room.{room_of, reply}
 use Rattle.room_history.specs.Session.{Session, after_take, after_detach, number_in, with_item, with_latest}
 use Rattle.room_history.specs.declared.call.RoomCall.{RoomCall}
-use Rattle.room_history.specs.declared.call.RoomCall.TheVariants.{Create, Join, Rename, Leave, Look, Attach, Submit, Take, Detach}
+use Rattle.room_history.specs.declared.call.RoomCall.TheVariants.{Create, Join, Rename, Leave, Look, Attach, Submit, Take, Detach, Clear}
 use Rattle.room_history.specs.declared.reply.RoomReply.TheVariants as answer
 use Rattle.wire_json.specs.declared.submission.Submission.{Submission}
 use Rattle.room_history.proofs.Holding.{starved_kept}
@@ -104,6 +104,7 @@ module _ {X G : Type 0} (rules : X → Rules G) (room : ℕ) where
   want_keeps r k pass (Submit s) = record { matches = record { serials = refl; standing = refl; removed = refl }; attachments = λ q. want_list (pass == q) r.standing s (r.sessions q) (k.all q) }
   want_keeps r k pass Take = same_all r
   want_keeps r k pass Detach = same_all r
+  want_keeps r k pass (Clear serial) = same_all r
 
   pub want_keeps_all : (h : List (Entry (RoomCall X))) (pass : ℕ) (call : RoomCall X) → KeepsAll (room_of rules room h) (room_of rules room (entry pass call true ∷ h))
   want_keeps_all h pass call = want_keeps (room_of rules room h) (kept rules room h) pass call

@@ -8,7 +8,7 @@ use Rattle.room_object.specs.Entry.{Entry, entry}
 use Rattle.seat_roster.specs.Roster.{is_empty, leave}
 use Rattle.wire_json.specs.declared.protocol.Protocol.{Protocol}
 use Rattle.room_history.specs.Does.{is_left}
-use Rattle.room_history.specs.Held.{attachment_state, attachment_after, attachment_after_attach, attachment_after_leave, attachment_after_action, attachment_after_submission, attachment_fate, attachment_take_reply, attachment_with, reply_held, state_by}
+use Rattle.room_history.specs.Held.{attachment_state, attachment_after, attachment_after_attach, attachment_after_leave, attachment_after_action, attachment_after_submission, attachment_fate, attachment_take_reply, attachment_with, reply_held, state_by, attachment_after_clear}
 use Rattle.room_history.specs.Session.{detach_reply}
 use Rattle.std.specs.List.{concat}
 use Rattle.room_history.specs.Match.{Match, number_of}
@@ -19,7 +19,7 @@ use Rattle.room_history.specs.Presence.{after_attach, after_end, after_release, 
 use Rattle.room_history.specs.Reply.{Fate, Unheard, Turned, Goes, named_match, reseated_match, attached_match, open_match, lets_in, reply_by}
 use Rattle.room_history.specs.Room.{room_of, reply as reply_after, serials, standing}
 use Rattle.room_history.specs.declared.call.RoomCall.{RoomCall}
-use Rattle.room_history.specs.declared.call.RoomCall.TheVariants.{Create, Join, Rename, Leave, Look, Attach, Submit, Take, Detach}
+use Rattle.room_history.specs.declared.call.RoomCall.TheVariants.{Create, Join, Rename, Leave, Look, Attach, Submit, Take, Detach, Clear}
 use Rattle.room_history.specs.declared.reply.RoomReply.{RoomReply}
 use Rattle.room_history.specs.declared.reply.RoomReply.TheVariants as reply
 use Rattle.room_history.proofs.Attachments.{attachment_step, reply_by_held}
@@ -43,6 +43,11 @@ module _ {X G : Type 0} (rules : X → Rules G) (room : ℕ) where
   leave_some seat (Err why) a = refl
   leave_some seat (Ok m) None = refl
   leave_some seat (Ok m) (Some a) = end_some (is_left seat (is_empty m.roster) a.viewer) a
+
+  clear_some : (result : Result (Match X G) RoomReply) (a : Option Attachment) → is_some (attachment_after_clear result a) ≡ is_some a
+  clear_some (Err why) a = refl
+  clear_some (Ok m) None = refl
+  clear_some (Ok m) (Some a) = refl
 
   action_some : (m n : Match X G) (a : Option Attachment) → is_some (attachment_after_action rules m n a) ≡ is_some a
   action_some m n None = refl
@@ -111,6 +116,7 @@ module _ {X G : Type 0} (rules : X → Rules G) (room : ℕ) where
   call_some serials st caller a false e Take = refl
   call_some serials st caller a true e Detach = subst (λ x. false ≡ after_release (is_some a) (detach_reply (attachment_state x))) (sym (e refl)) (detach_some a)
   call_some serials st caller a false e Detach = refl
+  call_some serials st caller a b e (Clear serial) = clear_some (named_match st serial) a ∙ either b (is_some a)
 
   pub presence : (h : List (Entry (RoomCall X))) (pass q : ℕ) (call : RoomCall X)
       → is_attached rules room (entry pass call false ∷ h) q ≡ (if pass == q then attached_after (is_attached rules room h q) call (reply_after rules room h (entry pass call false)) else is_attached rules room h q)

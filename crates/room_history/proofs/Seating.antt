@@ -11,7 +11,7 @@ use Rattle.seat_roster.specs.Roster.{if_free, if_key_of, if_name, is_empty, join
 use Rattle.seat_roster.specs.declared.refusal.RosterNo.{RosterNo}
 use Rattle.seat_roster.specs.declared.refusal.RosterNo.TheVariants.{BadName, Unauthorized}
 use Rattle.wire_json.specs.declared.protocol.Protocol.{Protocol}
-use Rattle.room_history.specs.Does.{Room, room_after, room_after_want, with_new_match, with_match, with_left_seat, with_removed_if, with_session, with_fate, with_one, with_each, after_action, after_leaving, after_submission, after_want, new_session, is_left}
+use Rattle.room_history.specs.Does.{Room, room_after, room_after_want, with_new_match, with_match, with_left_seat, with_removed_if, with_session, with_fate, with_one, with_each, after_action, after_leaving, after_submission, after_want, new_session, is_left, left_where, with_cleared}
 use Rattle.room_history.specs.Item.{Item, Submitted, Took, Left, Detached, Starved}
 use Rattle.room_history.specs.Match.{Match}
 use Rattle.room_history.specs.Piece.{State, Open, Ended, Closed}
@@ -22,7 +22,7 @@ use Rattle.room_history.specs.Session.{Session, after_take, after_detach, handfu
 use Rattle.room_history.specs.Shown.{snapshot}
 use Rattle.game_sheet.specs.Viewer.{Viewer, seat_of}
 use Rattle.room_history.specs.declared.call.RoomCall.{RoomCall}
-use Rattle.room_history.specs.declared.call.RoomCall.TheVariants.{Create, Join, Rename, Leave, Look, Attach, Submit, Take, Detach}
+use Rattle.room_history.specs.declared.call.RoomCall.TheVariants.{Create, Join, Rename, Leave, Look, Attach, Submit, Take, Detach, Clear}
 use Rattle.room_history.specs.declared.reply.RoomReply.{RoomReply}
 use Rattle.room_history.specs.declared.reply.RoomReply.TheVariants as reply
 use Rattle.wire_json.specs.declared.submission.Submission.{Submission}
@@ -224,6 +224,10 @@ module _ {X G : Type 0} (rules : X → Rules G) (room : ℕ) where
       by false = seated_left r.standing seat n (r.sessions q) s (x.all q)
   seated_leaving r (Err why) seat s x q = x.all q
 
+  seated_cleared : (r : Room X G) (result : Result (Match X G) RoomReply) → SeatedRoom r → (q : ℕ) → Seated (with_cleared r result).standing ((with_cleared r result).sessions q)
+  seated_cleared r (Ok n) x q = none_seated (with_latest (left_where true) (r.sessions q))
+  seated_cleared r (Err why) x q = x.all q
+
   abbrev LetsIn : Option (Match X G) → Viewer → Result (Match X G) RoomReply → Type 0
   LetsIn st viewer (Ok m) = (st ≡ Some m) × (lets_in m.roster viewer ≡ true)
   LetsIn st viewer (Err why) = Unit {0}
@@ -278,6 +282,7 @@ module _ {X G : Type 0} (rules : X → Rules G) (room : ℕ) where
   seated_call r k x pass (Submit s) q = seated_fate r pass s (fate rules room r.standing (r.sessions pass) s) (fate_from rules room r.standing (r.sessions pass) s) x q
   seated_call r k x pass Take q = seated_if (pass == q) r.standing after_take take_narrows (r.sessions q) (x.all q)
   seated_call r k x pass Detach q = seated_if (pass == q) r.standing after_detach detach_narrows (r.sessions q) (x.all q)
+  seated_call r k x pass (Clear serial) q = seated_cleared r (named_match r.standing serial) x q
 
   seated_want : (r : Room X G) → SeatedRoom r → (pass : ℕ) (call : RoomCall X) (q : ℕ) → Seated (room_after_want rules room r pass call).standing ((room_after_want rules room r pass call).sessions q)
   seated_want r x pass (Create game seats seed) q = x.all q
@@ -289,6 +294,7 @@ module _ {X G : Type 0} (rules : X → Rules G) (room : ℕ) where
   seated_want r x pass (Submit s) q = seated_if (pass == q) r.standing (after_want rules room s) (λ c. item_narrows (Submitted (number_in c.sight) s Starved) c (λ h. h)) (r.sessions q) (x.all q)
   seated_want r x pass Take q = x.all q
   seated_want r x pass Detach q = x.all q
+  seated_want r x pass (Clear serial) q = x.all q
 
   seated_step : (b : Bool) (r : Room X G) → Kept rules room r → SeatedRoom r → (pass : ℕ) (call : RoomCall X) (q : ℕ)
       → Seated (if b then room_after_want rules room r pass call else room_after rules room r pass call).standing ((if b then room_after_want rules room r pass call else room_after rules room r pass call).sessions q)

@@ -10,7 +10,7 @@ use Rattle.room_object.specs.Entry.{Entry}
 use Rattle.seat_roster.specs.Roster.{is_empty, join, rename, leave}
 use Rattle.wire_json.specs.declared.protocol.Protocol.{Protocol}
 use Rattle.room_history.specs.Course.{SameView}
-use Rattle.room_history.specs.Does.{Room, room_after, room_after_want, with_new_match, with_match, with_left_seat, with_removed_if, with_session, with_fate, with_one, after_action, after_leaving, after_submission, after_want, new_session, is_left}
+use Rattle.room_history.specs.Does.{Room, room_after, room_after_want, with_new_match, with_match, with_left_seat, with_removed_if, with_session, with_fate, with_one, after_action, after_leaving, after_submission, after_want, new_session, is_left, left_where, with_cleared}
 use Rattle.room_history.specs.Item.{Item, Submitted, Took, Left, Detached, Starved}
 use Rattle.room_history.specs.Match.{Match}
 use Rattle.room_history.specs.Reply.{Fate, Unheard, Turned, Goes, fate, game_answer, last_serial, seats_fit, new_match, created_match, named_match, reseated_match, attached_match}
@@ -20,13 +20,13 @@ use Rattle.room_history.specs.Shown.{snapshot, snapshots}
 use Rattle.room_history.specs.Sight.{SeesMatch}
 use Rattle.game_sheet.specs.Viewer.{Viewer, seat_of}
 use Rattle.room_history.specs.declared.call.RoomCall.{RoomCall}
-use Rattle.room_history.specs.declared.call.RoomCall.TheVariants.{Create, Join, Rename, Leave, Look, Attach, Submit, Take, Detach}
+use Rattle.room_history.specs.declared.call.RoomCall.TheVariants.{Create, Join, Rename, Leave, Look, Attach, Submit, Take, Detach, Clear}
 use Rattle.room_history.specs.declared.reply.RoomReply.{RoomReply}
 use Rattle.room_history.specs.declared.reply.RoomReply.TheVariants as reply
 use Rattle.wire_json.specs.declared.submission.Submission.{Submission}
 use Rattle.room_history.proofs.Clauses.{among}
 use Rattle.room_history.proofs.Growth.{grown}
-use Rattle.room_history.proofs.Keeps.{Fits, Head, Listed, Kept, kept, Fresh, fresh, Reseated, reseated, GoesFrom, FateFrom, fate_from}
+use Rattle.room_history.proofs.Keeps.{Fits, Head, Listed, Kept, kept, Fresh, fresh, Reseated, reseated, GoesFrom, FateFrom, fate_from, named_stays}
 use Rattle.room_history.proofs.Isolation.{Among}
 use Rattle.room_history.proofs.Responses.{same_number}
 use Rattle.room_history.proofs.Sessions.{plus_item}
@@ -284,6 +284,10 @@ module _ {X G : Type 0} (rules : X → Rules G) (room : ℕ) where
       steps_removed (is_empty m.roster) r m (λ q. with_latest (after_leaving seat (is_empty m.roster)) (r.sessions q)) x f (λ q. latest_sights (after_leaving seat (is_empty m.roster)) (leaving_sight seat (is_empty m.roster)) (r.sessions q))
   steps_left r (Err why) seat x f = steps_same r x
 
+  steps_cleared : (r : Room X G) (result : Result (Match X G) RoomReply) → Sees r → Reseated rules room r.standing result → Steps r (with_cleared r result)
+  steps_cleared r (Ok m) x f = steps_removed true r m (λ q. with_latest (left_where true) (r.sessions q)) x f (λ q. latest_sights (left_where true) (leaving_sight 0 true) (r.sessions q))
+  steps_cleared r (Err why) x f = steps_same r x
+
   steps_session : (r : Room X G) (result : Result (Match X G) RoomReply) (pass : ℕ) (viewer : Viewer) (protocol : Protocol) → Sees r → Steps r (with_session rules room pass viewer protocol r result)
   steps_session r (Ok m) pass viewer protocol x = steps_sessions r (λ q. if pass == q then new_session rules room m viewer protocol ∷ r.sessions q else r.sessions q) x (λ q. begun_sights (pass == q) (new_session rules room m viewer protocol) (r.sessions q) refl)
   steps_session r (Err why) pass viewer protocol x = steps_same r x
@@ -320,6 +324,7 @@ module _ {X G : Type 0} (rules : X → Rules G) (room : ℕ) where
   steps_call r x pass (Submit s) = steps_fate r pass s (fate rules room r.standing (r.sessions pass) s) x (fate_from rules room r.standing (r.sessions pass) s)
   steps_call r x pass Take = steps_sessions r (λ q. if pass == q then with_latest after_take (r.sessions q) else r.sessions q) x (λ q. sights_if (pass == q) after_take take_sight (r.sessions q))
   steps_call r x pass Detach = steps_sessions r (λ q. if pass == q then with_latest after_detach (r.sessions q) else r.sessions q) x (λ q. sights_if (pass == q) after_detach (λ s. inl (item_sight (Detached (number_in s.sight)) s)) (r.sessions q))
+  steps_call r x pass (Clear serial) = steps_cleared r (named_match r.standing serial) x (named_stays rules room r.standing serial)
 
   steps_want : (r : Room X G) → Sees r → (pass : ℕ) (call : RoomCall X) → Steps r (room_after_want rules room r pass call)
   steps_want r x pass (Create game seats seed) = steps_same r x
@@ -331,6 +336,7 @@ module _ {X G : Type 0} (rules : X → Rules G) (room : ℕ) where
   steps_want r x pass (Submit s) = steps_sessions r (λ q. if pass == q then with_latest (after_want rules room s) (r.sessions q) else r.sessions q) x (λ q. sights_if (pass == q) (after_want rules room s) (λ c. inl (item_sight (Submitted (number_in c.sight) s Starved) c)) (r.sessions q))
   steps_want r x pass Take = steps_same r x
   steps_want r x pass Detach = steps_same r x
+  steps_want r x pass (Clear serial) = steps_same r x
 
   steps_by : (b : Bool) (r : Room X G) → Sees r → (pass : ℕ) (call : RoomCall X) → Steps r (if b then room_after_want rules room r pass call else room_after rules room r pass call)
   steps_by true r x pass call = steps_want r x pass call

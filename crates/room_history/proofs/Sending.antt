@@ -7,7 +7,7 @@ use Rattle.game_trait.specs.Rules.{Rules}
 use Rattle.room_object.specs.Entry.{Entry}
 use Rattle.seat_roster.specs.Roster.{is_empty, join, rename, leave}
 use Rattle.wire_json.specs.declared.protocol.Protocol.{Protocol}
-use Rattle.room_history.specs.Does.{Room, room_after, room_after_want, with_new_match, with_match, with_left_seat, with_removed_if, with_session, with_fate, with_one, with_each, after_action, after_leaving, after_submission, after_want, new_session, is_left}
+use Rattle.room_history.specs.Does.{Room, room_after, room_after_want, with_new_match, with_match, with_left_seat, with_removed_if, with_session, with_fate, with_one, with_each, after_action, after_leaving, after_submission, after_want, new_session, is_left, left_where, with_cleared}
 use Rattle.room_history.specs.Item.{Item, Submitted, Left, Detached, Starved}
 use Rattle.room_history.specs.Match.{Match}
 use Rattle.room_history.specs.Piece.{Piece, State, Open, Ended, Closed, waiting_lines}
@@ -18,7 +18,7 @@ use Rattle.room_history.specs.Session.{Session, after_take, after_detach, handfu
 use Rattle.room_history.specs.Shown.{snapshot}
 use Rattle.game_sheet.specs.Viewer.{Viewer, seat_of}
 use Rattle.room_history.specs.declared.call.RoomCall.{RoomCall}
-use Rattle.room_history.specs.declared.call.RoomCall.TheVariants.{Create, Join, Rename, Leave, Look, Attach, Submit, Take, Detach}
+use Rattle.room_history.specs.declared.call.RoomCall.TheVariants.{Create, Join, Rename, Leave, Look, Attach, Submit, Take, Detach, Clear}
 use Rattle.room_history.specs.declared.reply.RoomReply.{RoomReply}
 use Rattle.room_history.proofs.Clauses.{below, some_session, none_session}
 use Rattle.room_history.proofs.Keeps.{same_pass}
@@ -114,6 +114,10 @@ module _ {X G : Type 0} (rules : X → Rules G) (room : ℕ) where
       (changed (after_leaving seat (is_empty m.roster)) (leaving_sends seat (is_empty m.roster)) j (r.sessions q) t) e
   left_stays r (Err why) seat q j t e = stays_same (session_in j (r.sessions q)) t e
 
+  cleared_stays : (r : Room X G) (result : Result (Match X G) RoomReply) (q j : ℕ) (t : Session) → session_in j ((with_cleared r result).sessions q) ≡ Some t → Stays (session_in j (r.sessions q)) t
+  cleared_stays r (Ok m) q j t e = changed (left_where true) (leaving_sends 0 true) j (r.sessions q) t e
+  cleared_stays r (Err why) q j t e = stays_same (session_in j (r.sessions q)) t e
+
   session_stays : (r : Room X G) (result : Result (Match X G) RoomReply) (pass : ℕ) (viewer : Viewer) (protocol : Protocol) (q j : ℕ) (t : Session)
       → session_in j ((with_session rules room pass viewer protocol r result).sessions q) ≡ Some t → Stays (session_in j (r.sessions q)) t
   session_stays r (Ok m) pass viewer protocol q j t e = begun_if (pass == q) j (new_session rules room m viewer protocol) (r.sessions q) t refl e
@@ -148,6 +152,7 @@ module _ {X G : Type 0} (rules : X → Rules G) (room : ℕ) where
       not_true : true ≡ false → ⊥
       not_true h = cc
   call_stays r pass Detach n q j t e = changed_if (pass == q) after_detach (λ s. item_sends (Detached (number_in s.sight)) s) j (r.sessions q) t e
+  call_stays r pass (Clear serial) n q j t e = cleared_stays r (named_match r.standing serial) q j t e
 
   want_stays : (r : Room X G) (pass : ℕ) (call : RoomCall X) (q j : ℕ) (t : Session) → session_in j ((room_after_want rules room r pass call).sessions q) ≡ Some t → Stays (session_in j (r.sessions q)) t
   want_stays r pass (Create game seats seed) q j t e = stays_same (session_in j (r.sessions q)) t e
@@ -160,6 +165,7 @@ module _ {X G : Type 0} (rules : X → Rules G) (room : ℕ) where
       changed_if (pass == q) (after_want rules room s) (λ c. item_sends (Submitted (number_in c.sight) s Starved) c) j (r.sessions q) t e
   want_stays r pass Take q j t e = stays_same (session_in j (r.sessions q)) t e
   want_stays r pass Detach q j t e = stays_same (session_in j (r.sessions q)) t e
+  want_stays r pass (Clear serial) q j t e = stays_same (session_in j (r.sessions q)) t e
 
   module _ (h : List (Entry (RoomCall X))) (e : Entry (RoomCall X)) (pass j : ℕ) where
     sends_none : (o : Option Session) (t : Session) → bytes_of_entry rules room h e pass j ≡ [] → Stays o t → SendsReply rules room h e pass j o t
@@ -225,3 +231,4 @@ module _ {X G : Type 0} (rules : X → Rules G) (room : ℕ) where
         by false (Submit s) n c x = other_sends t (Submit s) c refl x
         by false Take n c x = take_sends t (e.pass == pass) refl n c x
         by false Detach n c x = other_sends t Detach c refl x
+        by false (Clear serial) n c x = other_sends t (Clear serial) c refl x

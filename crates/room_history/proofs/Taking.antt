@@ -5,7 +5,7 @@ use Rattle.game_sheet.specs.declared.act.Bye.TheVariants as bye
 use Rattle.seat_roster.specs.Roster.{is_empty}
 use Rattle.wire_json.specs.declared.protocol.Protocol.{Protocol}
 use Rattle.room_history.specs.Course.{SameView}
-use Rattle.room_history.specs.Does.{after_leaving, is_left, new_session}
+use Rattle.room_history.specs.Does.{after_leaving, is_left, new_session, left_where}
 use Rattle.room_history.specs.Held.{attachment_after_leave, attachment_state, attachment_take_reply, attachment_with, new_attachment}
 use Rattle.room_history.specs.Item.{Left, Took}
 use Rattle.room_history.specs.Match.{Match}
@@ -74,6 +74,11 @@ module _ {X G : Type 0} (rules : X → Rules G) (room : ℕ) where
       kept_face s (after_leaving seat (is_empty m.roster) s) (leaves_faces seat (is_empty m.roster) s) (outbox_of (after_leaving seat (is_empty m.roster) s))
       ∙ ap (option_map (with_outbox s)) (left_session rules room seat (is_empty m.roster) s k.good)
       ∙ left_by s m seat (is_left seat (is_empty m.roster) s.viewer) (outbox_of s) refl
+
+  pub cleared_held : (st : Option (Match X G)) (l : List Session) → Listed rules room st l → attachment_of (with_latest (left_where true) l) ≡ attachment_with (End bye.Left) (attachment_of l)
+  cleared_held st [] k = refl
+  cleared_held st (s ∷ before) k =
+      kept_face s (left_where true s) (leaves_faces 0 true s) (outbox_of (left_where true s)) ∙ ap (option_map (with_outbox s)) (left_session rules room 0 true s k.good) ∙ gained s (End bye.Left) (outbox_of s)
 
   pub begun_held : (m : Match X G) (viewer : Viewer) (protocol : Protocol) (before : List Session) → attachment_of (new_session rules room m viewer protocol ∷ before) ≡ Some (new_attachment rules room viewer protocol m)
   unfolding stream

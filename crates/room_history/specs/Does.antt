@@ -10,7 +10,7 @@ use Rattle.room_history.specs.Session.{Session, number_in, is_looking, with_item
 use Rattle.room_history.specs.Shown.{snapshot}
 use Rattle.game_sheet.specs.Viewer.{Viewer, seat_of}
 use Rattle.room_history.specs.declared.call.RoomCall.{RoomCall}
-use Rattle.room_history.specs.declared.call.RoomCall.TheVariants.{Create, Join, Rename, Leave, Look, Attach, Submit, Take, Detach}
+use Rattle.room_history.specs.declared.call.RoomCall.TheVariants.{Create, Join, Rename, Leave, Look, Attach, Submit, Take, Detach, Clear}
 use Rattle.room_history.specs.declared.reply.RoomReply.{RoomReply}
 use Rattle.room_history.specs.declared.reply.RoomReply.TheVariants as reply
 use Rattle.wire_json.specs.declared.submission.Submission.{Submission}
@@ -40,8 +40,12 @@ is_left seat true viewer = true
 is_left seat false None = false
 is_left seat false (Some claim) = claim.0 == seat
 
+-- a session that looks is left
+abbrev pub left_where : Bool → Session → Session
+left_where left s = if is_looking s.own && left then record s { own = Left (number_in s.sight) ∷ s.own } else s
+
 abbrev pub after_leaving : ℕ → Bool → Session → Session
-after_leaving seat removed s = if is_looking s.own && is_left seat removed s.viewer then record s { own = Left (number_in s.sight) ∷ s.own } else s
+after_leaving seat removed s = left_where (is_left seat removed s.viewer) s
 
 -- the room after each kind of call
 abbrev pub with_new_match : {X G : Type 0} → Room X G → Result (Match X G) RoomReply → Room X G
@@ -60,6 +64,11 @@ with_removed_if false m r = record r { standing = Some m }
 abbrev pub with_left_seat : {X G : Type 0} → ℕ → Room X G → Result (Match X G) RoomReply → Room X G
 with_left_seat seat r (Ok m) = with_removed_if (is_empty m.roster) m (with_each (after_leaving seat (is_empty m.roster)) r)
 with_left_seat seat r (Err why) = r
+
+-- a match that is cleared is removed, and left by all that look
+abbrev pub with_cleared : {X G : Type 0} → Room X G → Result (Match X G) RoomReply → Room X G
+with_cleared r (Ok m) = with_removed_if true m (with_each (left_where true) r)
+with_cleared r (Err why) = r
 
 module _ {X G : Type 0} (rules : X → Rules G) (room : ℕ) where
   -- a session begins with the snapshot of its match
@@ -103,6 +112,7 @@ module _ {X G : Type 0} (rules : X → Rules G) (room : ℕ) where
   room_after r pass (Submit s) = with_fate (with_one pass (after_submission r.standing s) r) (fate rules room r.standing (r.sessions pass) s)
   room_after r pass Take = with_one pass after_take r
   room_after r pass Detach = with_one pass after_detach r
+  room_after r pass (Clear serial) = with_cleared r (named_match r.standing serial)
 
   -- want of memory changes nothing; a submission that met it is written down
   abbrev pub room_after_want : Room X G → ℕ → RoomCall X → Room X G
@@ -123,3 +133,4 @@ module _ {X G : Type 0} (rules : X → Rules G) (room : ℕ) where
   reply_to r pass (Submit s) = submit_reply (fate rules room r.standing (r.sessions pass) s)
   reply_to r pass Take = latest_take_reply (r.sessions pass)
   reply_to r pass Detach = detach_reply (latest_state (r.sessions pass))
+  reply_to r pass (Clear serial) = reply_by (λ (m : Match X G). reply.Cleared) (named_match r.standing serial)

@@ -22,7 +22,7 @@ use Rattle.room_history.specs.Showing.{update_message}
 use Rattle.room_history.specs.Shown.{snapshot}
 use Rattle.game_sheet.specs.Viewer.{Viewer, seat_of}
 use Rattle.room_history.specs.declared.call.RoomCall.{RoomCall}
-use Rattle.room_history.specs.declared.call.RoomCall.TheVariants.{Create, Join, Rename, Leave, Look, Attach, Submit, Take, Detach}
+use Rattle.room_history.specs.declared.call.RoomCall.TheVariants.{Create, Join, Rename, Leave, Look, Attach, Submit, Take, Detach, Clear}
 use Rattle.room_history.specs.declared.reply.RoomReply.{RoomReply}
 use Rattle.room_history.specs.declared.reply.RoomReply.TheVariants as reply
 use Rattle.wire_json.specs.declared.submission.Submission.{Submission}
@@ -50,6 +50,10 @@ abbrev pub attachment_after_leave : {X G : Type 0} → ℕ → Result (Match X G
 attachment_after_leave seat (Err why) a = a
 attachment_after_leave seat (Ok m) None = None
 attachment_after_leave seat (Ok m) (Some a) = if is_left seat (is_empty m.roster) a.viewer then attachment_with (End bye.Left) (Some a) else Some a
+
+abbrev pub attachment_after_clear : {X G : Type 0} → Result (Match X G) RoomReply → Option Attachment → Option Attachment
+attachment_after_clear (Err why) a = a
+attachment_after_clear (Ok m) a = attachment_with (End bye.Left) a
 
 module _ {X G : Type 0} (rules : X → Rules G) where
   -- the message of the action that led from one match to the next, the same for all who look from one seat in one protocol
@@ -99,6 +103,7 @@ module _ {X G : Type 0} (rules : X → Rules G) (room : ℕ) where
   attachment_after standing caller own a (Submit s) = attachment_after_submission rules standing (attachment_fate standing caller s) own s.ticket a
   attachment_after standing caller own a Take = if own then attachment_with Mark a else a
   attachment_after standing caller own a Detach = if own then None else a
+  attachment_after standing caller own a (Clear serial) = attachment_after_clear (named_match standing serial) a
   attachment_after standing caller own a call = a
 
   -- the reply to a call, by the attachment of the pass that makes it
@@ -116,6 +121,7 @@ module _ {X G : Type 0} (rules : X → Rules G) (room : ℕ) where
   reply_held serials standing a (Submit s) = submit_reply (attachment_fate standing a s)
   reply_held serials standing a Take = attachment_take_reply a
   reply_held serials standing a Detach = detach_reply (attachment_state a)
+  reply_held serials standing a (Clear serial) = reply_by (λ (m : Match X G). reply.Cleared) (named_match standing serial)
 
   -- what is held of each pass is what its latest session's stream leaves waiting
   abbrev pub HoldsSessions : List (ℕ × Attachment) → List (Entry (RoomCall X)) → Type 0

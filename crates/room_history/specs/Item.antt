@@ -10,7 +10,7 @@ pub data GameAnswer : Type 0 where
   Accepted : GameAnswer
   Refused : Reason → GameAnswer
 
--- a submission, a Take, the leaving of the session's seat and a Detach, each with the state number at which it fell
+-- a submission, a Take, the leaving of the session's seat or the removal of its match, and a Detach, each with the state number at which it fell
 pub data Item : Type 0 where
   Submitted : ℕ → Submission → GameAnswer → Item
   Took : ℕ → Item

@@ -40,7 +40,7 @@ is_detached [] = false
 is_detached (Detached n ∷ own) = true
 is_detached (item ∷ own) = false
 
--- a session looks until its seat is left or it is detached
+-- a session looks until its seat is left, its match is removed or it is detached
 abbrev pub is_looking : List Item → Bool
 is_looking [] = true
 is_looking (Detached n ∷ own) = false

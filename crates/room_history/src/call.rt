@@ -69,4 +69,10 @@ pub enum RoomCall<X> {
     Take,
     /// Ends the pass's attachment. What waits is lost. Replied by `Detached` or `NotAttached`. It takes no memory.
     Detach,
+    /// Removes the match, as its last player's leaving does: every session that looks at it ends with `left`, and the room is
+    /// free. It is for the host: no line of a session makes it. Replied by `Cleared` or `NoMatch`. It takes no memory.
+    Clear {
+        /// The match's serial.
+        serial: u64,
+    },
 }

@@ -1,6 +1,6 @@
 //! Laws of rooms, over every history. There is nothing to run.
 
-ghost use Rattle.std.specs.Prelude.{◌≡◌, ◌==◌, ◌∷◌, ℕ, Bool, true, false, if◌then◌else◌, List, None, Some};
+ghost use Rattle.std.specs.Prelude.{◌≡◌, ◌≢◌, ◌==◌, ◌∷◌, ℕ, Bool, true, false, if◌then◌else◌, List, None, Some};
 ghost use Rattle.room_object.specs.Entry.{Entry, entry};
 ghost use Rattle.wire_json.specs.declared.reason.Reason.{Reason};
 ghost use Rattle.wire_json.specs.declared.verdict.Verdict.TheVariants as verdict;
@@ -14,7 +14,7 @@ ghost use Rattle.room_history.specs.Others.{KeepsAll, KeepsOthers, TellsRefusal}
 ghost use Rattle.room_history.specs.Outbox.{attachment_of};
 ghost use Rattle.room_history.specs.Piece.{state_of};
 ghost use Rattle.room_history.specs.Presence.{attached_after, is_attached};
-ghost use Rattle.room_history.specs.Removal.{IsOfSeat};
+ghost use Rattle.room_history.specs.Removal.{ClearsMatch, ClearsNothing, IsOfSeat};
 ghost use Rattle.room_history.specs.Room.{latest_session, reply, room_of, serials, session, standing};
 ghost use Rattle.room_history.specs.Sent.{IsToldOf, SendsReply};
 ghost use Rattle.room_history.specs.Session.{Session, is_looking, stream_of};
@@ -118,7 +118,16 @@ pub fn attachments_follow_from_replies<X: Game>(game: &X)
     let _game = game;
 }
 
-/// When a match is removed, only spectators look at it, and sessions of the seat whose leaving removed it.
+/// A Clear of the match that stands removes it, and ends every session that is attached with `left`, but for one that had ended.
+/// Any other Clear is refused and changes nothing.
+pub fn clears_remove_the_match<X: Game>(game: &X)
+    ensures cleared { (room : ℕ) (h : List (Entry (Asks X))) (pass : ℕ) (m : Match X X.G) → standing X.rules room h ≡ Some m → ClearsMatch X.rules room h pass m.serial }
+    ensures refused { (room : ℕ) (h : List (Entry (Asks X))) (pass serial : ℕ) → reply X.rules room h (entry pass (ask.Clear serial) false) ≢ answer.Cleared → ClearsNothing X.rules room h pass serial }
+{
+    let _game = game;
+}
+
+/// When a match is removed with its last player, only spectators look at it, and sessions of the seat whose leaving removed it.
 pub fn matches_are_removed_with_their_last_player<X: Game>(game: &X)
     ensures { (room : ℕ) (h : List (Entry (Asks X))) (pass serial seat : ℕ) (key : List ℕ) (m : Match X X.G) → standing X.rules room h ≡ Some m
         → standing X.rules room (entry pass (ask.Leave serial seat key) false ∷ h) ≡ None

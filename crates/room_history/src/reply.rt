@@ -17,6 +17,8 @@ pub enum RoomReply {
     Renamed,
     /// The seat is free.
     Left,
+    /// The match is removed.
+    Cleared,
     /// What everybody may see of the match.
     Looked(MatchRow),
     /// The pass is attached.

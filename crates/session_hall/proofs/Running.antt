@@ -78,6 +78,7 @@ same_memory (call.Create game seats seed) = refl
 same_memory (call.Join serial seat name key) = refl
 same_memory (call.Rename serial seat key name) = refl
 same_memory (call.Leave serial seat key) = refl
+same_memory (call.Clear serial) = refl
 same_memory (call.Look serial) = refl
 same_memory (call.Attach serial viewer protocol) = refl
 same_memory (call.Submit s) = refl

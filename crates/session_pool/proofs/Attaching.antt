@@ -31,6 +31,7 @@ after_want before (call.Create game seats seed) = refl
 after_want before (call.Join serial seat name key) = refl
 after_want before (call.Rename serial seat key name) = refl
 after_want before (call.Leave serial seat key) = refl
+after_want before (call.Clear serial) = refl
 after_want before (call.Look serial) = refl
 after_want before (call.Attach serial viewer protocol) = refl
 after_want before (call.Submit s) = refl

@@ -74,6 +74,7 @@ undone_plain (reply.Created serial) = inr (refusal_by (reply.Created serial), re
 undone_plain reply.Joined = inr (refusal_by reply.Joined, refl)
 undone_plain reply.Renamed = inr (refusal_by reply.Renamed, refl)
 undone_plain reply.Left = inr (refusal_by reply.Left, refl)
+undone_plain reply.Cleared = inr (refusal_by reply.Cleared, refl)
 undone_plain (reply.Looked row) = inr (refusal_by (reply.Looked row), refl)
 undone_plain reply.Attached = inr (refusal_by reply.Attached, refl)
 undone_plain (reply.Verdict v) = inr (refusal_by (reply.Verdict v), refl)

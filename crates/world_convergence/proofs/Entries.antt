@@ -8,7 +8,7 @@ use Rattle.room_object.specs.Entry.{Entry, entry}
 use Rattle.seat_roster.specs.Roster.{is_empty, join, rename, leave}
 use Rattle.wire_json.specs.declared.protocol.Protocol.{Protocol}
 use Rattle.wire_json.specs.declared.submission.Submission.{Submission}
-use Rattle.room_history.specs.Does.{Room, room_after, room_after_want, with_new_match, with_match, with_left_seat, with_removed_if, with_session, with_fate, with_one, with_each, after_action, after_leaving, after_submission, after_want, new_session, is_left}
+use Rattle.room_history.specs.Does.{Room, room_after, room_after_want, with_new_match, with_match, with_left_seat, with_removed_if, with_session, with_fate, with_one, with_each, after_action, after_leaving, after_submission, after_want, new_session, is_left, left_where, with_cleared}
 use Rattle.room_history.specs.Item.{GameAnswer, Item, Submitted, Took, Left, Detached, Starved, Unasked, Accepted, Refused}
 use Rattle.room_history.specs.Match.{Match}
 use Rattle.room_history.specs.Reply.{Fate, Unheard, Turned, Goes, fate, game_answer, created_match, named_match, reseated_match, attached_match}
@@ -16,7 +16,7 @@ use Rattle.room_history.specs.Room.{room_of}
 use Rattle.room_history.specs.Session.{Session, after_take, after_detach, is_detached, is_looking, number_in, session_state, with_item, with_latest, latest_state}
 use Rattle.room_history.specs.Shown.{snapshot}
 use Rattle.room_history.specs.declared.call.RoomCall.{RoomCall}
-use Rattle.room_history.specs.declared.call.RoomCall.TheVariants.{Create, Join, Rename, Leave, Look, Attach, Submit, Take, Detach}
+use Rattle.room_history.specs.declared.call.RoomCall.TheVariants.{Create, Join, Rename, Leave, Look, Attach, Submit, Take, Detach, Clear}
 use Rattle.room_history.specs.declared.reply.RoomReply.{RoomReply}
 
 abbrev pub one_if : Bool → ℕ
@@ -131,6 +131,10 @@ module _ {X G : Type 0} (rules : X → Rules G) (room : ℕ) where
       (latest_stays weight (after_leaving seat (is_empty m.roster)) (leaving_changed weight seat (is_empty m.roster)) (r.sessions q))
   left_stays weight r seat (Err why) q = same_stays weight (r.sessions q)
 
+  cleared_stays : (weight : ℕ → ℕ) (r : Room X G) (result : Result (Match X G) RoomReply) (q : ℕ) → Stays weight (r.sessions q) ((with_cleared r result).sessions q)
+  cleared_stays weight r (Ok m) q = latest_stays weight (left_where true) (leaving_changed weight 0 true) (r.sessions q)
+  cleared_stays weight r (Err why) q = same_stays weight (r.sessions q)
+
   session_stays : (weight : ℕ → ℕ) (own : Bool) (serial : ℕ) (viewer : Viewer) (protocol : Protocol) (m : Match X G) (l : List Session) → IsAside {X = X} own (Attach serial viewer protocol)
       → Stays weight l (if own then new_session rules room m viewer protocol ∷ l else l)
   session_stays weight true serial viewer protocol m l a = absurd a
@@ -170,6 +174,7 @@ module _ {X G : Type 0} (rules : X → Rules G) (room : ℕ) where
   call_stays r pass (Join serial seat name key) q a = match_stays _ r (reseated_match (named_match r.standing serial) (λ roster. join roster seat name key)) q
   call_stays r pass (Rename serial seat key name) q a = match_stays _ r (reseated_match (named_match r.standing serial) (λ roster. rename roster seat key name)) q
   call_stays r pass (Leave serial seat key) q a = left_stays _ r seat (reseated_match (named_match r.standing serial) (λ roster. leave roster seat key)) q
+  call_stays r pass (Clear serial) q a = cleared_stays _ r (named_match r.standing serial) q
   call_stays r pass (Look serial) q a = same_stays _ (r.sessions q)
   call_stays r pass (Attach serial viewer protocol) q a =
       attach_stays _ r pass serial viewer protocol (attached_match r.standing (latest_state (r.sessions pass)) serial viewer) q a
@@ -190,6 +195,7 @@ module _ {X G : Type 0} (rules : X → Rules G) (room : ℕ) where
   want_stays r pass (Join serial seat name key) q = same_stays nothing (r.sessions q)
   want_stays r pass (Rename serial seat key name) q = same_stays nothing (r.sessions q)
   want_stays r pass (Leave serial seat key) q = same_stays nothing (r.sessions q)
+  want_stays r pass (Clear serial) q = same_stays nothing (r.sessions q)
   want_stays r pass (Look serial) q = same_stays nothing (r.sessions q)
   want_stays r pass (Attach serial viewer protocol) q = same_stays nothing (r.sessions q)
   want_stays r pass (Submit s) q = want_by (pass == q) s (r.sessions q)

@@ -56,6 +56,7 @@ lobby_fits (call.Create game seats seed) h = tt
 lobby_fits (call.Join serial seat name key) h = tt
 lobby_fits (call.Rename serial seat key name) h = tt
 lobby_fits (call.Leave serial seat key) h = tt
+lobby_fits (call.Clear serial) h = tt
 lobby_fits (call.Look serial) h = tt
 lobby_fits (call.Attach serial viewer protocol) h = absurd h
 lobby_fits (call.Submit s) h = absurd h

@@ -39,6 +39,7 @@ module _ {X G : Type 0} (rules : X → Rules G) (q : ℕ) where
   lobby_aside true (call.Join serial seat name key) h = tt
   lobby_aside true (call.Rename serial seat key name) h = tt
   lobby_aside true (call.Leave serial seat key) h = tt
+  lobby_aside true (call.Clear serial) h = tt
   lobby_aside true (call.Look serial) h = tt
   lobby_aside true (call.Attach serial viewer protocol) h = absurd h
   lobby_aside true (call.Submit s) h = absurd h
@@ -51,6 +52,7 @@ module _ {X G : Type 0} (rules : X → Rules G) (q : ℕ) where
   lobby_asks true (call.Join serial seat name key) h ticket = refl
   lobby_asks true (call.Rename serial seat key name) h ticket = refl
   lobby_asks true (call.Leave serial seat key) h ticket = refl
+  lobby_asks true (call.Clear serial) h ticket = refl
   lobby_asks true (call.Look serial) h ticket = refl
   lobby_asks true (call.Attach serial viewer protocol) h ticket = absurd h
   lobby_asks true (call.Submit s) h ticket = absurd h

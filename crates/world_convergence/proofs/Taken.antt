@@ -31,6 +31,7 @@ module _ {X G : Type 0} (rules : X → Rules G) (w : World X G) (c : ℕ) (hall 
   told_taken reply.Joined = record { new = refl; clients = refl; up = refl; down = λ d. refl }
   told_taken reply.Renamed = record { new = refl; clients = refl; up = refl; down = λ d. refl }
   told_taken reply.Left = record { new = refl; clients = refl; up = refl; down = λ d. refl }
+  told_taken reply.Cleared = record { new = refl; clients = refl; up = refl; down = λ d. refl }
   told_taken (reply.Looked row) = record { new = refl; clients = refl; up = refl; down = λ d. refl }
   told_taken reply.Attached = record { new = refl; clients = refl; up = refl; down = λ d. refl }
   told_taken (reply.Verdict v) = record { new = refl; clients = refl; up = refl; down = λ d. refl }

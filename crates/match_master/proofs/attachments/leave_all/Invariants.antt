@@ -7,5 +7,5 @@ use Rattle.match_master.proofs.attachments.leave_all.Given as goal
 abbrev pub invariant-loop-place : goal.invariant-loop-place
 invariant-loop-place l = record {
   many : length l.attachments.entries ≡ length l.initial.attachments.entries;
-  left : all_held l.attachments.entries ≡ up_to_place l.place (left_entry l.seat l.removed) (all_held l.initial.attachments.entries);
+  left : all_held l.attachments.entries ≡ up_to_place l.place (left_entry l.who) (all_held l.initial.attachments.entries);
 }

@@ -8,4 +8,4 @@ returns-clause-many c = length-set c.args.attachments.now.entries c.args.place c
 
 pub returns-clause-left : goal.returns-clause-left
 returns-clause-left c =
-    held_set c.args.attachments.now.entries c.args.place c.in-Some.attached.now c.leave.new.attached (left_entry c.args.seat c.args.removed) (sym c.in-Some.ensures.value) (λ k. ap (λ a. (k, a)) (sym c.leave.ensures))
+    held_set c.args.attachments.now.entries c.args.place c.in-Some.attached.now c.leave.new.attached (left_entry c.args.who) (sym c.in-Some.ensures.value) (λ k. ap (λ a. (k, a)) (sym c.leave.ensures))

@@ -1,6 +1,6 @@
 use Rattle.std.proofs.Common.{sym, subst}
 use Rattle.match_master.specs.Does.{GoesBy}
-use Rattle.match_master.proofs.CallLaws.{attach_goes, create_goes, detach_goes, join_goes, leave_goes, look_goes, rename_goes, submit_goes, take_goes}
+use Rattle.match_master.proofs.CallLaws.{attach_goes, clear_goes, create_goes, detach_goes, join_goes, leave_goes, look_goes, rename_goes, submit_goes, take_goes}
 use Rattle.match_master.proofs.book.Book.answer.Goals as goal
 
 pub returns-in-Create-clause-goes : goal.returns-in-Create-clause-goes
@@ -47,3 +47,8 @@ pub returns-in-Detach-clause-goes : goal.returns-in-Detach-clause-goes
 returns-in-Detach-clause-goes g c = λ standing h.
     subst (λ call. GoesBy g.X.Game.rules c.args.self.now standing c.args.pass call c.detach.result c.detach.new.self) (sym c.in-Detach.is)
     (detach_goes g.X.Game.rules c.args.self.now standing h c.args.pass c.detach.result c.detach.new.self c.detach.ensures.fed c.detach.ensures.reply c.detach.ensures.same c.detach.ensures.after)
+
+pub returns-in-Clear-clause-goes : goal.returns-in-Clear-clause-goes
+returns-in-Clear-clause-goes g c = λ standing h.
+    subst (λ call. GoesBy g.X.Game.rules c.args.self.now standing c.args.pass call c.clear.result c.clear.new.self) (sym c.in-Clear.is)
+    (clear_goes g.X.Game.rules c.args.self.now standing h c.args.pass c.in-Clear.serial c.clear.result c.clear.new.self (c.clear.ensures.does standing h))
