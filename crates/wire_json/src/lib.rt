@@ -43,6 +43,8 @@ pub use match_row::MatchRow;
 pub use match_text::{decimal_of, match_of, text_of_match};
 pub use names::resolve;
 pub use protocol::Protocol;
+pub use put_act::put_asked;
+pub use put_member::{put_key, put_text};
 pub use reason::Reason;
 pub use refusal::{Member, Refusal};
 pub use row_put::put_row;
