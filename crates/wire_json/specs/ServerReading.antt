@@ -1,5 +1,5 @@
 -- How a line to a client is read: the message, or the first fault.
-use Rattle.std.specs.Prelude.{◌≡◌, ◌≤◌, ◌&&◌, ℕ, List, [], ◌∷◌, Bool, true, false, nat_le, if◌then◌else◌, codes, Option, Some, None, Result, Ok, Err}
+use Rattle.std.specs.Prelude.{◌≡◌, ◌≤◌, ◌&&◌, ℕ, List, [], ◌∷◌, map, Bool, true, false, nat_le, if◌then◌else◌, codes, Option, Some, None, Result, Ok, Err}
 use Rattle.std.specs.List.{AllByRecursion}
 use Rattle.std.specs.Map.{lookup}
 use Rattle.std.specs.Str.{bytes_eq}
@@ -12,14 +12,15 @@ use Rattle.json_tree.specs.Steps.{◌>>=◌}
 use Rattle.json_tree.specs.declared.fields.FieldFault.{FieldFault}
 use Rattle.json_tree.specs.declared.fields.FieldFault.TheVariants.{Missing, OutOfRange}
 use Rattle.game_sheet.specs.declared.act.Bye.{Bye}
-use Rattle.wire_json.specs.Acts.{in_form}
+use Rattle.wire_json.specs.Acts.{in_form, is_object, object_member_in}
 use Rattle.wire_json.specs.ByeText.{bye_from}
 use Rattle.sheet_json.specs.Seats.{IsWithin, or_null}
 use Rattle.game_sheet.specs.MatchName.{Name}
-use Rattle.wire_json.specs.ChangeReading.{is_object, is_texts, object_member_in, parts_in, later_in, before_in}
+use Rattle.wire_json.specs.ChangeReading.{is_texts, parts_in, later_in, before_in}
 use Rattle.wire_json.specs.ClientReading.{match_in, key_in}
 use Rattle.wire_json.specs.KeyText.{IsKey}
 use Rattle.wire_json.specs.MatchText.{IsName}
+use Rattle.wire_json.specs.ReasonText.{reason_text}
 use Rattle.wire_json.specs.Refusals.{Refusal, UnknownMessage, ExtraField, at_field, of_line}
 use Rattle.wire_json.specs.RefusalText.{member_from, refusal_from, with_field}
 use Rattle.wire_json.specs.RowReading.{row_in, rows_in}
@@ -67,10 +68,9 @@ IsServerForm line message = IsTextOf line (server_members message) × ServerFits
 
 abbrev pub reason_table : List (List ℕ × Reason)
 reason_table =
-    (codes "no-match", NoMatch) ∷ (codes "unauthorized", Unauthorized) ∷ (codes "game-over", GameOver) ∷ (codes "match-full", MatchFull)
-    ∷ (codes "cannot-undo-now", CannotUndoNow) ∷ (codes "not-active", NotActive) ∷ (codes "unknown-move", UnknownMove) ∷ (codes "wrong-number", WrongNumber)
-    ∷ (codes "nothing-to-undo", NothingToUndo) ∷ (codes "nothing-to-redo", NothingToRedo) ∷ (codes "not-yours", NotYours) ∷ (codes "not-undoable", NotUndoable)
-    ∷ (codes "invalid-move", InvalidMove) ∷ (codes "too-early", TooEarly) ∷ (codes "too-many-words", TooManyWords) ∷ (codes "too-many-events", TooManyEvents) ∷ []
+    map (λ reason. (reason_text reason, reason))
+    (NoMatch ∷ Unauthorized ∷ GameOver ∷ MatchFull ∷ CannotUndoNow ∷ NotActive ∷ UnknownMove ∷ WrongNumber
+    ∷ NothingToUndo ∷ NothingToRedo ∷ NotYours ∷ NotUndoable ∷ InvalidMove ∷ TooEarly ∷ TooManyWords ∷ TooManyEvents ∷ [])
 
 abbrev pub reason_from : List ℕ → Option Reason
 reason_from s = lookup (bytes_eq s) reason_table
