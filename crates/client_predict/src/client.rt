@@ -196,7 +196,7 @@ impl<X: Game + Drop> Client<X> {
                 },
             ),
             ServerMsg::Bye(why) => self.end(*why),
-            ServerMsg::Games
+            ServerMsg::Games(_)
             | ServerMsg::Matches(_)
             | ServerMsg::Match(_)
             | ServerMsg::Created { .. }

@@ -185,7 +185,7 @@ no_true e = cc
 
 untold_sync : (r : Result ServerMsg Refusal) → is_told r ≡ false → is_sync r ≡ false
 untold_sync (Ok (to_client.Sync name seat protocol snapshot)) e = absurd (no_true e)
-untold_sync (Ok to_client.Games) e = refl
+untold_sync (Ok (to_client.Games names)) e = refl
 untold_sync (Ok (to_client.Matches rows)) e = refl
 untold_sync (Ok (to_client.Match row)) e = refl
 untold_sync (Ok (to_client.Created name)) e = refl
@@ -204,7 +204,7 @@ untold_sync (Err fault) e = refl
 
 untold_bye : (r : Result ServerMsg Refusal) → is_told r ≡ false → is_bye r ≡ false
 untold_bye (Ok (to_client.Bye why)) e = absurd (no_true e)
-untold_bye (Ok to_client.Games) e = refl
+untold_bye (Ok (to_client.Games names)) e = refl
 untold_bye (Ok (to_client.Matches rows)) e = refl
 untold_bye (Ok (to_client.Match row)) e = refl
 untold_bye (Ok (to_client.Created name)) e = refl

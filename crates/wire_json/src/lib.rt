@@ -32,9 +32,9 @@ mod verdict;
 mod wire_no;
 
 pub use acts::asked_of;
-pub use answer_put::{bye_line, games_line};
+pub use answer_put::{bye_line, put_games};
 pub use asked::{Asked, AskedTo};
-pub use bye::{bye_of, text_of_bye};
+pub use bye::text_of_bye;
 pub use client::ClientMsg;
 pub use client_read::{CLIENT_LINE, read_client};
 pub use client_write::write_client;

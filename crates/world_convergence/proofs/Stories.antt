@@ -63,7 +63,7 @@ no_true e = cc
 
 untold_sync : (r : Result ServerMsg Refusal) → is_told r ≡ false → is_sync r ≡ false
 untold_sync (Ok (message.Sync name seat protocol snapshot)) e = absurd (no_true e)
-untold_sync (Ok message.Games) e = refl
+untold_sync (Ok (message.Games names)) e = refl
 untold_sync (Ok (message.Matches rows)) e = refl
 untold_sync (Ok (message.Match row)) e = refl
 untold_sync (Ok (message.Created name)) e = refl

@@ -142,7 +142,7 @@ module _ {G : Type 0} (rules : Rules G) where
   -- what is passed over is no sync
   untold_unread : (r : Result ServerMsg Refusal) → is_told r ≡ false → readable r ≡ false
   untold_unread (Ok (message.Sync name seat protocol d)) e = absurd (no_true e)
-  untold_unread (Ok message.Games) e = refl
+  untold_unread (Ok (message.Games names)) e = refl
   untold_unread (Ok (message.Matches rows)) e = refl
   untold_unread (Ok (message.Match row)) e = refl
   untold_unread (Ok (message.Created name)) e = refl
