@@ -19,7 +19,7 @@ use Rattle.wire_json.specs.declared.asked.Asked.{Asked}
 use Rattle.wire_json.specs.declared.server.ServerMsg.{ServerMsg}
 use Rattle.wire_json.specs.declared.server.ServerMsg.TheVariants as message
 use Rattle.convergence.specs.Doing.{Acts, AnswersAll, Doing, Face, IsLike, Knows, KnowsWhere, Reads, acts_in, does_all, face, lines_in, ticket_in, ticket_of}
-use Rattle.convergence.specs.Following.{is_told, reads_all, tells, told_lines}
+use Rattle.client_predict.specs.Following.{is_told, reads_all, tells, told_lines}
 
 one : {A : Type 0} (x y : A) → Some x ≡ Some y → x ≡ y
 one x y e = cc

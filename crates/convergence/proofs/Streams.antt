@@ -13,7 +13,7 @@ use Rattle.wire_json.specs.Refusals.{Refusal}
 use Rattle.wire_json.specs.ServerReading.{server_read}
 use Rattle.wire_json.specs.declared.server.ServerMsg.{ServerMsg}
 use Rattle.wire_json.specs.declared.server.ServerMsg.TheVariants as to_client
-use Rattle.convergence.specs.Following.{has_bye, has_sync, is_bye, is_sync, is_told, told_lines}
+use Rattle.client_predict.specs.Following.{has_bye, has_sync, is_bye, is_sync, is_told, told_lines}
 use Rattle.convergence.specs.Lines.{AllLines, ReadsBack}
 use Rattle.convergence.proofs.Stories.{AllRead, lines_of}
 

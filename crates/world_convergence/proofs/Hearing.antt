@@ -41,7 +41,7 @@ use Rattle.wire_json.specs.declared.server.ServerMsg.{ServerMsg}
 use Rattle.wire_json.specs.declared.server.ServerMsg.TheVariants as message
 use Rattle.wire_json.proofs.ServerLaws.{server_read_is}
 use Rattle.convergence.specs.Doing.{Knows, ticket_in}
-use Rattle.convergence.specs.Following.{is_sync}
+use Rattle.client_predict.specs.Following.{is_sync}
 use Rattle.world_convergence.proofs.Counting.{answers}
 use Rattle.world_convergence.proofs.Entries.{one_if}
 

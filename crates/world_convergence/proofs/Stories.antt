@@ -20,7 +20,7 @@ use Rattle.wire_json.specs.declared.server.ServerMsg.{ServerMsg}
 use Rattle.wire_json.specs.declared.server.ServerMsg.TheVariants as message
 use Rattle.convergence.specs.Calls.{CallsFit}
 use Rattle.convergence.specs.Doing.{IsLike, KnowsWhere, Reads, ticket_in}
-use Rattle.convergence.specs.Following.{followed, has_sync, is_sync, is_told, reads_all, told_lines}
+use Rattle.client_predict.specs.Following.{followed, has_sync, is_sync, is_told, reads_all, told_lines}
 use Rattle.convergence.specs.Lines.{AllLines, ReadsBack}
 use Rattle.convergence.specs.Shallow.{StatesAreShallow}
 use Rattle.convergence.proofs.Clauses.{are_shallow, reads_back}

@@ -38,7 +38,7 @@ use Rattle.wire_json.specs.declared.reason.Reason.{Reason}
 use Rattle.wire_json.specs.declared.server.ServerMsg.{ServerMsg}
 use Rattle.wire_json.specs.declared.server.ServerMsg.TheVariants as message
 use Rattle.convergence.specs.Doing.{face}
-use Rattle.convergence.specs.Following.{is_told, reads_all, told_lines}
+use Rattle.client_predict.specs.Following.{is_told, reads_all, told_lines}
 use Rattle.convergence.specs.Grounded.{IsGrounded}
 use Rattle.convergence.specs.Lines.{as_read}
 use Rattle.convergence.specs.Shallow.{StatesAreShallow}
