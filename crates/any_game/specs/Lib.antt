@@ -5,3 +5,4 @@ pub mod Kind
 pub mod Lifted
 pub mod LiftedLaws
 pub mod Values
+pub mod Names

@@ -4,6 +4,8 @@
 mod any_g;
 mod choice;
 mod lifted;
+mod names;
 
 pub use any_g::AnyG;
 pub use choice::{AnyGame, by_name};
+pub use names::game_names;

@@ -86,7 +86,7 @@ module _ {G : Type 0} (rules : Rules G) (ticket : ℕ) (reason : Reason) where
   heard_rolls c (message.Again None) = unless c.gone c _ (λ e. cc)
   heard_rolls c (message.Again (Some t)) = unless c.gone c _ (judged c c.playing t (Again (Some t)) refl (λ e. cc))
   heard_rolls c (message.Bye why) = unless c.gone c _ (λ e. cc)
-  heard_rolls c message.Games = unless c.gone c _ (λ e. cc)
+  heard_rolls c (message.Games names) = unless c.gone c _ (λ e. cc)
   heard_rolls c (message.Matches rows) = unless c.gone c _ (λ e. cc)
   heard_rolls c (message.Match row) = unless c.gone c _ (λ e. cc)
   heard_rolls c (message.Created name) = unless c.gone c _ (λ e. cc)

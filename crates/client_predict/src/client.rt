@@ -79,6 +79,20 @@ impl<X: Game + Drop> Client<X> {
         }
     }
 
+    /// The game of the matches that it reads. It takes no memory.
+    pub fn game(&self) -> &X
+        ensures { result.now ≡ self.now.game }
+    {
+        &self.game
+    }
+
+    /// Whether its stream has ended, or a line was none for it: then it takes in nothing but a sync. It takes no memory.
+    pub fn is_gone(&self) -> bool
+        ensures { result ≡ self.now.client.gone }
+    {
+        self.gone
+    }
+
     /// The last snapshot that the server settled; none before the first sync. It takes no memory.
     pub fn settled(&self) -> Option<&Snapshot<X::G>>
         ensures { option_copied result ≡ settled_in self.now.client }
@@ -196,7 +210,7 @@ impl<X: Game + Drop> Client<X> {
                 },
             ),
             ServerMsg::Bye(why) => self.end(*why),
-            ServerMsg::Games
+            ServerMsg::Games(_)
             | ServerMsg::Matches(_)
             | ServerMsg::Match(_)
             | ServerMsg::Created { .. }

@@ -35,7 +35,7 @@ use Rattle.wire_json.specs.MatchText.{IsName}
 use Rattle.wire_json.specs.ServerReading.{server_read}
 use Rattle.wire_json.specs.declared.server.ServerMsg.TheVariants as to_client
 use Rattle.convergence.specs.Calls.{CallsFit}
-use Rattle.convergence.specs.Following.{followed, has_bye, has_sync, reads_all, told_lines}
+use Rattle.client_predict.specs.Following.{followed, has_bye, has_sync, reads_all, told_lines}
 use Rattle.convergence.specs.Grounded.{IsGrounded}
 use Rattle.convergence.specs.Lines.{AllLines, IsShallow, ReadsBack}
 use Rattle.convergence.specs.Seeing.{SeesAt}

@@ -19,7 +19,7 @@ use Rattle.wire_json.specs.declared.asked.Asked.{Asked}
 use Rattle.wire_json.specs.declared.server.ServerMsg.{ServerMsg}
 use Rattle.wire_json.specs.declared.server.ServerMsg.TheVariants as message
 use Rattle.convergence.specs.Doing.{Acts, AnswersAll, Doing, Face, IsLike, Knows, KnowsWhere, Reads, acts_in, does_all, face, lines_in, ticket_in, ticket_of}
-use Rattle.convergence.specs.Following.{is_told, reads_all, tells, told_lines}
+use Rattle.client_predict.specs.Following.{is_told, reads_all, tells, told_lines}
 
 one : {A : Type 0} (x y : A) → Some x ≡ Some y → x ≡ y
 one x y e = cc
@@ -114,7 +114,7 @@ module _ {G : Type 0} (rules : Rules G) where
       gone_alike c d (changed rules c c.playing (entry_in rules.sheet entry) ctx gone put number) (changed rules d d.playing (entry_in rules.sheet entry) ctx gone put number) l
       (changed_alike c d c.playing d.playing (entry_in rules.sheet entry) ctx gone put number l l.sees)
   hears_alike c d (message.Bye why) l t = gone_alike c d (ended c (Ended why)) (ended d (Ended why)) l (record { gone = refl; sees = l.sees })
-  hears_alike c d message.Games l t = absurd (no_both t)
+  hears_alike c d (message.Games names) l t = absurd (no_both t)
   hears_alike c d (message.Matches rows) l t = absurd (no_both t)
   hears_alike c d (message.Match row) l t = absurd (no_both t)
   hears_alike c d (message.Created name) l t = absurd (no_both t)
@@ -151,7 +151,7 @@ module _ {G : Type 0} (rules : Rules G) where
   hears_stays c (message.Update ctx entry g number) t k = absurd (no_both (sym t))
   hears_stays c (message.Change ctx entry gone put number) t k = absurd (no_both (sym t))
   hears_stays c (message.Bye why) t k = absurd (no_both (sym t))
-  hears_stays c message.Games t k = unless_stays c (only_told c Other) (λ here. like c)
+  hears_stays c (message.Games names) t k = unless_stays c (only_told c Other) (λ here. like c)
   hears_stays c (message.Matches rows) t k = unless_stays c (only_told c Other) (λ here. like c)
   hears_stays c (message.Match row) t k = unless_stays c (only_told c Other) (λ here. like c)
   hears_stays c (message.Created name) t k = unless_stays c (only_told c Other) (λ here. like c)

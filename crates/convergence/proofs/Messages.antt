@@ -12,7 +12,8 @@ use Rattle.serde_json.specs.Data.{Data, object, depth}
 use Rattle.serde_json.specs.Read.{max_depth}
 use Rattle.serde_json.specs.Written.{compact_text}
 use Rattle.sheet_json.specs.Seats.{IsWithin}
-use Rattle.wire_json.specs.ChangeReading.{is_object, is_texts}
+use Rattle.wire_json.specs.Acts.{is_object}
+use Rattle.wire_json.specs.ChangeReading.{is_texts}
 use Rattle.wire_json.specs.MatchText.{IsName}
 use Rattle.wire_json.specs.ServerReading.{ServerFits, server_read}
 use Rattle.wire_json.specs.ServerText.{server_members}

@@ -20,7 +20,7 @@ use Rattle.room_history.specs.Shown.{snapshot_at, snapshots}
 use Rattle.serde_json.specs.Data.{Data, null, boolean, number, string, array, object}
 use Rattle.serde_json.specs.Find.{as_object}
 use Rattle.sheet_json.specs.Seats.{IsWithin}
-use Rattle.wire_json.specs.ChangeReading.{is_object}
+use Rattle.wire_json.specs.Acts.{is_object}
 use Rattle.wire_json.specs.MatchText.{IsName}
 use Rattle.wire_json.specs.declared.protocol.Protocol.{Protocol}
 use Rattle.wire_json.specs.declared.protocol.Protocol.TheVariants.{One, Two}

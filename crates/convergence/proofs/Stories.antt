@@ -28,7 +28,7 @@ use Rattle.sight_reading.proofs.CtxLaws.{ctx_again}
 use Rattle.sight_reading.proofs.EntryLaws.{entry_again}
 use Rattle.wire_json.specs.declared.protocol.Protocol.{Protocol}
 use Rattle.wire_json.specs.declared.protocol.Protocol.TheVariants.{One, Two}
-use Rattle.convergence.specs.Following.{reads_all}
+use Rattle.client_predict.specs.Following.{reads_all}
 use Rattle.convergence.specs.Grounded.{IsGrounded}
 use Rattle.convergence.specs.Lines.{ReadsBack}
 use Rattle.convergence.specs.Views.{view_at}

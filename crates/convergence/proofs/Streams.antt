@@ -13,7 +13,7 @@ use Rattle.wire_json.specs.Refusals.{Refusal}
 use Rattle.wire_json.specs.ServerReading.{server_read}
 use Rattle.wire_json.specs.declared.server.ServerMsg.{ServerMsg}
 use Rattle.wire_json.specs.declared.server.ServerMsg.TheVariants as to_client
-use Rattle.convergence.specs.Following.{has_bye, has_sync, is_bye, is_sync, is_told, told_lines}
+use Rattle.client_predict.specs.Following.{has_bye, has_sync, is_bye, is_sync, is_told, told_lines}
 use Rattle.convergence.specs.Lines.{AllLines, ReadsBack}
 use Rattle.convergence.proofs.Stories.{AllRead, lines_of}
 
@@ -185,7 +185,7 @@ no_true e = cc
 
 untold_sync : (r : Result ServerMsg Refusal) → is_told r ≡ false → is_sync r ≡ false
 untold_sync (Ok (to_client.Sync name seat protocol snapshot)) e = absurd (no_true e)
-untold_sync (Ok to_client.Games) e = refl
+untold_sync (Ok (to_client.Games names)) e = refl
 untold_sync (Ok (to_client.Matches rows)) e = refl
 untold_sync (Ok (to_client.Match row)) e = refl
 untold_sync (Ok (to_client.Created name)) e = refl
@@ -204,7 +204,7 @@ untold_sync (Err fault) e = refl
 
 untold_bye : (r : Result ServerMsg Refusal) → is_told r ≡ false → is_bye r ≡ false
 untold_bye (Ok (to_client.Bye why)) e = absurd (no_true e)
-untold_bye (Ok to_client.Games) e = refl
+untold_bye (Ok (to_client.Games names)) e = refl
 untold_bye (Ok (to_client.Matches rows)) e = refl
 untold_bye (Ok (to_client.Match row)) e = refl
 untold_bye (Ok (to_client.Created name)) e = refl

@@ -2,7 +2,6 @@ pub mod Calls
 pub mod Views
 pub mod Grounded
 pub mod Lines
-pub mod Following
 pub mod Seeing
 pub mod Doing
 pub mod Shallow

@@ -21,7 +21,7 @@ ghost use Rattle.room_object.specs.Entry.{Entry};
 ghost use Rattle.wire_json.specs.declared.asked.Asked.{Asked as Asking};
 ghost use Rattle.convergence.specs.Calls.{CallsFit};
 ghost use Rattle.convergence.specs.Doing.{AnswersAll, Doing, IsLike, does_all, lines_in};
-ghost use Rattle.convergence.specs.Following.{followed, has_bye, has_sync, reads_all, told_lines};
+ghost use Rattle.client_predict.specs.Following.{followed, has_bye, has_sync, reads_all, told_lines};
 ghost use Rattle.convergence.specs.Grounded.{CanBeRead, IsGrounded};
 ghost use Rattle.convergence.specs.Lines.{AllLines, IsShallow, ReadsBack};
 ghost use Rattle.convergence.specs.Seeing.{SeesAt};

@@ -1,5 +1,6 @@
 -- The message of each direct answer, and its line.
 use Rattle.std.specs.Prelude.{ℕ, List}
+use Rattle.any_game.specs.Names.{all_names}
 use Rattle.wire_json.specs.declared.server.ServerMsg.{ServerMsg}
 use Rattle.wire_json.specs.declared.server.ServerMsg.TheVariants as message
 use Rattle.wire_json.specs.ServerText.{text}
@@ -7,7 +8,7 @@ use Rattle.game_hall.specs.declared.answer.Answer.{Answer}
 use Rattle.game_hall.specs.declared.answer.Answer.TheVariants.{Games, Matches, Match, Created, Joined, Renamed, Left, Again, Refused}
 
 abbrev pub message_of : Answer → ServerMsg
-message_of Games = message.Games
+message_of Games = message.Games all_names
 message_of (Matches rows) = message.Matches rows
 message_of (Match row) = message.Match row
 message_of (Created name) = message.Created name

@@ -8,6 +8,8 @@ ghost use Rattle.game_hall.specs.Requests.{begins, hears, in_room as in_room_of,
 ghost use Rattle.game_hall.specs.Words.{drawn, key_of, seed_left, seed_left_by, words_drawn, words_drawn_by, seed_of, seed_words};
 ghost use Rattle.room_history.specs.declared.call.RoomCall.TheVariants as call;
 ghost use Rattle.wire_json.specs.declared.client.ClientMsg.TheVariants as line;
+ghost use Rattle.game_hall.specs.declared.answer.Answer.TheVariants.{Games as IsGames};
+ghost use Rattle.game_hall.specs.declared.next.Next.TheVariants.{Says as IsSaid};
 ghost use Rattle.game_hall.specs.declared.request.Request.TheVariants.{Joining as IsJoining};
 
 use crate::next::Next;
@@ -70,7 +72,7 @@ fn begin(
     ensures seed_kept { OnErr result (seed.new ≡ seed.old) }
 {
     match message {
-        ClientMsg::Games => Ok(Next::Says(WrittenAnswer::games())),
+        ClientMsg::Games => games(alloc),
         ClientMsg::Matches { game } => list(alloc, rooms, game),
         ClientMsg::Look { name } => {
             let call = RoomCall::Look {
@@ -116,6 +118,16 @@ fn begin(
         }
         ClientMsg::Act(submission) => Ok(act(at, submission)),
         ClientMsg::Takeover { .. } => Ok(refuse(Refusal::NotABot)),
+    }
+}
+
+/// The names of the games.
+fn games(alloc: Global) -> Result<Next<AnyGame>, NoMemory>
+    ensures { IfOk result (λ n. n ≡ IsSaid IsGames) }
+{
+    match WrittenAnswer::games(alloc) {
+        Ok(answer) => Ok(Next::Says(answer)),
+        Err(no) => Err(no),
     }
 }
 

@@ -10,15 +10,16 @@ use crate::rows::{Rows, row_line};
 use crate::short_lines::{
     again_line, created_line, joined_line, left_line, refused_line, renamed_line,
 };
+use any_game::game_names;
 use arrayvec::ArrayVec;
 use game_sheet::{Bytes, Key, MatchName, NoMemory, Seat};
 use std::alloc::Global;
 use std::marker::Model;
-use wire_json::{MatchRow, Refusal, games_line};
+use wire_json::{MatchRow, Refusal, put_games};
 
 /// A direct answer whose line is finished. Contracts see the answer.
 ///
-/// The lines of all but matches and their rows stand in the program or in the value itself, and take no memory.
+/// The lines of all but the games, matches and their rows stand in the value itself, and take no memory.
 pub struct WrittenAnswer {
     answer: Answer,
     line: Bytes,
@@ -46,12 +47,15 @@ impl Model for WrittenAnswer {
 
 impl WrittenAnswer {
     /// The names of the games.
-    pub fn games() -> WrittenAnswer
-        ensures { result ≡ answer.Games }
+    pub fn games(alloc: Global) -> Result<WrittenAnswer, NoMemory>
+        ensures { IfOk result (λ a. a ≡ answer.Games) }
     {
-        WrittenAnswer {
-            answer: Answer::Games,
-            line: Bytes::fixed(games_line()),
+        match games_line(alloc) {
+            Ok(line) => Ok(WrittenAnswer {
+                answer: Answer::Games,
+                line: Bytes::from_vec(line),
+            }),
+            Err(no) => Err(no),
         }
     }
 
@@ -160,6 +164,18 @@ impl WrittenAnswer {
         let WrittenAnswer { answer, line } = self;
         drop(answer);
         line
+    }
+}
+
+/// The line of the names of the games.
+fn games_line(alloc: Global) -> Result<Vec<u8>, NoMemory>
+    ensures { IfOk result (λ line. line.items ≡ line_of answer.Games) }
+{
+    let names = game_names(alloc)?;
+    let mut line = Vec::new(alloc);
+    match put_games(alloc, &mut line, names.as_slice()) {
+        Ok(()) => Ok(line),
+        Err(no) => Err(no),
     }
 }
 

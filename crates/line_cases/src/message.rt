@@ -4,8 +4,7 @@ use crate::print::{print_bytes, print_slice};
 use game_sheet::Bye;
 use std::io;
 use wire_json::{
-    Refusal, ServerMsg, WireNo, bye_line, games_line, read_client, read_server, write_client,
-    write_server,
+    Refusal, ServerMsg, WireNo, bye_line, read_client, read_server, write_client, write_server,
 };
 
 /// Prints the message of a client's line as a line of its own, or the first fault and how it is refused.
@@ -46,7 +45,6 @@ pub fn print_server(rt: &HostRuntime, line: &str) -> io::Result<()> {
 /// Prints a line that is the same always.
 pub fn print_fixed(rt: &HostRuntime, row: &str) -> io::Result<()> {
     match row {
-        "games" => print_slice(rt, games_line()),
         "left" => print_slice(rt, bye_line(Bye::Left)),
         "lagging" => print_slice(rt, bye_line(Bye::Lagging)),
         _ => println!(rt; "  in no form"),

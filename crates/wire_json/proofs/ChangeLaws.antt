@@ -1,5 +1,5 @@
 -- A change reads as the message that it is the object of.
-use Rattle.std.proofs.Common.{◌≡◌, ℕ, ◌≤◌, ◌+◌, ◌-◌, ◌==◌, List, [], ◌∷◌, Bool, true, false, cond, Option, Some, None, option_map, option_and_then, Ok, Err, codes, refl, sym, ap, ◌∙◌, subst, arith, eq-eqb}
+use Rattle.std.proofs.Common.{◌≡◌, ℕ, ◌≤◌, ◌+◌, ◌-◌, ◌==◌, List, [], ◌∷◌, Bool, true, false, cond, Option, Some, None, Ok, codes, refl, ap, ◌∙◌, subst, arith, eq-eqb}
 use Rattle.std.proofs.lemmas.Bool.{le-leb, leb-true, eqb-true}
 use Rattle.std.specs.Prelude.{nat_le, Result}
 use Rattle.serde_json.specs.Data.{Data, null, boolean, number, string, array, object, Members, member, no_members}
@@ -7,14 +7,14 @@ use Rattle.serde_json.specs.Find.{get_member}
 use Rattle.json_tree.specs.Canonical.{IsCanonical, MembersAreCanonical}
 use Rattle.json_tree.specs.Fields.{text_in, natural_in}
 use Rattle.json_tree.specs.Names.{has_extra}
-use Rattle.json_tree.specs.declared.fields.FieldFault.{FieldFault}
 use Rattle.json_tree.specs.declared.fields.FieldFault.TheVariants.{WrongKind, OutOfRange}
 use Rattle.json_tree.proofs.Rows.{row_is, canonical_member}
 use Rattle.sheet_json.specs.Seats.{natural}
 use Rattle.sheet_json.proofs.SeatLaws.{bound, tested, natural_is, natural_again}
-use Rattle.wire_json.specs.ChangeReading.{is_object, is_texts, if_holds, object_member_in, parts_of, parts_in, later_in, before_in}
+use Rattle.wire_json.specs.Acts.{is_object, object_member_in}
+use Rattle.wire_json.specs.ChangeReading.{is_texts, if_holds, parts_of, parts_in, later_in, before_in}
 use Rattle.wire_json.specs.Refusals.{Refusal, ExtraField}
-use Rattle.wire_json.specs.ServerReading.{ServerFits, tree_in, change_in}
+use Rattle.wire_json.specs.ServerReading.{ServerFits, change_in}
 use Rattle.wire_json.specs.ServerText.{parts_data, server_members}
 use Rattle.wire_json.specs.declared.server.ServerMsg.{ServerMsg}
 use Rattle.wire_json.specs.declared.server.ServerMsg.TheVariants as to_client

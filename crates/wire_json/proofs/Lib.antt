@@ -9,7 +9,6 @@ pub mod ClientWriting
 pub mod Trees
 pub mod Tables
 pub mod AnswerLaws
-pub mod TextLists
 pub mod RowLaws
 pub mod ChangeLaws
 pub mod LobbyLaws

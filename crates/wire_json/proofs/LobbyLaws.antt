@@ -1,27 +1,23 @@
 -- The rows of the lobby's answers: each reads as the message that it is the object of.
-use Rattle.std.proofs.Common.{◌≡◌, ℕ, ◌≤◌, List, [], ◌∷◌, Bool, true, false, cond, ◌&&◌, Option, Some, None, Ok, Err, bytes_eq, codes, refl, ap, ap₂, ◌∙◌, subst}
-use Rattle.std.proofs.lemmas.Bool.{and_parts}
-use Rattle.std.proofs.lemmas.Slice.Eq.{bytes_eq-Decides}
+use Rattle.std.proofs.Common.{◌≡◌, ℕ, ◌≤◌, List, [], ◌∷◌, Ok, Err, codes, refl, subst}
 use Rattle.std.specs.Prelude.{Result}
-use Rattle.serde_json.specs.Data.{Data, null, boolean, number, string, array, object, Items, no_items, item, Members}
-use Rattle.serde_json.specs.Find.{as_str, get_member}
+use Rattle.serde_json.specs.Data.{object, Members}
+use Rattle.serde_json.specs.Find.{get_member}
 use Rattle.json_tree.specs.Canonical.{MembersAreCanonical}
-use Rattle.json_tree.specs.Fields.{text_in, list_in, natural_in}
+use Rattle.json_tree.specs.Fields.{text_in}
 use Rattle.json_tree.specs.Names.{has_extra}
 use Rattle.json_tree.specs.Steps.{◌>>=◌}
-use Rattle.json_tree.specs.declared.fields.FieldFault.{FieldFault}
-use Rattle.json_tree.specs.declared.fields.FieldFault.TheVariants.{OutOfRange}
 use Rattle.json_tree.proofs.Rows.{row_is, canonical_member}
 use Rattle.game_sheet.specs.MatchName.{Name}
-use Rattle.sheet_json.proofs.SeatLaws.{bound, natural_is, natural_again}
+use Rattle.sheet_json.proofs.SeatLaws.{natural_is, natural_again}
 use Rattle.wire_json.specs.MatchText.{IsName}
-use Rattle.wire_json.specs.Refusals.{Refusal, ExtraField, at_field}
-use Rattle.wire_json.specs.ServerReading.{ServerFits, text_is as holds_text, are_names, games_member_in, games_in, matches_in, match_row_in, created_in, joined_in, place_in}
-use Rattle.wire_json.specs.ServerText.{game_names, names_data, place_members, server_members}
+use Rattle.wire_json.specs.Refusals.{Refusal, ExtraField}
+use Rattle.wire_json.specs.ServerReading.{ServerFits, games_in, matches_in, match_row_in, created_in, joined_in, place_in}
+use Rattle.wire_json.specs.ServerText.{place_members, server_members}
 use Rattle.wire_json.specs.declared.server.ServerMsg.{ServerMsg}
 use Rattle.wire_json.specs.declared.server.ServerMsg.TheVariants as to_client
-use Rattle.wire_json.proofs.FieldLaws.{step, past, text_is, list_is, match_member_is, match_member_again, key_member_is, key_member_again}
-use Rattle.wire_json.proofs.RowLaws.{row_member_is, row_member_again, rows_member_are, rows_member_again}
+use Rattle.wire_json.proofs.FieldLaws.{step, past, text_is, match_member_is, match_member_again, key_member_is, key_member_again}
+use Rattle.wire_json.proofs.RowLaws.{names_member_are, names_member_again, row_member_is, row_member_again, rows_member_are, rows_member_again}
 
 abbrev good : ServerMsg → Result ServerMsg Refusal
 good x = Ok x
@@ -37,30 +33,6 @@ IsOfType ms kind = text_in (get_member (codes "type") ms) ≡ Ok kind
 
 -- ---- the games
 
-same_text : (d : Data) (name : List ℕ) → holds_text (as_str d) name ≡ true → d ≡ string name
-same_text null name e = absurd (cc)
-same_text (boolean b) name e = absurd (cc)
-same_text (number n) name e = absurd (cc)
-same_text (string s) name e = ap string ((bytes_eq-Decides s name).0 e)
-same_text (array ds) name e = absurd (cc)
-same_text (object ms) name e = absurd (cc)
-
-names_are : (names : List (List ℕ)) (ds : Items) → are_names names ds ≡ true → ds ≡ names_data names
-names_are [] no_items e = refl
-names_are [] (item d ds) e = absurd (cc)
-names_are (name ∷ names) no_items e = absurd (cc)
-names_are (name ∷ names) (item d ds) e =
-    let both = and_parts (holds_text (as_str d) name) (are_names names ds) e in
-    ap₂ item (same_text d name both.0) (names_are names ds both.1)
-
-listed : (b : Bool) (m : ServerMsg) → cond b (Ok to_client.Games) (Err OutOfRange) ≡ Ok m → (b ≡ true) × (to_client.Games ≡ m)
-listed true m e = (refl, cc)
-listed false m e = absurd (cc)
-
-at_once : (name : List ℕ) (r : Result ServerMsg FieldFault) (m : ServerMsg) → at_field name r ≡ Ok m → r ≡ Ok m
-at_once name (Ok x) m e = let same : x ≡ m = cc in ap (λ y. Ok y) same
-at_once name (Err fault) m e = absurd (cc)
-
 games_names : List (List ℕ)
 games_names = codes "games" ∷ codes "type" ∷ []
 
@@ -68,16 +40,14 @@ pub games_is : (ms : Members) (m : ServerMsg) → MembersAreCanonical ms → IsO
 unfolding games_in games_names
 games_is ms m c kind e =
     let known = past (has_extra games_names ms) ExtraField _ m e in
-    let found = at_once _ (games_member_in (get_member (codes "games") ms)) m known.1 in
-    let list = bound (list_in (get_member (codes "games") ms)) _ m found in
-    let names = listed (are_names game_names list.0) m list.2 in
-    let there = list_is _ list.0 list.1 ∙ ap (λ x. Some (array x)) (names_are game_names list.0 names.0) in
-    let row = row_is games_names ms (server_members to_client.Games) c ((refl, tt), (tt, tt)) known.0 refl (there, (text_is _ _ kind, tt)) in
-    subst (λ x. Is ms x) names.1 (row, tt)
+    let names = step _ _ _ m known.1 in
+    let are = names_member_are (get_member (codes "games") ms) names.0 names.1 in
+    let row = row_is games_names ms (server_members (to_client.Games names.0)) c ((refl, tt), (tt, tt)) known.0 refl (are.0, (text_is _ _ kind, tt)) in
+    subst (λ x. Is ms x) (last (to_client.Games names.0) m names.2) (row, are.1)
 
-pub games_again : games_in (object (server_members to_client.Games)) ≡ Ok to_client.Games
+pub games_again : (names : List (List ℕ)) → ServerFits (to_client.Games names) → games_in (object (server_members (to_client.Games names))) ≡ Ok (to_client.Games names)
 unfolding games_in
-games_again = refl
+games_again names h = rw (names_member_again names h) refl
 
 -- ---- matches
 

@@ -1,5 +1,5 @@
 -- Words of the wire: none has a byte to escape, and some lines are the same always.
-use Rattle.std.proofs.Common.{◌≡◌, ◌-◌, ℕ, List, [], ◌∷◌, ◌++◌, Bool, true, Ok, Err, codes, refl, sym, ap, ◌∙◌, append_assoc}
+use Rattle.std.proofs.Common.{◌≡◌, ◌-◌, ℕ, List, [], ◌∷◌, ◌++◌, true, Ok, Err, codes, refl, sym, ap, ◌∙◌, append_assoc}
 use Rattle.std.specs.Prelude.{Result, OnOk}
 use Rattle.json.specs.Print.{quoted, escape_byte}
 use Rattle.json.proofs.Printed.Utf8.{are_ascii}
@@ -23,10 +23,6 @@ use Rattle.wire_json.specs.declared.refusal.Member.TheVariants as part
 use Rattle.wire_json.specs.declared.refusal.Refusal.{Refusal}
 use Rattle.wire_json.specs.declared.refusal.Refusal.TheVariants as refusal
 use Rattle.wire_json.specs.declared.server.ServerMsg.TheVariants as message
-
-pub games_text : codes "{\"games\":[\"blind-bid\",\"captions\",\"countdown\",\"high-hand\",\"pig\",\"tic-tac-toe\"],\"type\":\"games\"}\n" ≡ text message.Games
-unfolding text escape_byte
-games_text = refl
 
 pub left_text : codes "{\"type\":\"bye\",\"why\":\"left\"}\n" ≡ text (message.Bye Left)
 unfolding text escape_byte

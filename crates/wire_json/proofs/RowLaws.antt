@@ -1,22 +1,22 @@
 -- A match's row reads as the row that it is the object of, and as no other.
-use Rattle.std.proofs.Common.{◌≡◌, ℕ, ◌≤◌, List, [], ◌∷◌, length, Bool, true, false, cond, Option, Some, None, Ok, Err, codes, refl, ap, ap₂, ◌∙◌, subst, arith}
+use Rattle.std.proofs.Common.{◌≡◌, ℕ, List, [], ◌∷◌, Bool, true, false, cond, Option, Some, None, Ok, Err, codes, refl, ap, ap₂, ◌∙◌, subst, arith}
 use Rattle.std.specs.List.{AllByRecursion}
 use Rattle.std.specs.Prelude.{Result}
 use Rattle.std.specs.Result.{result_ok}
-use Rattle.serde_json.specs.Data.{Data, null, boolean, number, string, array, object, Items, no_items, item, Members}
+use Rattle.serde_json.specs.Data.{Data, null, boolean, number, string, array, object, Items, no_items, item}
 use Rattle.serde_json.specs.Find.{get_member}
 use Rattle.json_tree.specs.Canonical.{IsCanonical, ItemsAreCanonical}
 use Rattle.json_tree.specs.Fields.{list_in, natural_in}
 use Rattle.json_tree.specs.Names.{has_extra}
-use Rattle.json_tree.specs.declared.fields.FieldFault.{FieldFault}
 use Rattle.json_tree.specs.declared.fields.FieldFault.TheVariants.{OutOfRange}
 use Rattle.json_tree.proofs.Rows.{row_is, canonical_member}
 use Rattle.sheet_json.specs.Seats.{or_null}
 use Rattle.sheet_json.proofs.SeatLaws.{bound, natural_is, natural_again, Holds, or_null_is}
-use Rattle.wire_json.specs.Acts.{in_form, text_within}
-use Rattle.wire_json.specs.MatchText.{match_text}
+use Rattle.wire_json.specs.Acts.{in_form, text_within, word_in}
 use Rattle.wire_json.specs.RowReading.{boolean_in, player_in, players_from, players_in, row_from, rows_from, row_in, rows_in}
-use Rattle.wire_json.specs.RowText.{Player, text_or_null, player_members, player_data, players_data, row_members, row_data, rows_data, IsShortName, IsPlayer, IsRow}
+use Rattle.wire_json.specs.RowText.{Player, text_or_null, player_members, player_data, players_data, row_members, row_data, rows_data, IsGameName, IsShortName, IsPlayer, IsRow}
+use Rattle.wire_json.specs.ServerReading.{names_from, names_in}
+use Rattle.wire_json.specs.ServerText.{names_data}
 use Rattle.wire_json.specs.declared.match_row.MatchRow.{MatchRow}
 use Rattle.wire_json.proofs.ActLaws.{chained, mapped}
 use Rattle.wire_json.proofs.FieldLaws.{formed, list_is, short_text_is, short_text_again, match_member_is, match_member_again}
@@ -134,6 +134,24 @@ rows_from_again : (rows : List MatchRow) → AllByRecursion IsRow rows → rows_
 rows_from_again [] h = refl
 rows_from_again (row ∷ rows) h = rw (row_from_again row h.0, rows_from_again rows h.1) refl
 
+-- ---- names
+
+inside : (d e : Data) → Some d ≡ Some e → d ≡ e
+inside d e h = cc
+
+names_are : (ds : Items) (names : List (List ℕ)) → names_from ds ≡ Some names → (ds ≡ names_data names) × AllByRecursion IsGameName names
+names_are no_items names e = let same : [] ≡ names = cc in subst (λ x. (no_items ≡ names_data x) × AllByRecursion IsGameName x) same (refl, tt)
+names_are (item d ds) names e =
+    let first = chained _ (word_in (Some d)) names e in
+    let rest = mapped _ (names_from ds) names first.2 in
+    let one = short_text_is 1 32 (Some d) first.0 (given (text_within 1 32 (Some d)) first.0 first.1) in
+    let more = names_are ds rest.0 rest.1 in
+    subst (λ x. (item d ds ≡ names_data x) × AllByRecursion IsGameName x) rest.2 (ap₂ item (inside d (string first.0) one.0) more.0, ((one.1, one.2), more.1))
+
+names_again : (names : List (List ℕ)) → AllByRecursion IsGameName names → names_from (names_data names) ≡ Some names
+names_again [] h = refl
+names_again (name ∷ names) h = rw (short_text_again 1 32 name h.0.0 h.0.1, names_again names h.1) refl
+
 -- ---- members
 
 abbrev pub CanonicalIn : Option Data → Type 0
@@ -162,3 +180,12 @@ rows_member_are o rows c e =
 
 pub rows_member_again : (rows : List MatchRow) → AllByRecursion IsRow rows → rows_in (Some (array (rows_data rows))) ≡ Ok rows
 rows_member_again rows h = rw (rows_from_again rows h) refl
+
+pub names_member_are : (o : Option Data) (names : List (List ℕ)) → names_in o ≡ Ok names → (o ≡ Some (array (names_data names))) × AllByRecursion IsGameName names
+names_member_are o names e =
+    let list = bound (list_in o) _ names e in
+    let are = names_are list.0 names (formed (names_from list.0) names list.2) in
+    (list_is o list.0 list.1 ∙ ap (λ x. Some (array x)) are.0, are.1)
+
+pub names_member_again : (names : List (List ℕ)) → AllByRecursion IsGameName names → names_in (Some (array (names_data names))) ≡ Ok names
+names_member_again names h = rw (names_again names h) refl

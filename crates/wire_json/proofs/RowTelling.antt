@@ -1,5 +1,5 @@
 -- A row reads back from its text.
-use Rattle.std.proofs.Common.{◌≡◌, ◌≤◌, ℕ, IsUtf8, refl, arith}
+use Rattle.std.proofs.Common.{◌≤◌, IsUtf8, refl, arith}
 use Rattle.json_tree.specs.Writable.{IsWritable, ItemsAreWritable}
 use Rattle.json_tree.proofs.WritableRows.{fixed}
 use Rattle.wire_json.specs.MatchText.{IsName}

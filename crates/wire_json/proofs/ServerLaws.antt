@@ -20,7 +20,7 @@ use Rattle.sheet_json.specs.Seats.{natural, natural_or_null}
 use Rattle.wire_json.specs.MatchText.{match_text}
 use Rattle.wire_json.specs.ReasonText.{reason_text}
 use Rattle.wire_json.specs.ServerText.{server_members}
-use Rattle.wire_json.specs.ServerReading.{ServerFits, IsServerForm, reason_table, reason_from, reason_in, tree_in, protocol_in, synced_in, update_in, change_in, ok_in, no_in, again_in, refused_in, bye_in, answer_as, server_as, server_in, server_read}
+use Rattle.wire_json.specs.ServerReading.{ServerFits, IsServerForm, reason_table, reason_from, reason_in, protocol_in, synced_in, update_in, ok_in, no_in, again_in, answer_as, server_as, server_in, server_read}
 use Rattle.wire_json.specs.Refusals.{Refusal, ExtraField, UnknownMessage, Gives, of_line}
 use Rattle.wire_json.specs.declared.wire_no.WireNo.{WireNo}
 use Rattle.wire_json.specs.declared.protocol.Protocol.{Protocol}
@@ -234,7 +234,7 @@ server_is ms m c e = server_by (text_in (get_member (codes "type") ms)) ms m c r
 
 server_again : (m : ServerMsg) → ServerFits m → server_in (object (server_members m)) ≡ Ok m
 unfolding server_in synced_in update_in ok_in no_in again_in
-server_again to_client.Games h = games_again
+server_again (to_client.Games names) h = games_again names h
 server_again (to_client.Matches rows) h = matches_again rows h
 server_again (to_client.Match row) h = match_again row h
 server_again (to_client.Created name) h = created_again name h

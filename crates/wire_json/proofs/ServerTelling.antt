@@ -2,7 +2,7 @@
 use Rattle.std.proofs.Common.{◌≡◌, ◌≤◌, ◌<◌, ◌^◌, ◌-◌, ℕ, List, true, false, Option, None, Some, Ok, Err, IsUtf8, codes, refl, sym, ap, ◌∙◌, subst, arith}
 use Rattle.std.specs.Prelude.{Result, OnOk}
 use Rattle.json.proofs.Printed.Utf8.{are_ascii, IsUtf8-are_ascii}
-use Rattle.serde_json.specs.Data.{Data, string, array, object, member, no_members, depth}
+use Rattle.serde_json.specs.Data.{Data, string, array, member, no_members, depth}
 use Rattle.serde_json.specs.Read.{max_depth, read}
 use Rattle.serde_json.specs.Written.{compact_text, has_float}
 use Rattle.game_sheet.specs.MatchName.{Name}
@@ -14,7 +14,7 @@ use Rattle.json_tree.specs.Writable.{IsWritable, ItemsAreWritable}
 use Rattle.sheet_json.specs.Seats.{natural, natural_or_null, IsWithin}
 use Rattle.wire_json.specs.MatchText.{match_text, IsName}
 use Rattle.wire_json.specs.RowText.{row_data, rows_data}
-use Rattle.wire_json.specs.ServerText.{field_or_null, game_names, names_data, parts_data, place_members, server_members}
+use Rattle.wire_json.specs.ServerText.{field_or_null, names_data, parts_data, place_members, server_members}
 use Rattle.wire_json.specs.declared.match_row.MatchRow.{MatchRow}
 use Rattle.wire_json.specs.declared.protocol.Protocol.{Protocol}
 use Rattle.wire_json.specs.declared.protocol.Protocol.TheVariants.{One, Two}
@@ -48,23 +48,8 @@ name_told name h = written (string (match_text name)) (match_utf8 name h)
 
 -- ---- the lobby
 
-pub games_told : AreTold (server_members to_client.Games)
-games_told = (written (array (names_data game_names)) six_names, (word (codes "games") refl, tt))
-  where
-    plain : (s : List ℕ) → are_ascii s ≡ true → IsUtf8 s
-    plain s h = IsUtf8-are_ascii s h
-
-    six_names : ItemsAreWritable (names_data game_names)
-    six_names = (
-      plain (codes "blind-bid") refl,
-      (
-        plain (codes "captions") refl,
-        (
-          plain (codes "countdown") refl,
-          (plain (codes "high-hand") refl, (plain (codes "pig") refl, (plain (codes "tic-tac-toe") refl, tt))),
-        ),
-      ),
-    )
+pub games_told : (names : List (List ℕ)) → ItemsAreWritable (names_data names) → AreTold (server_members (to_client.Games names))
+games_told names h = (written (array (names_data names)) h, (word (codes "games") refl, tt))
 
 pub matches_told : (rows : List MatchRow) → ItemsAreWritable (rows_data rows) → AreTold (server_members (to_client.Matches rows))
 matches_told rows h = (written (array (rows_data rows)) h, (word (codes "matches") refl, tt))
@@ -120,7 +105,7 @@ bye_told why = (word (codes "bye") refl, (word _ (bye_ascii why), tt))
 -- ---- any message
 
 pub names_rise : (m : ServerMsg) → has_row_names (server_members m) ≡ true
-names_rise to_client.Games = refl
+names_rise (to_client.Games names) = refl
 names_rise (to_client.Matches rows) = refl
 names_rise (to_client.Match row) = refl
 names_rise (to_client.Created name) = refl

@@ -1,5 +1,5 @@
 -- What is written for a message to a client is a form of the message, with its newline and without.
-use Rattle.std.proofs.Common.{◌≡◌, ◌≤◌, ◌++◌, ◌∙◌}
+use Rattle.std.proofs.Common.{◌≤◌, ◌++◌, ◌∙◌}
 use Rattle.std.proofs.lemmas.Str.{IsUtf8-append}
 use Rattle.serde_json.specs.Data.{object, depth}
 use Rattle.serde_json.specs.Read.{max_depth}

@@ -1,9 +1,9 @@
 -- The act that the member `act` holds, in one of its forms; none where it is in no form.
-use Rattle.std.specs.Prelude.{ℕ, List, [], ◌∷◌, length, ◌&&◌, nat_le, if◌then◌else◌, codes, Option, Some, None, option_map, option_and_then, Result, Ok, Err}
+use Rattle.std.specs.Prelude.{ℕ, List, [], ◌∷◌, length, Bool, ◌&&◌, nat_le, if◌then◌else◌, codes, Option, Some, None, is_some, option_map, option_and_then, Result, Ok, Err}
 use Rattle.std.specs.Result.{result_ok}
 use Rattle.std.specs.Str.{bytes_eq}
-use Rattle.serde_json.specs.Data.{Data, null, boolean, number, string, array, object}
-use Rattle.serde_json.specs.Find.{get}
+use Rattle.serde_json.specs.Data.{Data}
+use Rattle.serde_json.specs.Find.{get, as_object}
 use Rattle.json_tree.specs.Fields.{text_in, list_in, natural_in}
 use Rattle.json_tree.specs.Names.{extra_in}
 use Rattle.json_tree.specs.Steps.{◌>>=◌}
@@ -72,11 +72,12 @@ abbrev pub in_form : {A : Type 0} → Option A → Result A FieldFault
 in_form None = Err OutOfRange
 in_form (Some x) = Ok x
 
+abbrev pub is_object : Data → Bool
+is_object d = is_some (as_object d)
+
+abbrev pub object_member_in : Option Data → Result Data FieldFault
+object_member_in None = Err Missing
+object_member_in (Some d) = if is_object d then Ok d else Err WrongKind
+
 abbrev pub act_in : Option Data → Result Asked FieldFault
-act_in None = Err Missing
-act_in (Some null) = Err WrongKind
-act_in (Some (boolean b)) = Err WrongKind
-act_in (Some (number n)) = Err WrongKind
-act_in (Some (string s)) = Err WrongKind
-act_in (Some (array ds)) = Err WrongKind
-act_in (Some (object ms)) = in_form (asked_in (object ms))
+act_in found = object_member_in found >>= λ d. in_form (asked_in d)

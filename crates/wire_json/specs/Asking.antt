@@ -34,22 +34,12 @@ IsWord name = (1 ≤ length name) × (length name ≤ 32)
 abbrev pub MayAim : EventKind → AskedTo → Type 0
 MayAim EndTurn Nothing = Unit {0}
 MayAim EndTurn (Seat seat) = seat ≤ 255
-MayAim EndTurn (Name name) = ⊥
 MayAim EndPhase Nothing = Unit {0}
-MayAim EndPhase (Seat seat) = ⊥
-MayAim EndPhase (Name name) = ⊥
-MayAim SetPhase Nothing = ⊥
-MayAim SetPhase (Seat seat) = ⊥
 MayAim SetPhase (Name name) = IsWord name
 MayAim EndStage Nothing = Unit {0}
-MayAim EndStage (Seat seat) = ⊥
-MayAim EndStage (Name name) = ⊥
-MayAim SetStage Nothing = ⊥
-MayAim SetStage (Seat seat) = ⊥
 MayAim SetStage (Name name) = IsWord name
 MayAim EndGame Nothing = Unit {0}
-MayAim EndGame (Seat seat) = ⊥
-MayAim EndGame (Name name) = ⊥
+MayAim kind to = ⊥
 
 abbrev pub AskedFits : Asked → Type 0
 AskedFits (Move name args) = IsWord name × AreArguments args

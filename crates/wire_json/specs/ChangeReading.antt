@@ -1,13 +1,13 @@
 -- How what a change says of the context and of the state is read: objects, and a list of the names that are gone.
-use Rattle.std.specs.Prelude.{◌≡◌, ◌≤◌, ◌+◌, ◌==◌, ◌&&◌, ℕ, List, [], ◌∷◌, Bool, true, false, nat_le, if◌then◌else◌, is_some, codes, Option, Some, None, option_map, option_and_then, Result, Ok, Err}
+use Rattle.std.specs.Prelude.{◌+◌, ◌==◌, ◌&&◌, ℕ, [], ◌∷◌, Bool, true, false, nat_le, if◌then◌else◌, is_some, codes, Option, Some, None, option_map, option_and_then, Result, Ok, Err}
 use Rattle.serde_json.specs.Data.{Data, null, boolean, number, string, array, object, Items, no_items, item}
-use Rattle.serde_json.specs.Find.{get, as_str, as_object}
+use Rattle.serde_json.specs.Find.{get, as_str}
 use Rattle.json_tree.specs.Fields.{natural_in}
 use Rattle.json_tree.specs.Names.{extra_in}
 use Rattle.json_tree.specs.Steps.{◌>>=◌}
 use Rattle.json_tree.specs.declared.fields.FieldFault.{FieldFault}
-use Rattle.json_tree.specs.declared.fields.FieldFault.TheVariants.{Missing, WrongKind, OutOfRange}
-use Rattle.wire_json.specs.Acts.{in_form}
+use Rattle.json_tree.specs.declared.fields.FieldFault.TheVariants.{OutOfRange}
+use Rattle.wire_json.specs.Acts.{in_form, is_object, object_member_in}
 
 abbrev pub are_texts : Items → Bool
 are_texts no_items = true
@@ -21,17 +21,10 @@ is_texts (string s) = false
 is_texts (array ds) = are_texts ds
 is_texts (object ms) = false
 
-abbrev pub is_object : Data → Bool
-is_object d = is_some (as_object d)
-
 -- the value, where the test holds
 abbrev pub if_holds : (Data → Bool) → Option Data → Option Data
 if_holds test None = None
 if_holds test (Some d) = if test d then Some d else None
-
-abbrev pub object_member_in : Option Data → Result Data FieldFault
-object_member_in None = Err Missing
-object_member_in (Some d) = if is_object d then Ok d else Err WrongKind
 
 -- the names that are gone, and the members that are put
 unfoldable pub parts_of : Data → Option (Data × Data)

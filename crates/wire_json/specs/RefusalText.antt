@@ -1,6 +1,6 @@
 -- A refused request on the wire: the word of its reason, and the member of the line that it points at. Only the refusal of a line
 -- that is no message points at one, by its name, by `type`, or by `*` for a member that the message doesn't have.
-use Rattle.std.specs.Prelude.{ℕ, List, [], ◌∷◌, codes, Option, Some, None, option_map, IsSome}
+use Rattle.std.specs.Prelude.{ℕ, List, [], ◌∷◌, map, codes, Option, Some, None, option_map, IsSome}
 use Rattle.std.specs.Map.{lookup}
 use Rattle.std.specs.Str.{bytes_eq}
 use Rattle.wire_json.specs.declared.refusal.Member.{Member}
@@ -26,8 +26,7 @@ member_text Ticket = codes "ticket"
 
 abbrev pub member_table : List (List ℕ × Member)
 member_table =
-    (codes "*", Extra) ∷ (codes "type", Kind) ∷ (codes "act", Act) ∷ (codes "game", Game) ∷ (codes "key", Key) ∷ (codes "match", Match)
-    ∷ (codes "name", Name) ∷ (codes "number", Number) ∷ (codes "protocol", Protocol) ∷ (codes "seat", Seat) ∷ (codes "seats", Seats) ∷ (codes "ticket", Ticket) ∷ []
+    map (λ member. (member_text member, member)) (Extra ∷ Kind ∷ Act ∷ Game ∷ Key ∷ Match ∷ Name ∷ Number ∷ Protocol ∷ Seat ∷ Seats ∷ Ticket ∷ [])
 
 abbrev pub member_from : List ℕ → Option Member
 member_from s = lookup (bytes_eq s) member_table
@@ -49,25 +48,12 @@ refusal_text NotABot = codes "not-a-bot"
 
 abbrev pub refusal_field : Refusal → Option Member
 refusal_field (BadMessage field) = field
-refusal_field NoGame = None
-refusal_field Full = None
-refusal_field BadSeats = None
-refusal_field NoStart = None
-refusal_field NoMatch = None
-refusal_field SeatTaken = None
-refusal_field NoSeat = None
-refusal_field BadName = None
-refusal_field Unauthorized = None
-refusal_field AlreadyAttached = None
-refusal_field NotAttached = None
-refusal_field NotABot = None
+refusal_field other = None
 
 abbrev pub refusal_table : List (List ℕ × Refusal)
 refusal_table =
-    (codes "bad-message", BadMessage None) ∷ (codes "no-game", NoGame) ∷ (codes "full", Full) ∷ (codes "bad-seats", BadSeats)
-    ∷ (codes "no-start", NoStart) ∷ (codes "no-match", NoMatch) ∷ (codes "seat-taken", SeatTaken) ∷ (codes "no-seat", NoSeat)
-    ∷ (codes "bad-name", BadName) ∷ (codes "unauthorized", Unauthorized) ∷ (codes "already-attached", AlreadyAttached)
-    ∷ (codes "not-attached", NotAttached) ∷ (codes "not-a-bot", NotABot) ∷ []
+    map (λ refusal. (refusal_text refusal, refusal))
+    (BadMessage None ∷ NoGame ∷ Full ∷ BadSeats ∷ NoStart ∷ NoMatch ∷ SeatTaken ∷ NoSeat ∷ BadName ∷ Unauthorized ∷ AlreadyAttached ∷ NotAttached ∷ NotABot ∷ [])
 
 -- the refusal of a word, pointing at nothing
 abbrev pub refusal_from : List ℕ → Option Refusal
@@ -80,18 +66,7 @@ unpointed refusal (Some field) = None
 -- the refusal pointing at this, where it can
 abbrev pub with_field : Refusal → Option Member → Option Refusal
 with_field (BadMessage old) field = Some (BadMessage field)
-with_field NoGame field = unpointed NoGame field
-with_field Full field = unpointed Full field
-with_field BadSeats field = unpointed BadSeats field
-with_field NoStart field = unpointed NoStart field
-with_field NoMatch field = unpointed NoMatch field
-with_field SeatTaken field = unpointed SeatTaken field
-with_field NoSeat field = unpointed NoSeat field
-with_field BadName field = unpointed BadName field
-with_field Unauthorized field = unpointed Unauthorized field
-with_field AlreadyAttached field = unpointed AlreadyAttached field
-with_field NotAttached field = unpointed NotAttached field
-with_field NotABot field = unpointed NotABot field
+with_field other field = unpointed other field
 
 -- the refusal of a line for its first fault
 abbrev pub refusal_of : WireNo → Option Refusal

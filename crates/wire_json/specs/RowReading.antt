@@ -1,27 +1,22 @@
 -- How a match's row is read.
-use Rattle.std.specs.Prelude.{ℕ, List, [], ◌∷◌, Bool, if◌then◌else◌, codes, Option, Some, None, option_map, option_and_then, Result, Ok, Err}
+use Rattle.std.specs.Prelude.{List, [], ◌∷◌, Bool, if◌then◌else◌, codes, Option, Some, None, option_map, option_and_then, ok_or, Result, Ok, Err}
 use Rattle.std.specs.Result.{result_ok}
-use Rattle.serde_json.specs.Data.{Data, null, boolean, number, string, array, object, Items, no_items, item}
-use Rattle.serde_json.specs.Find.{get}
+use Rattle.serde_json.specs.Data.{Data, Items, no_items, item}
+use Rattle.serde_json.specs.Find.{get, as_bool}
 use Rattle.json_tree.specs.Fields.{list_in, natural_in}
 use Rattle.json_tree.specs.Names.{extra_in}
 use Rattle.json_tree.specs.Steps.{◌>>=◌}
 use Rattle.json_tree.specs.declared.fields.FieldFault.{FieldFault}
 use Rattle.json_tree.specs.declared.fields.FieldFault.TheVariants.{Missing, WrongKind, OutOfRange}
 use Rattle.sheet_json.specs.Seats.{or_null}
-use Rattle.wire_json.specs.Acts.{in_form, text_within}
+use Rattle.wire_json.specs.Acts.{in_form, object_member_in, text_within}
 use Rattle.wire_json.specs.ClientReading.{match_in}
 use Rattle.wire_json.specs.RowText.{Player}
 use Rattle.wire_json.specs.declared.match_row.MatchRow.{MatchRow}
 
 abbrev pub boolean_in : Option Data → Result Bool FieldFault
 boolean_in None = Err Missing
-boolean_in (Some null) = Err WrongKind
-boolean_in (Some (boolean b)) = Ok b
-boolean_in (Some (number n)) = Err WrongKind
-boolean_in (Some (string s)) = Err WrongKind
-boolean_in (Some (array ds)) = Err WrongKind
-boolean_in (Some (object ms)) = Err WrongKind
+boolean_in (Some d) = ok_or (as_bool d) WrongKind
 
 unfoldable pub player_in : Data → Result Player FieldFault
 player_in d =
@@ -54,13 +49,7 @@ rows_from (item d ds) = option_and_then (λ row. option_map (λ rest. row ∷ re
 
 -- a row that is in no form is out of range, whatever the fault in it
 abbrev pub row_in : Option Data → Result MatchRow FieldFault
-row_in None = Err Missing
-row_in (Some null) = Err WrongKind
-row_in (Some (boolean b)) = Err WrongKind
-row_in (Some (number n)) = Err WrongKind
-row_in (Some (string s)) = Err WrongKind
-row_in (Some (array ds)) = Err WrongKind
-row_in (Some (object ms)) = in_form (result_ok (row_from (object ms)))
+row_in found = object_member_in found >>= λ d. in_form (result_ok (row_from d))
 
 abbrev pub rows_in : Option Data → Result (List MatchRow) FieldFault
 rows_in found = list_in found >>= λ ds. in_form (rows_from ds)

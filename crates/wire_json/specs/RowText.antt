@@ -38,6 +38,9 @@ rows_data rows = items_of (map row_data rows)
 
 -- ---- forms: a game's name has 1 to 32 bytes, a player's at most 255
 
+abbrev pub IsGameName : List ℕ → Type 0
+IsGameName s = (1 ≤ length s) × (length s ≤ 32)
+
 abbrev pub IsShortName : Option (List ℕ) → Type 0
 IsShortName None = Unit {0}
 IsShortName (Some s) = length s ≤ 255

@@ -1,10 +1,10 @@
 -- How a line to a client is read: the message, or the first fault.
-use Rattle.std.specs.Prelude.{◌≡◌, ◌≤◌, ◌&&◌, ℕ, List, [], ◌∷◌, Bool, true, false, nat_le, if◌then◌else◌, codes, Option, Some, None, Result, Ok, Err}
+use Rattle.std.specs.Prelude.{◌≡◌, ◌≤◌, ℕ, List, [], ◌∷◌, map, true, nat_le, if◌then◌else◌, codes, option_and_then, option_map, Option, Some, None, Result, Ok, Err}
 use Rattle.std.specs.List.{AllByRecursion}
 use Rattle.std.specs.Map.{lookup}
 use Rattle.std.specs.Str.{bytes_eq}
 use Rattle.serde_json.specs.Data.{Data, object, Items, no_items, item}
-use Rattle.serde_json.specs.Find.{get, as_str}
+use Rattle.serde_json.specs.Find.{get}
 use Rattle.json_tree.specs.Fields.{text_in, list_in, natural_in}
 use Rattle.json_tree.specs.Lines.{IsTextOf, text_read}
 use Rattle.json_tree.specs.Names.{extra_in}
@@ -12,19 +12,20 @@ use Rattle.json_tree.specs.Steps.{◌>>=◌}
 use Rattle.json_tree.specs.declared.fields.FieldFault.{FieldFault}
 use Rattle.json_tree.specs.declared.fields.FieldFault.TheVariants.{Missing, OutOfRange}
 use Rattle.game_sheet.specs.declared.act.Bye.{Bye}
-use Rattle.wire_json.specs.Acts.{in_form}
+use Rattle.wire_json.specs.Acts.{in_form, is_object, object_member_in, word_in}
 use Rattle.wire_json.specs.ByeText.{bye_from}
 use Rattle.sheet_json.specs.Seats.{IsWithin, or_null}
 use Rattle.game_sheet.specs.MatchName.{Name}
-use Rattle.wire_json.specs.ChangeReading.{is_object, is_texts, object_member_in, parts_in, later_in, before_in}
+use Rattle.wire_json.specs.ChangeReading.{is_texts, parts_in, later_in, before_in}
 use Rattle.wire_json.specs.ClientReading.{match_in, key_in}
 use Rattle.wire_json.specs.KeyText.{IsKey}
 use Rattle.wire_json.specs.MatchText.{IsName}
+use Rattle.wire_json.specs.ReasonText.{reason_text}
 use Rattle.wire_json.specs.Refusals.{Refusal, UnknownMessage, ExtraField, at_field, of_line}
 use Rattle.wire_json.specs.RefusalText.{member_from, refusal_from, with_field}
 use Rattle.wire_json.specs.RowReading.{row_in, rows_in}
-use Rattle.wire_json.specs.RowText.{IsRow}
-use Rattle.wire_json.specs.ServerText.{game_names, server_members}
+use Rattle.wire_json.specs.RowText.{IsGameName, IsRow}
+use Rattle.wire_json.specs.ServerText.{server_members}
 use Rattle.wire_json.specs.declared.protocol.Protocol.{Protocol}
 use Rattle.wire_json.specs.declared.protocol.Protocol.TheVariants as protocol
 use Rattle.wire_json.specs.declared.reason.Reason.{Reason}
@@ -34,8 +35,9 @@ use Rattle.wire_json.specs.declared.refusal.Refusal as refused
 use Rattle.wire_json.specs.declared.server.ServerMsg.{ServerMsg}
 use Rattle.wire_json.specs.declared.server.ServerMsg.TheVariants as to_client
 
--- what a message's own type doesn't keep: the forms of names in rows, and of what a change says
+-- what a message's own type doesn't keep: the forms of games' names, of names in rows, and of what a change says
 abbrev pub IsTellable : ServerMsg → Type 0
+IsTellable (to_client.Games names) = AllByRecursion IsGameName names
 IsTellable (to_client.Matches rows) = AllByRecursion IsRow rows
 IsTellable (to_client.Match row) = IsRow row
 IsTellable (to_client.Change ctx entry gone put at) = (is_object ctx ≡ true) × (is_texts gone ≡ true) × (is_object put ≡ true) × (1 ≤ at)
@@ -43,7 +45,7 @@ IsTellable other = Unit {0}
 
 -- the members are in their forms; those that are values of others may be any
 abbrev pub ServerFits : ServerMsg → Type 0
-ServerFits to_client.Games = Unit {0}
+ServerFits (to_client.Games names) = AllByRecursion IsGameName names
 ServerFits (to_client.Matches rows) = AllByRecursion IsRow rows
 ServerFits (to_client.Match row) = IsRow row
 ServerFits (to_client.Created name) = IsName name
@@ -67,10 +69,9 @@ IsServerForm line message = IsTextOf line (server_members message) × ServerFits
 
 abbrev pub reason_table : List (List ℕ × Reason)
 reason_table =
-    (codes "no-match", NoMatch) ∷ (codes "unauthorized", Unauthorized) ∷ (codes "game-over", GameOver) ∷ (codes "match-full", MatchFull)
-    ∷ (codes "cannot-undo-now", CannotUndoNow) ∷ (codes "not-active", NotActive) ∷ (codes "unknown-move", UnknownMove) ∷ (codes "wrong-number", WrongNumber)
-    ∷ (codes "nothing-to-undo", NothingToUndo) ∷ (codes "nothing-to-redo", NothingToRedo) ∷ (codes "not-yours", NotYours) ∷ (codes "not-undoable", NotUndoable)
-    ∷ (codes "invalid-move", InvalidMove) ∷ (codes "too-early", TooEarly) ∷ (codes "too-many-words", TooManyWords) ∷ (codes "too-many-events", TooManyEvents) ∷ []
+    map (λ reason. (reason_text reason, reason))
+    (NoMatch ∷ Unauthorized ∷ GameOver ∷ MatchFull ∷ CannotUndoNow ∷ NotActive ∷ UnknownMove ∷ WrongNumber
+    ∷ NothingToUndo ∷ NothingToRedo ∷ NotYours ∷ NotUndoable ∷ InvalidMove ∷ TooEarly ∷ TooManyWords ∷ TooManyEvents ∷ [])
 
 abbrev pub reason_from : List ℕ → Option Reason
 reason_from s = lookup (bytes_eq s) reason_table
@@ -91,24 +92,21 @@ abbrev pub tree_in : Option Data → Result Data FieldFault
 tree_in None = Err Missing
 tree_in (Some d) = Ok d
 
-abbrev pub text_is : Option (List ℕ) → List ℕ → Bool
-text_is None name = false
-text_is (Some s) name = bytes_eq s name
+-- the names of games, each of 1 to 32 bytes
+abbrev pub names_from : Items → Option (List (List ℕ))
+names_from no_items = Some []
+names_from (item d ds) = option_and_then (λ name. option_map (λ rest. name ∷ rest) (names_from ds)) (word_in (Some d))
 
--- the items are these texts, in this order
-abbrev pub are_names : List (List ℕ) → Items → Bool
-are_names [] no_items = true
-are_names [] (item d ds) = false
-are_names (name ∷ names) no_items = false
-are_names (name ∷ names) (item d ds) = text_is (as_str d) name && are_names names ds
-
-abbrev pub games_member_in : Option Data → Result ServerMsg FieldFault
-games_member_in found = list_in found >>= λ ds. if are_names game_names ds then Ok to_client.Games else Err OutOfRange
+-- a list that holds anything else is out of range
+abbrev pub names_in : Option Data → Result (List (List ℕ)) FieldFault
+names_in found = list_in found >>= λ ds. in_form (names_from ds)
 
 unfoldable pub games_in : Data → Result ServerMsg Refusal
 games_in d =
     if extra_in (codes "games" ∷ codes "type" ∷ []) d then Err ExtraField
-    else at_field (codes "games") (games_member_in (get (codes "games") d))
+    else
+    (at_field (codes "games") (names_in (get (codes "games") d)) >>= λ names.
+    Ok (to_client.Games names))
 
 unfoldable pub matches_in : Data → Result ServerMsg Refusal
 matches_in d =

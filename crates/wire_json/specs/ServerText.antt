@@ -26,10 +26,6 @@ field_or_null (Some field) = string (member_text field)
 abbrev pub of_type : List ℕ → Members
 of_type name = member (codes "type") (string name) no_members
 
--- the games that are played here, in byte order
-abbrev pub game_names : List (List ℕ)
-game_names = codes "blind-bid" ∷ codes "captions" ∷ codes "countdown" ∷ codes "high-hand" ∷ codes "pig" ∷ codes "tic-tac-toe" ∷ []
-
 abbrev pub names_data : List (List ℕ) → Items
 names_data names = items_of (map string names)
 
@@ -75,7 +71,7 @@ from_reason reason ticket = member (codes "reason") (string (reason_text reason)
 
 -- the members of a message's object
 abbrev pub server_members : ServerMsg → Members
-server_members Games = member (codes "games") (array (names_data game_names)) (of_type (codes "games"))
+server_members (Games names) = member (codes "games") (array (names_data names)) (of_type (codes "games"))
 server_members (Matches rows) = member (codes "matches") (array (rows_data rows)) (of_type (codes "matches"))
 server_members (Match row) = member (codes "row") (row_data row) (of_type (codes "match"))
 server_members (Created name) = member (codes "match") (string (match_text name)) (of_type (codes "created"))

@@ -1,7 +1,7 @@
 //! Writes the answers to a session's requests into bytes.
 
 ghost use Rattle.std.specs.Prelude.{◌≡◌, ◌++◌, true, codes, OnOk, IsUtf8};
-ghost use Rattle.serde_json.specs.Data.{object, string};
+ghost use Rattle.serde_json.specs.Data.{array, object, string};
 ghost use Rattle.serde_json.specs.Written.{compact_text, members_text};
 ghost use Rattle.json_tree.specs.Lines.{newline};
 ghost use Rattle.json_tree.specs.Writable.{IsWritable, ItemsAreWritable};
@@ -10,23 +10,51 @@ ghost use Rattle.wire_json.specs.KeyText.{IsKey};
 ghost use Rattle.wire_json.specs.MatchText.{IsName};
 ghost use Rattle.wire_json.specs.RefusalText.{refusal_text};
 ghost use Rattle.wire_json.specs.RowText.{row_data, rows_data};
-ghost use Rattle.wire_json.specs.ServerText.{field_or_null, from_place, from_refusal, place_members, server_members, text as server_text};
+ghost use Rattle.wire_json.specs.ServerText.{field_or_null, from_place, from_refusal, names_data, place_members, server_members, text as server_text};
 ghost use Rattle.wire_json.specs.declared.server.ServerMsg.TheVariants as Message;
 
 use crate::match_row::MatchRow;
 use crate::put_member::{put_key, put_match, put_number, put_text};
 use crate::refusal::{Member, Refusal};
 use crate::row_put::{put_row, put_rows};
-use game_sheet::{Bye, Key, MatchName, NoMemory, Seat};
-use json_text::put_null;
+use game_sheet::{Bye, Key, MatchName, NoMemory, Seat, Text};
+use json_text::{put_comma, put_null};
 use std::alloc::Global;
 
-/// The line with the names of the games that are played here. It takes no memory.
-#[tactic(auto, using(crate::proofs::PlainWords::games_text))]
-pub fn games_line() -> &'static [u8]
-    ensures { result.now ≡ server_text Message.Games }
+/// Appends the line of the names of the games.
+#[tactic(auto, unfolding(crate::specs::ServerText::text))]
+pub fn put_games(alloc: Global, out: &mut Vec<u8>, names: &[Text]) -> Result<(), NoMemory>
+    ensures text { OnOk result (out.new.items ≡ out.old.items ++ server_text (Message.Games names.now)) }
+    ensures writable { OnOk result (ItemsAreWritable (names_data names.now)) }
 {
-    b"{\"games\":[\"blind-bid\",\"captions\",\"countdown\",\"high-hand\",\"pig\",\"tic-tac-toe\"],\"type\":\"games\"}\n"
+    put_games_object(alloc, out, names)?;
+    Ok(out.push(b'\n')?)
+}
+
+#[tactic(auto, unfolding(json::specs::Print::escape_byte))]
+fn put_games_object(alloc: Global, out: &mut Vec<u8>, names: &[Text]) -> Result<(), NoMemory>
+    ensures text { OnOk result (out.new.items ≡ out.old.items ++ compact_text (object (server_members (Message.Games names.now)))) }
+    ensures writable { OnOk result (ItemsAreWritable (names_data names.now)) }
+{
+    out.extend_from_slice(b"{\"games\":")?;
+    put_names(alloc, out, names)?;
+    out.extend_from_slice(b",\"type\":\"games\"}")?;
+    Ok(())
+}
+
+fn put_names(alloc: Global, out: &mut Vec<u8>, names: &[Text]) -> Result<(), NoMemory>
+    ensures text { OnOk result (out.new.items ≡ out.old.items ++ compact_text (array (names_data names.now))) }
+    ensures writable { OnOk result (ItemsAreWritable (names_data names.now)) }
+{
+    out.push(b'[')?;
+    let mut later = false;
+    for name in names {
+        put_comma(out, later)?;
+        put_text(alloc, out, name.as_str())?;
+        later = true;
+    }
+    out.push(b']')?;
+    Ok(())
 }
 
 /// The line that ends a session's stream. It takes no memory.

@@ -1,17 +1,18 @@
 //! Reads the answers to what a session asks of the lobby, one function for each row.
 
-ghost use Rattle.std.specs.Prelude.{◌≡◌, map};
-ghost use Rattle.serde_json.specs.Find.{get, as_str};
+ghost use Rattle.std.specs.Prelude.{◌≡◌, IfOk, Some};
+ghost use Rattle.serde_json.specs.Find.{get};
 ghost use Rattle.serde_json.specs.View.{view, items_view};
+ghost use Rattle.wire_json.specs.Acts.{word_in};
 ghost use Rattle.wire_json.specs.Refusals.{Gives, at_field};
-ghost use Rattle.wire_json.specs.ServerReading.{answer_as, are_names, text_is, games_member_in, games_in, matches_in, match_row_in, created_in, joined_in, place_in, placed};
+ghost use Rattle.wire_json.specs.ServerReading.{answer_as, names_from, names_in, games_in, matches_in, match_row_in, created_in, joined_in, place_in, placed};
 ghost use Rattle.wire_json.specs.declared.server.ServerMsg.TheVariants as Message;
 
 use crate::members::{at, key_at, match_at};
 use crate::row_read::{row_at, rows_at};
 use crate::server::ServerMsg;
 use crate::wire_no::WireNo;
-use game_sheet::{MatchName, Seat};
+use game_sheet::{List, MatchName, NoMemory, Seat, Text};
 use json_tree::{FieldFault, extra_field, list_of, natural_of};
 use serde_json::Value;
 use std::alloc::Global;
@@ -23,7 +24,7 @@ pub fn answer_of(alloc: Global, value: &Value, kind: &str) -> Result<ServerMsg, 
     match kind {
         "asked" => asked(value),
         "created" => created(value),
-        "games" => games(value),
+        "games" => games(alloc, value),
         "joined" => joined(value),
         "left" => left(value),
         "match" => match_row(alloc, value),
@@ -34,57 +35,58 @@ pub fn answer_of(alloc: Global, value: &Value, kind: &str) -> Result<ServerMsg, 
 }
 
 #[tactic(auto, unfolding(crate::specs::ServerReading::games_in))]
-fn games(value: &Value) -> Result<ServerMsg, WireNo>
+fn games(alloc: Global, value: &Value) -> Result<ServerMsg, WireNo>
     ensures { Gives result (games_in (view value.now)) }
 {
     if extra_field(value, &["games", "type"]) {
         return Err(WireNo::ExtraField);
     }
-    at("games", games_of(value, "games"))
-}
-
-fn games_of(value: &Value, name: &str) -> Result<ServerMsg, FieldFault>
-    ensures { result ≡ games_member_in (get name.now (view value.now)) }
-{
-    let items = list_of(value, name)?;
-    let names = [
-        "blind-bid",
-        "captions",
-        "countdown",
-        "high-hand",
-        "pig",
-        "tic-tac-toe",
-    ];
-    if are_texts(items, &names) {
-        Ok(ServerMsg::Games)
-    } else {
-        Err(FieldFault::OutOfRange)
+    match names_at(alloc, value, "games") {
+        Ok(names) => Ok(ServerMsg::Games(names)),
+        Err(no) => Err(no),
     }
 }
 
-// Whether the items are these texts, in this order.
-fn are_texts(items: &[Value], names: &[&str]) -> bool
-    ensures { result ≡ are_names (map (λ name. name.now) names.now) (items_view items.now) }
+// The names of the array that the member holds, or the member's fault.
+fn names_at(alloc: Global, value: &Value, name: &'static str) -> Result<List<Text>, WireNo>
+    ensures { Gives result (at_field name.now (names_in (get name.now (view value.now)))) }
 {
-    let mut rest = items;
-    for name in names {
-        let Some((item, others)) = rest.split_first() else {
-            return false;
+    let items = match list_of(value, name) {
+        Ok(items) => items,
+        Err(fault) => return Err(WireNo::Field { name, fault }),
+    };
+    match names_of(alloc, items) {
+        Ok(Some(names)) => Ok(names),
+        Ok(None) => Err(WireNo::Field {
+            name,
+            fault: FieldFault::OutOfRange,
+        }),
+        Err(_) => Err(WireNo::NoMemory),
+    }
+}
+
+fn names_of(alloc: Global, items: &[Value]) -> Result<Option<List<Text>>, NoMemory>
+    ensures { IfOk result (λ names. names ≡ names_from (items_view items.now)) }
+{
+    let mut names = List::new(alloc);
+    for item in items {
+        let Some(name) = name_of(alloc, item)? else {
+            return Ok(None);
         };
-        if !is_text(item, name) {
-            return false;
-        }
-        rest = others;
+        names.push(name)?;
     }
-    rest.is_empty()
+    Ok(Some(names))
 }
 
-fn is_text(item: &Value, name: &str) -> bool
-    ensures { result ≡ text_is (as_str (view item.now)) name.now }
+// The text of 1 to 32 bytes that the value is.
+fn name_of(alloc: Global, value: &Value) -> Result<Option<Text>, NoMemory>
+    ensures { IfOk result (λ name. name ≡ word_in (Some (view value.now))) }
 {
-    match item.as_str() {
-        Some(text) => text == name,
-        None => false,
+    match value.as_str() {
+        Some(text) if 1 <= text.len() && text.len() <= 32 => {
+            Ok(Some(Text::from_str(alloc, text)?))
+        }
+        _ => Ok(None),
     }
 }
 

@@ -5,7 +5,8 @@ ghost use Rattle.std.specs.Result.{result_map_both};
 ghost use Rattle.serde_json.specs.Find.{get};
 ghost use Rattle.serde_json.specs.View.{view, items_view};
 ghost use Rattle.serde_json.specs.Written.{has_float};
-ghost use Rattle.wire_json.specs.ChangeReading.{are_texts, is_texts, is_object, if_holds, object_member_in, parts_of, parts_in, later_in, before_in};
+ghost use Rattle.wire_json.specs.Acts.{is_object, object_member_in};
+ghost use Rattle.wire_json.specs.ChangeReading.{are_texts, is_texts, if_holds, parts_of, parts_in, later_in, before_in};
 ghost use Rattle.wire_json.specs.Refusals.{Gives, at_field};
 
 use crate::members::number_member_of;

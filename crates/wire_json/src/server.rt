@@ -4,14 +4,14 @@ use crate::match_row::MatchRow;
 use crate::protocol::Protocol;
 use crate::reason::Reason;
 use crate::refusal::Refusal;
-use game_sheet::{Bye, Key, List, MatchName, Number, Seat};
+use game_sheet::{Bye, Key, List, MatchName, Number, Seat, Text};
 use json_tree::Tree;
 
 /// A message to a client. The parts that a game or a sheet gives form to are JSON values.
 #[derive(Drop)]
 pub enum ServerMsg {
-    /// The names of the games that are played here.
-    Games,
+    /// The names of the games that are played here, each of 1 to 32 bytes.
+    Games(List<Text>),
     /// The matches of a game, in the order of their rooms.
     Matches(List<MatchRow>),
     /// The match that was looked at.

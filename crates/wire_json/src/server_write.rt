@@ -12,8 +12,8 @@ ghost use Rattle.wire_json.specs.ServerText.{place_members, server_members, text
 ghost use Rattle.wire_json.specs.declared.server.ServerMsg.TheVariants as Message;
 
 use crate::answer_put::{
-    bye_line, games_line, put_again, put_created, put_joined, put_match_row, put_matches,
-    put_place, put_refused,
+    bye_line, put_again, put_created, put_games, put_joined, put_match_row, put_matches, put_place,
+    put_refused,
 };
 use crate::match_row::MatchRow;
 use crate::protocol::Protocol;
@@ -21,7 +21,7 @@ use crate::reason::Reason;
 use crate::refusal::Refusal;
 use crate::server::ServerMsg;
 use crate::server_put::{put_change, put_no, put_ok, put_sync, put_update};
-use game_sheet::{Bye, Key, List, MatchName, NoMemory, Number, Seat};
+use game_sheet::{Bye, Key, List, MatchName, NoMemory, Number, Seat, Text};
 use json_tree::Tree;
 use std::alloc::Global;
 
@@ -45,7 +45,7 @@ fn put_message(alloc: Global, out: &mut Vec<u8>, message: &ServerMsg) -> Result<
     ensures fits { OnOk result (IsTellable message.now → ServerFits message.now) }
 {
     match message {
-        ServerMsg::Games => games(out),
+        ServerMsg::Games(names) => games(alloc, out, names),
         ServerMsg::Matches(rows) => matches(alloc, out, rows),
         ServerMsg::Match(row) => match_row(alloc, out, row),
         ServerMsg::Created { name } => created(alloc, out, name),
@@ -85,11 +85,11 @@ fn put_message(alloc: Global, out: &mut Vec<u8>, message: &ServerMsg) -> Result<
 }
 
 #[tactic(auto, using(crate::proofs::ServerTelling::games_told))]
-fn games(out: &mut Vec<u8>) -> Result<(), NoMemory>
-    ensures text { OnOk result (out.new.items ≡ out.old.items ++ server_text Message.Games) }
-    ensures told { OnOk result (AreTold (server_members Message.Games)) }
+fn games(alloc: Global, out: &mut Vec<u8>, names: &List<Text>) -> Result<(), NoMemory>
+    ensures text { OnOk result (out.new.items ≡ out.old.items ++ server_text (Message.Games names.now)) }
+    ensures told { OnOk result (AreTold (server_members (Message.Games names.now))) }
 {
-    Ok(out.extend_from_slice(games_line())?)
+    put_games(alloc, out, names.as_slice())
 }
 
 #[tactic(auto, using(crate::proofs::ServerTelling::matches_told))]

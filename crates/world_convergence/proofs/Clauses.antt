@@ -23,7 +23,7 @@ use Rattle.wire_json.specs.ServerReading.{server_read}
 use Rattle.wire_json.specs.declared.protocol.Protocol.{Protocol}
 use Rattle.wire_json.specs.declared.server.ServerMsg.TheVariants as message
 use Rattle.convergence.specs.Doing.{Face, KnowsWhere, face, ticket_in}
-use Rattle.convergence.specs.Following.{followed, has_sync, is_bye, told_lines}
+use Rattle.client_predict.specs.Following.{followed, has_sync, is_bye, told_lines}
 use Rattle.convergence.specs.Lines.{AllLines, IsShallow}
 use Rattle.convergence.specs.Seeing.{SeesAt}
 use Rattle.convergence.specs.Shallow.{StatesAreShallow}

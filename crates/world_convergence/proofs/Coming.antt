@@ -26,7 +26,7 @@ use Rattle.wire_json.specs.declared.submission.Submission.{Submission}
 use Rattle.game_hall.specs.Answers.{line_of}
 use Rattle.game_hall.specs.declared.answer.Answer.{Answer}
 use Rattle.game_hall.specs.declared.answer.Answer.TheVariants.{Again, Refused}
-use Rattle.convergence.specs.Following.{told_lines}
+use Rattle.client_predict.specs.Following.{told_lines}
 use Rattle.hall_history.specs.Hall.{Hall, after_line}
 use Rattle.hall_history.specs.Mark.{Mark}
 use Rattle.hall_history.specs.Placed.{IsPlaced, is_at}

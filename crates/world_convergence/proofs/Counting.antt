@@ -20,7 +20,7 @@ use Rattle.wire_json.specs.declared.reason.Reason.{Reason}
 use Rattle.wire_json.specs.declared.server.ServerMsg.{ServerMsg}
 use Rattle.wire_json.specs.declared.server.ServerMsg.TheVariants as to_client
 use Rattle.convergence.specs.Doing.{ticket_in}
-use Rattle.convergence.specs.Following.{is_bye, is_sync}
+use Rattle.client_predict.specs.Following.{is_bye, is_sync}
 use Rattle.convergence.specs.Lines.{AllLines, ReadsBack, as_read}
 use Rattle.convergence.proofs.Messages.{bye_reads}
 use Rattle.world_convergence.proofs.Entries.{one_if, submitted}

@@ -20,7 +20,7 @@ use Rattle.game_hall.specs.Answers.{line_of}
 use Rattle.game_hall.specs.declared.answer.Answer.{Answer}
 use Rattle.game_hall.specs.declared.answer.Answer.TheVariants.{Again, Refused}
 use Rattle.convergence.specs.Doing.{ticket_in}
-use Rattle.convergence.specs.Following.{is_told}
+use Rattle.client_predict.specs.Following.{is_told}
 use Rattle.world_convergence.proofs.Arriving.{IsActAnswer, IsPlainAnswer}
 use Rattle.world_convergence.proofs.Counting.{answers, count}
 use Rattle.world_convergence.proofs.Entries.{one_if}

@@ -16,7 +16,7 @@ use Rattle.room_history.proofs.Aside.{sent_aside}
 use Rattle.room_history.proofs.Clauses.{good_session}
 use Rattle.wire_json.specs.ServerReading.{server_read}
 use Rattle.convergence.specs.Doing.{IsLike, Reads}
-use Rattle.convergence.specs.Following.{followed, has_bye, is_bye, is_told, reads_all, told_lines}
+use Rattle.client_predict.specs.Following.{followed, has_bye, is_bye, is_told, reads_all, told_lines}
 use Rattle.convergence.specs.Shallow.{StatesAreShallow}
 use Rattle.convergence.proofs.Clauses.{are_shallow, goes_on}
 use Rattle.convergence.proofs.Grounds.{StaysSound}

@@ -41,7 +41,7 @@ use Rattle.wire_json.specs.declared.server.ServerMsg.{ServerMsg}
 use Rattle.wire_json.specs.declared.server.ServerMsg.TheVariants as message
 use Rattle.wire_json.proofs.ServerLaws.{server_read_is}
 use Rattle.convergence.specs.Doing.{Knows, ticket_in}
-use Rattle.convergence.specs.Following.{is_sync}
+use Rattle.client_predict.specs.Following.{is_sync}
 use Rattle.world_convergence.proofs.Counting.{answers}
 use Rattle.world_convergence.proofs.Entries.{one_if}
 
@@ -189,7 +189,7 @@ module _ {G : Type 0} (rules : Rules G) where
         unless (verdict c c.playing ticket (Refused ticket reason)) w.same (verdict_way (Ok (message.No number reason ticket)) ticket (Refused ticket reason) c.playing w refl refl)
     hears_way (message.Again ticket) w = unless (again c ticket) w.same (again_way ticket w)
     hears_way (message.Bye why) w = unless (ended c (Ended why)) w.same w.same
-    hears_way message.Games w = unless (only_told c Other) w.same w.same
+    hears_way (message.Games names) w = unless (only_told c Other) w.same w.same
     hears_way (message.Matches rows) w = unless (only_told c Other) w.same w.same
     hears_way (message.Match row) w = unless (only_told c Other) w.same w.same
     hears_way (message.Created name) w = unless (only_told c Other) w.same w.same
@@ -267,7 +267,7 @@ module _ {G : Type 0} (rules : Rules G) where
 
   hears_gone : (c : Client G) (m : ServerMsg) → c.gone ≡ true → IsUnread (Ok m) → (hears rules c m).client.gone ≡ true
   hears_gone c (message.Sync name seat protocol d) is u = ap (λ o. (synced c name seat o).client.gone) u
-  hears_gone c message.Games is u = gone_heard c _ is
+  hears_gone c (message.Games names) is u = gone_heard c _ is
   hears_gone c (message.Matches rows) is u = gone_heard c _ is
   hears_gone c (message.Match row) is u = gone_heard c _ is
   hears_gone c (message.Created name) is u = gone_heard c _ is
@@ -295,7 +295,7 @@ module _ {G : Type 0} (rules : Rules G) where
     where
       by : (read : Result ServerMsg Refusal) → server_read text ≡ read → IsUnread read
       by (Ok (message.Sync name seat protocol d)) e = unread name seat protocol d e
-      by (Ok message.Games) e = tt
+      by (Ok (message.Games names)) e = tt
       by (Ok (message.Matches rows)) e = tt
       by (Ok (message.Match row)) e = tt
       by (Ok (message.Created name)) e = tt
@@ -341,7 +341,7 @@ module _ {G : Type 0} (rules : Rules G) where
       one : (a b : ℕ) → Some a ≡ Some b → a ≡ b
       one a b h = cc
   number_fits text (message.Sync name seat protocol d) n e f = absurd (none_some n f)
-  number_fits text message.Games n e f = absurd (none_some n f)
+  number_fits text (message.Games names) n e f = absurd (none_some n f)
   number_fits text (message.Matches rows) n e f = absurd (none_some n f)
   number_fits text (message.Match row) n e f = absurd (none_some n f)
   number_fits text (message.Created name) n e f = absurd (none_some n f)

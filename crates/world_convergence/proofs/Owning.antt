@@ -22,7 +22,7 @@ use Rattle.wire_json.specs.declared.asked.Asked.{Asked}
 use Rattle.wire_json.specs.declared.client.ClientMsg.TheVariants as line
 use Rattle.wire_json.specs.declared.protocol.Protocol.{Protocol}
 use Rattle.convergence.specs.Doing.{face}
-use Rattle.convergence.specs.Following.{told_lines}
+use Rattle.client_predict.specs.Following.{told_lines}
 use Rattle.convergence.proofs.Likes.{like}
 use Rattle.convergence.proofs.Streams.{told_append}
 use Rattle.hall_history.specs.Freeing.{frees, frees_at, room_after}

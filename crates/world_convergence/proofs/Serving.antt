@@ -19,7 +19,7 @@ use Rattle.wire_json.specs.ClientReading.{client_read}
 use Rattle.game_hall.specs.Answers.{line_of}
 use Rattle.game_hall.specs.declared.answer.Answer.{Answer}
 use Rattle.convergence.specs.Doing.{IsLike, KnowsWhere, Reads}
-use Rattle.convergence.specs.Following.{reads_all, told_lines}
+use Rattle.client_predict.specs.Following.{reads_all, told_lines}
 use Rattle.convergence.specs.Shallow.{StatesAreShallow}
 use Rattle.convergence.proofs.Grounds.{StaysSound}
 use Rattle.convergence.proofs.Likes.{all_alike}

@@ -20,7 +20,7 @@ use Rattle.wire_json.specs.declared.server.ServerMsg.{ServerMsg}
 use Rattle.wire_json.specs.declared.server.ServerMsg.TheVariants as message
 use Rattle.convergence.specs.Calls.{CallsFit}
 use Rattle.convergence.specs.Doing.{IsLike, KnowsWhere, Reads, ticket_in}
-use Rattle.convergence.specs.Following.{followed, has_sync, is_sync, is_told, reads_all, told_lines}
+use Rattle.client_predict.specs.Following.{followed, has_sync, is_sync, is_told, reads_all, told_lines}
 use Rattle.convergence.specs.Lines.{AllLines, ReadsBack}
 use Rattle.convergence.specs.Shallow.{StatesAreShallow}
 use Rattle.convergence.proofs.Clauses.{are_shallow, reads_back}
@@ -63,7 +63,7 @@ no_true e = cc
 
 untold_sync : (r : Result ServerMsg Refusal) → is_told r ≡ false → is_sync r ≡ false
 untold_sync (Ok (message.Sync name seat protocol snapshot)) e = absurd (no_true e)
-untold_sync (Ok message.Games) e = refl
+untold_sync (Ok (message.Games names)) e = refl
 untold_sync (Ok (message.Matches rows)) e = refl
 untold_sync (Ok (message.Match row)) e = refl
 untold_sync (Ok (message.Created name)) e = refl

@@ -38,7 +38,7 @@ use Rattle.wire_json.specs.declared.reason.Reason.{Reason}
 use Rattle.wire_json.specs.declared.server.ServerMsg.{ServerMsg}
 use Rattle.wire_json.specs.declared.server.ServerMsg.TheVariants as message
 use Rattle.convergence.specs.Doing.{face}
-use Rattle.convergence.specs.Following.{is_told, reads_all, told_lines}
+use Rattle.client_predict.specs.Following.{is_told, reads_all, told_lines}
 use Rattle.convergence.specs.Grounded.{IsGrounded}
 use Rattle.convergence.specs.Lines.{as_read}
 use Rattle.convergence.specs.Shallow.{StatesAreShallow}
@@ -142,7 +142,7 @@ module _ {G : Type 0} (rules : Rules G) where
   -- what is passed over is no sync
   untold_unread : (r : Result ServerMsg Refusal) → is_told r ≡ false → readable r ≡ false
   untold_unread (Ok (message.Sync name seat protocol d)) e = absurd (no_true e)
-  untold_unread (Ok message.Games) e = refl
+  untold_unread (Ok (message.Games names)) e = refl
   untold_unread (Ok (message.Matches rows)) e = refl
   untold_unread (Ok (message.Match row)) e = refl
   untold_unread (Ok (message.Created name)) e = refl

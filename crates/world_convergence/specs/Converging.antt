@@ -17,7 +17,7 @@ use Rattle.wire_json.specs.ServerReading.{server_read}
 use Rattle.wire_json.specs.declared.protocol.Protocol.{Protocol}
 use Rattle.wire_json.specs.declared.server.ServerMsg.TheVariants.{Sync}
 use Rattle.convergence.specs.Doing.{KnowsWhere, ticket_in}
-use Rattle.convergence.specs.Following.{is_bye}
+use Rattle.client_predict.specs.Following.{is_bye}
 use Rattle.convergence.specs.Views.{view_at}
 use Rattle.hall_history.specs.Words.{of_client}
 use Rattle.hall_history.specs.World.{World}

@@ -19,7 +19,7 @@ ghost use Rattle.wire_json.specs.declared.protocol.Protocol.{Protocol as Told};
 ghost use Rattle.wire_json.specs.declared.server.ServerMsg.TheVariants.{Sync};
 ghost use Rattle.convergence.specs.Calls.{CallsFit};
 ghost use Rattle.convergence.specs.Doing.{KnowsWhere, ticket_in};
-ghost use Rattle.convergence.specs.Following.{is_bye};
+ghost use Rattle.client_predict.specs.Following.{is_bye};
 ghost use Rattle.convergence.specs.Shallow.{StatesAreShallow};
 ghost use Rattle.convergence.specs.Views.{view_at};
 ghost use Rattle.hall_history.specs.Mark.{Mark};
