@@ -123,17 +123,3 @@ fn other_actions_are_never_hidden(rt: HostRuntime) -> Result<(), Fail> {
     assert!(rt; !hidden);
     Ok(())
 }
-
-/// The numbers of an entry's copy: its seat, its state number, its turn and its words.
-fn copied(entry: Entry) -> [u32; 4] {
-    let copy = entry.copy();
-    drop(entry);
-    let numbers = [u32::from(copy.seat), copy.number, copy.turn, copy.words];
-    drop(copy);
-    numbers
-}
-
-#[test]
-fn a_copy_is_the_whole_entry(rt: HostRuntime) {
-    assert!(rt; copied(entry(of_forty(0))) == [3, 5, 1, 7]);
-}
