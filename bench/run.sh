@@ -36,8 +36,8 @@ row() {
 }
 
 row script program memory Node ratio
-while read -r boasts sessions every what; do
-  "$here/boasts.sh" "$boasts" "$sessions" "$every" >"$work/script"
+while read -r script first second third what; do
+  "$here/$script.sh" "$first" "$second" "$third" >"$work/script"
   play >"$work/output"
   spent=$(least seconds play)
   floor=- ratio=-
@@ -47,7 +47,8 @@ while read -r boasts sessions every what; do
   fi
   row "$what" "$spent s" "$(memory)" "$floor" "$ratio"
 done <<'ROWS'
-4096 8 1 eight sessions, a take after each action
-4096 32 64 thirty-two sessions, a take each 64 actions
-4096 1 4096 one session, one take at the end
+boasts 4096 8 1 eight sessions, a take after each action
+boasts 4096 32 64 thirty-two sessions, a take each 64 actions
+boasts 4096 1 4096 one session, one take at the end
+syncs 4096 31 - the same, and thirty-one syncs of its end
 ROWS

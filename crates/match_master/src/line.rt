@@ -95,9 +95,8 @@ pub fn shared_texts(
     ensures ctx { IfOk result (λ t. t.ctx.items ≡ compact_text (ctx_data sheet.now ctx.now)) }
     ensures entry { IfOk result (λ t. t.entry.items ≡ compact_text (entry_data sheet.now (redact sheet.now (Some entry.now.seat) entry.now))) }
 {
-    let own = entry.redacted(sheet, Some(entry.seat));
     let ctx = ctx_text(alloc, sheet, ctx)?;
-    let entry = entry_text(alloc, sheet, &own)?;
+    let entry = entry_text(alloc, sheet, entry, Some(entry.seat))?;
     Ok(SharedTexts { ctx, entry })
 }
 
@@ -120,11 +119,10 @@ pub fn update<X: Game>(
     ensures { IfOk result (λ l. l.items ≡ action_line (X.rules action.now.game.now) action.now.state.now action.now.prepared.now action.now.entry.now seat protocol) }
 {
     let sheet = action.game.sheet();
-    let shown = action.entry.redacted(sheet, seat);
-    if !shown.hidden {
+    if !action.entry.seen(sheet, seat).hidden {
         return told(alloc, action, seat, protocol, action.texts.entry.as_slice());
     }
-    let entry = entry_text(alloc, sheet, &shown)?;
+    let entry = entry_text(alloc, sheet, action.entry, seat)?;
     told(alloc, action, seat, protocol, entry.as_slice())
 }
 
@@ -342,12 +340,17 @@ fn seen_text<X: Game>(
     Ok(text)
 }
 
-/// The text of an entry of the log.
-fn entry_text(alloc: Global, sheet: &Sheet, entry: &Entry) -> Result<Vec<u8>, NoMemory>
-    ensures { IfOk result (λ t. t.items ≡ compact_text (entry_data sheet.now entry.now)) }
+/// The text of an entry of the log as a viewer sees it.
+fn entry_text(
+    alloc: Global,
+    sheet: &Sheet,
+    entry: &Entry,
+    viewer: Option<Seat>,
+) -> Result<Vec<u8>, NoMemory>
+    ensures { IfOk result (λ t. t.items ≡ compact_text (entry_data sheet.now (redact sheet.now viewer entry.now))) }
 {
     let mut text = Vec::with_capacity(alloc, PART)?;
-    put_entry(alloc, &mut text, sheet, entry)?;
+    put_entry(alloc, &mut text, sheet, entry, viewer)?;
     Ok(text)
 }
 

@@ -1,3 +1,4 @@
 pub mod KeptAct
+pub mod Outline
 pub mod Redact
 pub mod Way

@@ -1,8 +1,9 @@
 //! One entry of the log, whole and as a viewer sees it.
 
-ghost use Rattle.std.specs.Prelude.{◌≡◌};
+ghost use Rattle.std.specs.Prelude.{◌≡◌, false, option_map, slice_get, unwrap_or};
 
-use game_sheet::{Act, Args, Number, PhaseId, Seat, Sheet};
+use crate::outline::{Outline, Seen};
+use game_sheet::{Act, Arg, Args, MoveId, Number, PhaseId, Seat, Sheet};
 
 /// An accepted action of a match, with the state that it was made on.
 pub struct Entry {
@@ -38,22 +39,8 @@ impl Drop for Entry {
 }
 
 impl Entry {
+    ghost use Rattle.move_log.specs.Outline.{args_of, outline_of, seen};
     ghost use Rattle.move_log.specs.Redact.{conceals, without_args, redact};
-
-    /// An equal entry.
-    pub fn copy(&self) -> Entry
-        ensures { result ≡ self.now }
-    {
-        Entry {
-            seat: self.seat,
-            act: self.act.copy(),
-            hidden: self.hidden,
-            number: self.number,
-            turn: self.turn,
-            phase: self.phase,
-            words: self.words,
-        }
-    }
 
     /// The entry as a viewer sees it: a seat, or a spectator where there is none.
     ///
@@ -78,6 +65,41 @@ impl Entry {
         }
     }
 
+    /// What a viewer sees of the entry besides its arguments.
+    pub fn seen(&self, sheet: &Sheet, viewer: Option<Seat>) -> Seen
+        ensures { result ≡ seen sheet.now viewer self.now }
+    {
+        Seen {
+            seat: self.seat,
+            act: self.outline(),
+            hidden: self.hidden || self.is_concealed(sheet, viewer),
+            number: self.number,
+            turn: self.turn,
+            phase: self.phase,
+        }
+    }
+
+    /// The arguments of the action; an action that is no move has none.
+    pub fn args(&self) -> &[Arg]
+        ensures { result.now ≡ args_of self.now.act }
+    {
+        match &self.act {
+            Act::Move { args, .. } => args.as_slice(),
+            Act::Event(_) | Act::Undo | Act::Redo => &[],
+        }
+    }
+
+    fn outline(&self) -> Outline
+        ensures { result ≡ outline_of self.now.act }
+    {
+        match &self.act {
+            Act::Move { id, .. } => Outline::Move(*id),
+            Act::Event(event) => Outline::Event(*event),
+            Act::Undo => Outline::Undo,
+            Act::Redo => Outline::Redo,
+        }
+    }
+
     fn is_concealed(&self, sheet: &Sheet, viewer: Option<Seat>) -> bool
         ensures { result ≡ conceals sheet.now viewer self.now }
     {
@@ -85,10 +107,7 @@ impl Entry {
             return false;
         }
         match &self.act {
-            Act::Move { id, .. } => match sheet.moves.get(id.place() as usize) {
-                Some(row) => row.redact,
-                None => false,
-            },
+            Act::Move { id, .. } => hides_args(sheet, *id),
             Act::Event(_) => false,
             Act::Undo => false,
             Act::Redo => false,
@@ -107,5 +126,15 @@ impl Entry {
             Act::Undo => Act::Undo,
             Act::Redo => Act::Redo,
         }
+    }
+}
+
+/// Whether the sheet has the move's arguments hidden from all but its player.
+pub(crate) fn hides_args(sheet: &Sheet, id: MoveId) -> bool
+    ensures { result ≡ unwrap_or (option_map (λ row. row.redact) (slice_get sheet.now.moves id)) false }
+{
+    match sheet.moves.get(id.place() as usize) {
+        Some(row) => row.redact,
+        None => false,
     }
 }

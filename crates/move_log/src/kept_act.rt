@@ -1,10 +1,14 @@
 //! An action as a match keeps it, in its log and in its trail.
 
 ghost use Rattle.std.specs.Prelude.{◌≡◌, ◌≤◌, IfOk, length};
+ghost use Rattle.move_log.specs.Outline.{args_of, outline_of};
+ghost use Rattle.move_log.specs.Redact.{is_redacted};
 ghost use Rattle.move_log.specs.Way.{way_of};
 
+use crate::entry::hides_args;
+use crate::outline::Outline;
 use crate::way::Way;
-use game_sheet::{Act, Arg, Args, Event, MoveId, NoMemory};
+use game_sheet::{Act, Arg, Args, Event, MoveId, NoMemory, Sheet};
 use std::alloc::Global;
 use std::marker::Model;
 
@@ -73,6 +77,38 @@ impl KeptAct {
             Kept::Event(event) => Act::Event(*event),
             Kept::Undo => Act::Undo,
             Kept::Redo => Act::Redo,
+        }
+    }
+
+    /// The action without its arguments.
+    pub fn outline(&self) -> Outline
+        ensures { result ≡ outline_of self.now }
+    {
+        match &self.kept {
+            Kept::Move { id, .. } => Outline::Move(*id),
+            Kept::Event(event) => Outline::Event(*event),
+            Kept::Undo => Outline::Undo,
+            Kept::Redo => Outline::Redo,
+        }
+    }
+
+    /// The arguments of the action; one that is no move has none.
+    pub fn args(&self) -> &[Arg]
+        ensures { result.now ≡ args_of self.now }
+    {
+        match &self.kept {
+            Kept::Move { args, .. } => args.as_slice(),
+            Kept::Event(_) | Kept::Undo | Kept::Redo => &[],
+        }
+    }
+
+    /// Whether it is a move whose row on the sheet says `redact`.
+    pub(crate) fn is_redacted(&self, sheet: &Sheet) -> bool
+        ensures { result ≡ is_redacted sheet.now self.now }
+    {
+        match &self.kept {
+            Kept::Move { id, .. } => hides_args(sheet, *id),
+            Kept::Event(_) | Kept::Undo | Kept::Redo => false,
         }
     }
 

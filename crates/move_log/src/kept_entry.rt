@@ -4,7 +4,8 @@ ghost use Rattle.std.specs.Prelude.{◌≡◌, IfOk};
 
 use crate::entry::Entry;
 use crate::kept_act::KeptAct;
-use game_sheet::{NoMemory, Number, PhaseId, Seat, Sheet};
+use crate::outline::Seen;
+use game_sheet::{Arg, NoMemory, Number, PhaseId, Seat, Sheet};
 use std::alloc::Global;
 use std::marker::Model;
 
@@ -51,7 +52,8 @@ impl Model for KeptEntry {
 }
 
 impl KeptEntry {
-    ghost use Rattle.move_log.specs.Redact.{redact};
+    ghost use Rattle.move_log.specs.Outline.{args_of, seen};
+    ghost use Rattle.move_log.specs.Redact.{conceals};
 
     /// An equal entry, which is kept.
     pub fn of(alloc: Global, entry: &Entry) -> Result<Self, NoMemory>
@@ -68,25 +70,33 @@ impl KeptEntry {
         })
     }
 
-    /// An equal entry, with room for eight arguments.
-    pub fn entry(&self) -> Entry
-        ensures { result ≡ self.now }
+    /// What a viewer sees of the entry besides its arguments.
+    pub fn seen(&self, sheet: &Sheet, viewer: Option<Seat>) -> Seen
+        ensures { result ≡ seen sheet.now viewer self.now }
     {
-        Entry {
+        Seen {
             seat: self.seat,
-            act: self.act.act(),
-            hidden: self.hidden,
+            act: self.act.outline(),
+            hidden: self.hidden || self.is_concealed(sheet, viewer),
             number: self.number,
             turn: self.turn,
             phase: self.phase,
-            words: self.words,
         }
     }
 
-    /// The entry as a viewer sees it, as [`Entry::redacted`] says.
-    pub fn redacted(&self, sheet: &Sheet, viewer: Option<Seat>) -> Entry
-        ensures { result ≡ redact sheet.now viewer self.now }
+    /// The arguments of the action; an action that is no move has none.
+    pub fn args(&self) -> &[Arg]
+        ensures { result.now ≡ args_of self.now.act }
     {
-        self.entry().redacted(sheet, viewer)
+        self.act.args()
+    }
+
+    fn is_concealed(&self, sheet: &Sheet, viewer: Option<Seat>) -> bool
+        ensures { result ≡ conceals sheet.now viewer self.now }
+    {
+        if viewer == Some(self.seat) {
+            return false;
+        }
+        self.act.is_redacted(sheet)
     }
 }

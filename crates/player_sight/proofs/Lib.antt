@@ -4,3 +4,5 @@ pub mod MemberPut
 pub mod Changes
 pub mod ShownPlain
 pub mod RisingRows
+pub mod Unescaped
+pub mod SeenText

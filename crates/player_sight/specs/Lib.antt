@@ -8,3 +8,4 @@ pub mod Seen
 pub mod PlainSnapshot
 pub mod RowList
 pub mod Tails
+pub mod Unescaped

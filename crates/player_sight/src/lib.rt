@@ -10,6 +10,7 @@ mod parts;
 mod shown;
 mod snapshots;
 mod text_active;
+mod text_args;
 mod text_context;
 mod text_entry;
 mod text_parts;

@@ -19,7 +19,7 @@ use crate::members::put_number;
 use crate::shown::Snapshot;
 use game_sheet::{Ctx, List, NoMemory, Number, Seat, Sheet};
 use game_trait::Game;
-use move_log::{Entry, KeptEntry};
+use move_log::Entry;
 use serde_json::{Map, Value};
 use std::alloc::Global;
 
@@ -30,7 +30,7 @@ pub fn snapshot<X: Game>(
     number: Number,
     ctx: &Ctx,
     g: &X::G,
-    log: &[KeptEntry],
+    log: &[Entry],
     viewer: Option<Seat>,
 ) -> Result<Snapshot<X::G>, NoMemory>
     ensures value { IfOk result (λ s. s ≡ seen (X.rules game.now) number ctx.now g.now log.now viewer) }
@@ -51,7 +51,7 @@ pub fn snapshot<X: Game>(
 fn redacted_log(
     alloc: Global,
     sheet: &Sheet,
-    log: &[KeptEntry],
+    log: &[Entry],
     viewer: Option<Seat>,
 ) -> Result<List<Entry>, NoMemory>
     ensures { IfOk result (λ shown. shown ≡ map (redact sheet.now viewer) log.now) }

@@ -9,7 +9,7 @@ ghost use Rattle.player_sight.specs.SnapshotData.{snapshot_data};
 ghost use Rattle.player_sight.specs.Tails.{from_log};
 
 use crate::text_context::put_ctx;
-use crate::text_entry::put_entry;
+use crate::text_entry::put_kept;
 use game_sheet::{Ctx, NoMemory, Number, Seat, Sheet};
 use json_text::{put_comma, put_natural};
 use move_log::KeptEntry;
@@ -49,8 +49,7 @@ fn put_next(
         ++ (comma_if later ++ compact_text (entry_data sheet.now (redact sheet.now viewer entry.now)))) }
 {
     put_comma(out, later)?;
-    let shown = entry.redacted(sheet, viewer);
-    put_entry(alloc, out, sheet, &shown)
+    put_kept(alloc, out, sheet, entry, viewer)
 }
 
 /// Appends the text of what a viewer is shown of a match: the state number, the context, the viewer's part of the
