@@ -15,8 +15,8 @@ loop-worker-preserved g c =
       q.1,
       omega (arith, c.merge.ensures.parts, p.0.0, n, i.4),
       omega (arith, c.merge.ensures.amount, q.0.0, i.5),
-      omega (arith, c.merge-2.ensures.parts, p.0.1, n, i.6),
-      omega (arith, c.merge-2.ensures.amount, q.0.1, i.7),
+      omega (arith, c.merge-in-loop-worker.ensures.parts, p.0.1, n, i.6),
+      omega (arith, c.merge-in-loop-worker.ensures.amount, q.0.1, i.7),
       moved_over (λ w. w.passes) _ _ _ _ _ _ e c.push_reserved.ensures.items i.8,
       omega (arith, n, i.9, c.push_reserved.ensures.len, c.push_reserved.ensures.capacity),
     )
