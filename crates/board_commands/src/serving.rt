@@ -37,8 +37,8 @@ pub fn serve<D: Door + Send, K: Sink, R: Threads + Wait + Sync>(
 ) -> (Exit, D, Vec<Book<AnyGame>>)
 where
     D::L: Send,
-    requires fresh { (D.given door ≡ 0) × (D.out door ≡ 0) × (D.shut door ≡ false) }
-    ensures out { D.out result.1 ≡ 0 }
+    requires fresh { (D.given door ≡ 0) × (D.out door ≡ 0) × (D.bots_out door ≡ 0) × (D.shut door ≡ false) }
+    ensures out { (D.out result.1 ≡ 0) × (D.bots_out result.1 ≡ 0) }
     ensures sink_never_falls { K.faults sink.old ≤ K.faults sink.new }
     ensures usage { result.0 ≡ Usage → serve_from (map string_bytes words.now) ≡ None }
     ensures refused { serve_from (map string_bytes words.now) ≡ None → IsRefused result.0 × (result.2.items ≡ []) }
@@ -70,8 +70,8 @@ where
     D::L: Send,
     requires rooms { (0 < asked.rooms) × (asked.rooms ≤ 64) }
     requires workers { (0 < asked.workers) × (asked.workers ≤ 32) }
-    requires fresh { (D.given door ≡ 0) × (D.out door ≡ 0) × (D.shut door ≡ false) }
-    ensures out { D.out result.1 ≡ 0 }
+    requires fresh { (D.given door ≡ 0) × (D.out door ≡ 0) × (D.bots_out door ≡ 0) × (D.shut door ≡ false) }
+    ensures out { (D.out result.1 ≡ 0) × (D.bots_out result.1 ≡ 0) }
     ensures sink_never_falls { K.faults sink.old ≤ K.faults sink.new }
     ensures serves { Serves asked result.0 result.2.items (D.faults door) (D.left door) (D.shut result.1) (D.faults result.1) (D.given result.1)
         (K.faults sink.old) (K.faults sink.new) (K.held sink.old) (K.held sink.new) }

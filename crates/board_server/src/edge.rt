@@ -91,6 +91,7 @@ fn serve_at<R: Threads + Wait + Sync>(
 ) -> Exit
     requires given { ⟦<TcpDoor<HostRuntime> as Door>⟧.given door ≡ 0 }
     requires out { ⟦<TcpDoor<HostRuntime> as Door>⟧.out door ≡ 0 }
+    requires bots_out { ⟦<TcpDoor<HostRuntime> as Door>⟧.bots_out door ≡ 0 }
     requires shut { ⟦<TcpDoor<HostRuntime> as Door>⟧.shut door ≡ false }
 {
     match seed(rt) {

@@ -110,8 +110,8 @@ where
     D::L: Send,
     requires rooms { (0 < rooms) × (rooms ≤ 64) }
     requires workers { (0 < workers) × (workers ≤ 32) }
-    requires fresh { (D.given door ≡ 0) × (D.out door ≡ 0) × (D.shut door ≡ false) }
-    ensures out { D.out result.1 ≡ 0 }
+    requires fresh { (D.given door ≡ 0) × (D.out door ≡ 0) × (D.bots_out door ≡ 0) × (D.shut door ≡ false) }
+    ensures out { (D.out result.1 ≡ 0) × (D.bots_out result.1 ≡ 0) }
     ensures sink_never_falls { K.faults sink.old ≤ K.faults sink.new }
     ensures ended { EndsBy result.0 sessions (D.faults door) (D.left door) (D.shut result.1) (D.faults result.1) (D.given result.1) (K.faults sink.old) (K.faults sink.new) }
     ensures reports { IsSome (K.held sink.old) → Reports rooms (D.given result.1) result.2.items result.0 (told_bytes (K.held sink.old)) (K.held sink.new) }
@@ -139,8 +139,8 @@ where
     requires rooms { (0 < rooms) × (rooms ≤ 64) }
     requires workers { (0 < workers) × (workers ≤ 32) }
     requires spare { (spare.rooms ≡ rooms) × (spare.workers ≡ workers) }
-    requires fresh { (D.given door ≡ 0) × (D.out door ≡ 0) × (D.shut door ≡ false) }
-    ensures out { D.out result.1 ≡ 0 }
+    requires fresh { (D.given door ≡ 0) × (D.out door ≡ 0) × (D.bots_out door ≡ 0) × (D.shut door ≡ false) }
+    ensures out { (D.out result.1 ≡ 0) × (D.bots_out result.1 ≡ 0) }
     ensures sink_never_falls { K.faults sink.old ≤ K.faults sink.new }
     ensures ended { EndsBy result.0 sessions (D.faults door) (D.left door) (D.shut result.1) (D.faults result.1) (D.given result.1) (K.faults sink.old) (K.faults sink.new) }
     ensures reports { IsSome (K.held sink.old) → Reports rooms (D.given result.1) result.2.items result.0 (told_bytes (K.held sink.old)) (K.held sink.new) }
@@ -174,8 +174,8 @@ where
     requires counts { All (λ d. d.passes ≡ spare.workers) desks.items }
     requires belong { All (λ p. Belong desks.items (number_of p.items) p.items) rows.items }
     requires free { All (λ p. AttachedBy p.items None) rows.items }
-    requires fresh { (D.given door ≡ 0) × (D.out door ≡ 0) × (D.shut door ≡ false) }
-    ensures out { D.out result.1 ≡ 0 }
+    requires fresh { (D.given door ≡ 0) × (D.out door ≡ 0) × (D.bots_out door ≡ 0) × (D.shut door ≡ false) }
+    ensures out { (D.out result.1 ≡ 0) × (D.bots_out result.1 ≡ 0) }
     ensures sink_never_falls { K.faults sink.old ≤ K.faults sink.new }
     ensures ended { EndsBy result.0 sessions (D.faults door) (D.left door) (D.shut result.1) (D.faults result.1) (D.given result.1) (K.faults sink.old) (K.faults sink.new) }
     ensures reports { IsSome (K.held sink.old) → Reports spare.rooms (D.given result.1) result.2.items result.0 (told_bytes (K.held sink.old)) (K.held sink.new) }

@@ -1,10 +1,16 @@
 -- What holds of each worker of a list, as the list is gone through and handed to threads.
-use Rattle.std.proofs.Common.{◌≡◌, ◌<◌, ◌+◌, refl, ℕ, zero, List, [], ◌∷◌, ◌++◌, map, length, ap, sym, ◌∙◌, subst, arith, slice_index_or}
+use Rattle.std.proofs.Common.{◌≡◌, ◌<◌, ◌+◌, refl, ℕ, zero, Bool, true, false, List, [], ◌∷◌, ◌++◌, map, length, ap, sym, ◌∙◌, subst, arith, slice_index_or}
 use Rattle.std.specs.Prelude.{All, suc, take, drop}
 use Rattle.std.proofs.lemmas.List.{take_at, append_assoc, length-map, get_or-map, map-append}
 use Rattle.std.proofs.lemmas.List.Elements.{All-append}
+use Rattle.board_links.specs.Doors.{IsOut, one_bot, one_other}
 use Rattle.dice_words.specs.Strip.{Strip, live}
 use Rattle.session_pool.specs.Workers.{first_words}
+
+-- a link of this sort is out where its worker has it and no other
+pub out_by : (bot : Bool) (bots others : ℕ) → bots ≡ one_bot bot → others ≡ one_other bot → IsOut bot bots others
+out_by true bots others b o = omega (arith, b)
+out_by false bots others b o = omega (arith, o)
 
 pub all_next : {X : Type 0} (P : X → Type 0) (xs ys : List X) (x : X) → xs ≡ x ∷ ys → All P xs → P x × All P ys
 all_next P xs ys x e all =

@@ -1,12 +1,18 @@
 -- What is known of a door under its lock, and how its serving ends.
-use Rattle.std.specs.Prelude.{◌≡◌, ◌≤◌, ◌+◌, ◌⊎◌, min, ℕ, Option, Some, None, Bool, true}
+use Rattle.std.specs.Prelude.{◌≡◌, ◌≤◌, ◌+◌, ◌⊎◌, min, ℕ, List, Option, Some, None, is_some, Bool, true}
+use Rattle.board_links.specs.Doors.{IsFresh, one_bot, one_other, sort_of}
 use Rattle.board_links.specs.Faults.{HasRisen}
+use Rattle.board_links.specs.declared.link.Came.{Came}
+use Rattle.board_links.specs.declared.link.SessionEnd.{SessionEnd}
 use Rattle.session_pool.specs.declared.gate.DoorEnd.{DoorEnd}
 use Rattle.session_pool.specs.declared.gate.DoorEnd.TheVariants as door
+use Rattle.session_pool.specs.declared.gate.Next.{Next}
+use Rattle.session_pool.specs.declared.gate.Next.TheVariants as next
 
--- the links that are out, those that were given, and why no more are taken
+-- the links that are out, bots' and others, those that were given, and why no more are taken
 pub record GateState : Type 0 where
   pub total : ℕ
+  pub bots : ℕ
   pub count : ℕ
   pub end : Option DoorEnd
 
@@ -27,12 +33,33 @@ Ended sessions before held shut faults count (Some door.Done) = ((shut ≡ true)
 Ended sessions before held shut faults count (Some door.DoorFault) = HasRisen before faults
 Ended sessions before held shut faults count (Some door.NoMemory) = Unit {0}
 
--- so many links were given as are counted, and so many are out as the ledger says
-pub record Counted (sessions before : ℕ) (held : Option ℕ) (given out : ℕ) (shut : Bool) (faults : ℕ) (left : Option ℕ) (total count most : ℕ) (end : Option DoorEnd) : Type 0 where
+-- so many links were given as are counted, and so many of each sort are out as its ledger says
+pub record Counted (sessions before : ℕ) (held : Option ℕ) (given out bots_out : ℕ) (shut : Bool) (faults : ℕ) (left : Option ℕ) (total bots count most : ℕ) (end : Option DoorEnd) : Type 0 where
   pub most_is : sessions ≡ most
   pub given_is : given ≡ count
   pub out_is : out ≡ total
+  pub bots_are : bots_out ≡ bots
   pub within : count ≤ most
   pub never_falls : before ≤ faults
   pub leaves : Leaves held left count
   pub ended : Ended sessions before held shut faults count end
+
+module _ {L : Type 0} where
+  -- how many bots' links were taken, and how many others
+  abbrev pub takes_bot : Bool → (L → Bool) → Next L → ℕ
+  takes_bot has_bots is_bot (next.Came link) = one_bot (sort_of has_bots is_bot link)
+  takes_bot has_bots is_bot other = 0
+
+  abbrev pub takes_other : Bool → (L → Bool) → Next L → ℕ
+  takes_other has_bots is_bot (next.Came link) = one_other (sort_of has_bots is_bot link)
+  takes_other has_bots is_bot other = 0
+
+  -- a link that is taken is fresh
+  abbrev pub TakesFresh : (L → ℕ) → (L → Option SessionEnd) → (L → Option (List Came)) → (L → Option (List ℕ)) → Next L → Type 0
+  TakesFresh faults finished answers sent (next.Came link) = IsFresh (faults link) (finished link) (answers link) (sent link)
+  TakesFresh faults finished answers sent other = Unit {0}
+
+  -- no link is taken any more only if there is an end
+  abbrev pub IsOver : Next L → Option DoorEnd → Type 0
+  IsOver next.Over end = is_some end ≡ true
+  IsOver answer end = Unit {0}

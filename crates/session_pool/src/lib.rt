@@ -12,7 +12,7 @@ mod take;
 mod turn;
 
 pub use door::serve_door;
-pub use gate::{DoorEnd, Gate, Shift};
+pub use gate::{DoorEnd, Gate, Next, Shift};
 pub use link::serve_link;
 pub use rooms::set_up_rooms;
 pub use turn::serve_turn;

@@ -63,6 +63,7 @@ fn talk<L: Link, R: Wait>(
     ensures never_falls { L.faults link.old ≤ L.faults link.new }
     ensures shows { ShowsEnd (L.faults link.old) (L.faults link.new) (L.stage link.new) (Some result) }
     ensures shown { Shows result (L.stage link.new) (L.faults link.new) (L.sent link.new) }
+    ensures is_bot { L.is_bot link.new ≡ L.is_bot link.old }
     ensures session { IsSome (L.answers link.old) → IsSome (L.sent link.old)
         → Session (length desks.now) passes.old words.old (told_answers (L.answers link.old)) (told_bytes (L.sent link.old)) result
         passes.new words.new (L.answers link.new) (L.sent link.new) }
@@ -78,7 +79,7 @@ fn talk<L: Link, R: Wait>(
     unreachable!()
 }
 
-/// Serves a link until its session ends, and says how it ended.
+/// Serves a link until its session ends, tells the link how it ended, and says so.
 ///
 /// There are 1 to 64 desks. The passes are one for each desk, in their order, all with one number, and none is attached; so they are
 /// afterwards. The tape is a live one. The session draws its words from it, and takes the seeds of its matches there too.
@@ -101,6 +102,8 @@ pub fn serve_link<L: Link, R: Wait>(
     ensures never_falls { L.faults link.old ≤ L.faults link.new }
     ensures shows { ShowsEnd (L.faults link.old) (L.faults link.new) (L.stage link.new) (Some result) }
     ensures shown { Shows result (L.stage link.new) (L.faults link.new) (L.sent link.new) }
+    ensures finished { L.finished link.new ≡ Some result }
+    ensures is_bot { L.is_bot link.new ≡ L.is_bot link.old }
     ensures session { IsSome (L.answers link.old) → IsSome (L.sent link.old)
         → Session (length desks.now) passes.old words.old (told_answers (L.answers link.old)) (told_bytes (L.sent link.old)) result
         passes.new words.new (L.answers link.new) (L.sent link.new) }

@@ -21,6 +21,7 @@ fn say<L: Link, R: Wait>(rt: &R, link: &mut L, bytes: &[u8]) -> Option<SessionEn
     ensures stage { L.stage link.new ≡ L.stage link.old }
     ensures answers { L.answers link.new ≡ L.answers link.old }
     ensures tells { is_some (L.sent link.new) ≡ is_some (L.sent link.old) }
+    ensures is_bot { L.is_bot link.new ≡ L.is_bot link.old }
     ensures told { IsSome (L.sent link.old) → SentAs result bytes.now (told_bytes (L.sent link.old)) (L.sent link.new) }
 {
     match link.send(rt, bytes) {
@@ -39,6 +40,7 @@ pub(crate) fn say_all<L: Link, R: Wait>(rt: &R, link: &mut L, bytes: &Bytes) -> 
     ensures stage { L.stage link.new ≡ L.stage link.old }
     ensures answers { L.answers link.new ≡ L.answers link.old }
     ensures tells { is_some (L.sent link.new) ≡ is_some (L.sent link.old) }
+    ensures is_bot { L.is_bot link.new ≡ L.is_bot link.old }
     ensures told { IsSome (L.sent link.old) → SentAs result bytes.now (told_bytes (L.sent link.old)) (L.sent link.new) }
 {
     for place in 0..bytes.count() {
@@ -57,6 +59,7 @@ fn say_bye<L: Link, R: Wait>(rt: &R, link: &mut L, bye: Bye) -> SessionEnd
     ensures stage { L.stage link.new ≡ L.stage link.old }
     ensures answers { L.answers link.new ≡ L.answers link.old }
     ensures tells { is_some (L.sent link.new) ≡ is_some (L.sent link.old) }
+    ensures is_bot { L.is_bot link.new ≡ L.is_bot link.old }
     ensures told { IsSome (L.sent link.old) → Hands [] (Some bye) (told_bytes (L.sent link.old)) (Some result) (L.sent link.new) }
 {
     match say(rt, link, bye_line(bye)) {
@@ -79,6 +82,7 @@ pub(crate) fn hand_out<L: Link, R: Wait>(
     ensures stage { L.stage link.new ≡ L.stage link.old }
     ensures answers { L.answers link.new ≡ L.answers link.old }
     ensures tells { is_some (L.sent link.new) ≡ is_some (L.sent link.old) }
+    ensures is_bot { L.is_bot link.new ≡ L.is_bot link.old }
     ensures told { IsSome (L.sent link.old) → Hands bytes.now over (told_bytes (L.sent link.old)) result (L.sent link.new) }
 {
     if let Some(why) = say_all(rt, link, bytes) {

@@ -35,6 +35,7 @@ fn handed<L: Link, R: Wait>(
     ensures stage { L.stage link.new ≡ L.stage link.old }
     ensures answers { L.answers link.new ≡ L.answers link.old }
     ensures tells { is_some (L.sent link.new) ≡ is_some (L.sent link.old) }
+    ensures is_bot { L.is_bot link.new ≡ L.is_bot link.old }
     ensures told { IsSome (L.sent link.old) → TakenAs reply core.old (told_bytes (L.sent link.old)) result core.new (L.sent link.new) }
 {
     let RoomReply::Taken { bytes, end: over } = reply else {
@@ -72,6 +73,7 @@ fn take<L: Link, R: Wait>(
     ensures stage { L.stage link.new ≡ L.stage link.old }
     ensures answers { L.answers link.new ≡ L.answers link.old }
     ensures tells { is_some (L.sent link.new) ≡ is_some (L.sent link.old) }
+    ensures is_bot { L.is_bot link.new ≡ L.is_bot link.old }
     ensures told { IsSome (L.sent link.old) → Takes (Some room) (side passes.old core.old) (told_bytes (L.sent link.old)) result (side passes.new core.new) (L.sent link.new) }
 {
     let reply = ask(rt, desks, passes, room, RoomCall::Take);
@@ -87,6 +89,7 @@ fn say_answer<L: Link, R: Wait>(rt: &R, link: &mut L, core: &mut SessionCore) ->
     ensures stage { L.stage link.new ≡ L.stage link.old }
     ensures answers { L.answers link.new ≡ L.answers link.old }
     ensures tells { is_some (L.sent link.new) ≡ is_some (L.sent link.old) }
+    ensures is_bot { L.is_bot link.new ≡ L.is_bot link.old }
     ensures told { IsSome (L.sent link.old) → SentAs result (written core.old) (told_bytes (L.sent link.old)) (L.sent link.new) }
 {
     let line = core.written();
@@ -117,6 +120,7 @@ pub(crate) fn speak<L: Link, R: Wait>(
     ensures stage { L.stage link.new ≡ L.stage link.old }
     ensures answers { L.answers link.new ≡ L.answers link.old }
     ensures tells { is_some (L.sent link.new) ≡ is_some (L.sent link.old) }
+    ensures is_bot { L.is_bot link.new ≡ L.is_bot link.old }
     ensures told { IsSome (L.sent link.old) → Says (side passes.old core.old) (told_bytes (L.sent link.old)) result (side passes.new core.new) (L.sent link.new) }
 {
     if let Some(why) = say_answer(rt, link, core) {

@@ -47,6 +47,7 @@ pub fn serve_turn<L: Link, R: Wait>(
     ensures bye { ByeSent result (L.sent link.new) }
     ensures tells_answers { is_some (L.answers link.new) ≡ is_some (L.answers link.old) }
     ensures tells_sent { is_some (L.sent link.new) ≡ is_some (L.sent link.old) }
+    ensures is_bot { L.is_bot link.new ≡ L.is_bot link.old }
     ensures turn { IsSome (L.answers link.old) → IsSome (L.sent link.old)
         → Turn (stand passes.old core.old words.old) (told_answers (L.answers link.old)) (told_bytes (L.sent link.old)) result
         (stand passes.new core.new words.new) (L.answers link.new) (L.sent link.new) }

@@ -1,6 +1,7 @@
 //! Matches served over a door in memory, by words.
 
-ghost use Rattle.std.specs.Prelude.{◌≡◌, IfOk, false};
+ghost use Rattle.std.specs.Prelude.{◌≡◌, IfOk, Some, false};
+ghost use Rattle.board_links.specs.Doors.{IsFresh};
 
 use board_commands::serve;
 use board_links::{AtEnd, Door, MemoryDoor, MemoryLink, MemorySink, Scripted};
@@ -49,7 +50,7 @@ const WHOLE: Row = Row {
 
 /// A link that says these lines, and ends.
 fn link(alloc: Global, lines: &[&[u8]]) -> Result<MemoryLink, NoMemory>
-    ensures { IfOk result (λ l. l.faults ≡ 0) }
+    ensures { IfOk result (λ l. IsFresh l.faults l.finished (Some l.answers) (Some l.sent)) }
 {
     let mut script = Vec::new(alloc);
     for line in lines {

@@ -1,12 +1,13 @@
 //! Two links that wait for each other, over a door in memory and two workers.
 
-ghost use Rattle.std.specs.Prelude.{◌≡◌, ◌-◌, false, vec_len, IfOk};
+ghost use Rattle.std.specs.Prelude.{◌≡◌, ◌-◌, false, vec_len, IfOk, Some};
 ghost use Rattle.board_links.specs.Answers.{CameRaises, IsWithin, stage_after};
+ghost use Rattle.board_links.specs.Doors.{IsFresh};
 
 use board_links::{
     AtEnd, Came, Door, Link, MemoryDoor, MemoryLink, Out, Scripted, SessionEnd, Stage,
 };
-use game_sheet::{Bytes, List, NoMemory};
+use game_sheet::{Bytes, List, MatchName, NoMemory, Seat};
 use session_pool::{DoorEnd, serve_door, set_up_rooms};
 use std::alloc::Global;
 use std::sync::Wait;
@@ -49,6 +50,7 @@ struct Meeting<'a, R> {
     sends: u32,
     key: [u8; 32],
     stage: Stage,
+    finished: Option<SessionEnd>,
 }
 
 impl<'a, R: Clock> Meeting<'a, R> {
@@ -111,7 +113,7 @@ fn stage_after(answer: &Came, stage: Stage) -> Stage
 }
 
 impl<'a, R: Clock> Link for Meeting<'a, R> {
-    ghost use Rattle.std.specs.Prelude.{None};
+    ghost use Rattle.std.specs.Prelude.{None, true};
 
     ghost answers = { λ _. None };
 
@@ -122,6 +124,10 @@ impl<'a, R: Clock> Link for Meeting<'a, R> {
     ghost stage = { λ l. l.stage };
 
     ghost limit = { λ _. 4294967295 };
+
+    ghost clear = { λ _. true };
+
+    ghost finished = { λ l. l.finished };
 
     fn limit(&self) -> u32 {
         u32::MAX
@@ -153,6 +159,20 @@ impl<'a, R: Clock> Link for Meeting<'a, R> {
         }
         Out::Done
     }
+
+    fn flush(&mut self) -> bool {
+        true
+    }
+
+    fn finish(&mut self, end: SessionEnd) {
+        self.finished = Some(end);
+    }
+
+    fn bot_seat(&self) -> Option<(MatchName, Seat)> {
+        None
+    }
+
+    fn ask_out(&mut self) {}
 }
 
 /// A door of both links, of which the second comes first.
@@ -174,6 +194,7 @@ fn door<'a, R: Clock>(
             sends: 0,
             key: [b'0'; 32],
             stage: Stage::Open,
+            finished: None,
         })?;
     }
     MemoryDoor::new(alloc, links, List::new(alloc))
@@ -222,7 +243,7 @@ const GAMES: &[u8] =
 
 /// A link that asks for the games, and ends.
 fn asking(alloc: Global) -> Result<MemoryLink, NoMemory>
-    ensures { IfOk result (λ link. link.faults ≡ 0) }
+    ensures { IfOk result (λ link. IsFresh link.faults link.finished (Some link.answers) (Some link.sent)) }
 {
     let mut script = Vec::new(alloc);
     script.push(Scripted::Line(Vec::from_slice(alloc, ASKS)?))?;

@@ -7,7 +7,7 @@ use Rattle.session_pool.proofs.Workers.{handed_on, map_both, written, written_al
 use Rattle.session_pool.proofs.door.serve_by.Goals as goal
 
 pub dismiss-requires-clause-parts : goal.dismiss-requires-clause-parts
-dismiss-requires-clause-parts g c = written_all (λ w. w.share.parts ≡ 1) c.args.workers.len c.args.workers.items c.run_all.new.workers (c.run_all.ensures.many ∙ c.as_mut_slice.ensures.len) c.run_all.ensures.parts
+dismiss-requires-clause-parts g c = written_all (λ w. (w.share.parts ≡ 1) × (w.bots.parts ≡ 1)) c.args.workers.len c.args.workers.items c.run_all.new.workers (c.run_all.ensures.many ∙ c.as_mut_slice.ensures.len) c.run_all.ensures.parts
 
 pub returns-clause-free : goal.returns-clause-free
 returns-clause-free g c =

@@ -20,8 +20,9 @@ loop-preserved g c =
       turn.pass ∙ i.5,
       turn.same_source ∙ i.6,
       omega (arith, i.7, turn.never_falls),
+      turn.is_bot ∙ i.8,
       λ told_a told_s.
-          let before = i.8 told_a told_s in (
+          let before = i.9 told_a told_s in (
             turn.tells_answers ∙ before.0,
             turn.tells_sent ∙ before.1,
             (
@@ -36,7 +37,7 @@ loop-preserved g c =
 
 pub returns-in-Some-serve_turn-clause-session : goal.returns-in-Some-serve_turn-clause-session
 returns-in-Some-serve_turn-clause-session g c told_a told_s =
-    let before = c.loop.invariant.8 told_a told_s in
+    let before = c.loop.invariant.9 told_a told_s in
     record {
       turns = before.2.0;
       before = stand c.loop.passes c.loop.core c.loop.words;

@@ -13,6 +13,7 @@ invariant-loop g l =
     (goal.iterator-loop g).can_next l.iterator' × (goal.iterator-loop g).is_finite l.iterator'
     × Belong l.desks l.core.pass l.passes × IsIdle (length l.desks) l.core × AttachedBy l.passes l.core.at × (l.core.pass ≡ number_of l.fn.passes)
     × (l.words.source ≡ l.fn.words.source) × (g.L.Link.faults l.fn.link ≤ g.L.Link.faults l.link)
+    × (g.L.Link.is_bot l.link ≡ g.L.Link.is_bot l.fn.link)
     × (IsSome (g.L.Link.answers l.fn.link) → IsSome (g.L.Link.sent l.fn.link) →
     IsSome (g.L.Link.answers l.link) × IsSome (g.L.Link.sent l.link)
     × ((n : ℕ) × Runs n (stand l.fn.passes (fresh (number_of l.fn.passes) (length l.desks)) l.fn.words)

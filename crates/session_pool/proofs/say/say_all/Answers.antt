@@ -18,6 +18,7 @@ loop-place-preserved g c =
       stage = said.stage ∙ i.stage;
       answers = said.answers ∙ i.answers;
       tells = said.tells ∙ i.tells;
+      is_bot = said.is_bot ∙ i.is_bot;
       sent = λ told. sent_more c.args.bytes.now (told_bytes (g.L.Link.sent c.args.link.now)) c.loop-place.place c.piece.result.now
           (g.L.Link.sent c.loop-place.link) (g.L.Link.sent c.say.new.link) c.piece.ensures (i.sent told) said.told;
     }

@@ -11,5 +11,6 @@ invariant-loop-place g l = record {
   stage : g.L.Link.stage l.link ≡ g.L.Link.stage l.fn.link;
   answers : g.L.Link.answers l.link ≡ g.L.Link.answers l.fn.link;
   tells : is_some (g.L.Link.sent l.link) ≡ is_some (g.L.Link.sent l.fn.link);
+  is_bot : g.L.Link.is_bot l.link ≡ g.L.Link.is_bot l.fn.link;
   sent : IsSome (g.L.Link.sent l.fn.link) → g.L.Link.sent l.link ≡ Some (told_bytes (g.L.Link.sent l.fn.link) ++ concat (take l.place (lines l.bytes)));
 }
