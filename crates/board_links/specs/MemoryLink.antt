@@ -1,12 +1,13 @@
 -- What a link in memory is: what is left of its script, what it has answered and been sent, the calls made so far, the numbers of
--- the calls that are to fail, counted from 1, and the count of faults.
-use Rattle.std.specs.Prelude.{◌≡◌, ◌+◌, ◌++◌, ◌&&◌, ℕ, nat_lt, length, drop, List, [], ◌∷◌, Bool, true, false, if◌then◌else◌}
+-- the calls that are to fail, counted from 1, the count of faults, and how its session ended.
+use Rattle.std.specs.Prelude.{◌≡◌, ◌+◌, ◌++◌, ◌&&◌, ℕ, nat_lt, length, drop, List, [], ◌∷◌, Option, Bool, true, false, if◌then◌else◌}
 use Rattle.board_links.specs.Answers.{stage_after}
 use Rattle.board_links.specs.Memory.{is_failing, next_count}
 use Rattle.board_links.specs.declared.link.Came.{Came}
 use Rattle.board_links.specs.declared.link.Came.TheVariants as came
 use Rattle.board_links.specs.declared.link.Out.{Out}
 use Rattle.board_links.specs.declared.link.Out.TheVariants as out
+use Rattle.board_links.specs.declared.link.SessionEnd.{SessionEnd}
 use Rattle.board_links.specs.declared.link.Stage.{Stage}
 use Rattle.board_links.specs.declared.memory_link.AtEnd.{AtEnd}
 use Rattle.board_links.specs.declared.memory_link.AtEnd.TheVariants as at_end
@@ -23,6 +24,7 @@ pub record LinkState : Type 0 where
   pub failing : List ℕ
   pub faults : ℕ
   pub stage : Stage
+  pub finished : Option SessionEnd
 
 abbrev pub ended : AtEnd → Came
 ended at_end.Ended = came.Ended

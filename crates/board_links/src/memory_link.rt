@@ -1,14 +1,14 @@
 //! A link in memory, which says what a script says and keeps all that it is sent.
 
-ghost use Rattle.std.specs.Prelude.{◌≡◌, ◌≤◌, [], nat_lt, length, Some, IfOk, if◌then◌else◌};
+ghost use Rattle.std.specs.Prelude.{◌≡◌, ◌≤◌, [], nat_lt, length, Some, None, IfOk, if◌then◌else◌, true};
 ghost use Rattle.board_links.specs.Answers.{CameRaises, IsWithin, OutRaises, Sends, answers_after, stage_after};
 ghost use Rattle.board_links.specs.MemoryLink.{Hears, Keeps, ended, heard, is_fault, place_after, said};
 ghost use Rattle.board_links.specs.Memory.{next_count};
 ghost use Rattle.board_links.specs.declared.link.Came.TheVariants as came;
 ghost use Rattle.board_links.specs.declared.link.Stage.TheVariants as at;
 
-use crate::link::{Came, Link, Out, Stage};
-use game_sheet::{Bytes, List, NoMemory};
+use crate::link::{Came, Link, Out, SessionEnd, Stage};
+use game_sheet::{Bytes, List, MatchName, NoMemory, Seat};
 use std::alloc::Global;
 use std::marker::Model;
 use std::sync::Wait;
@@ -41,6 +41,7 @@ pub struct MemoryLink {
     sent: Vec<u8>,
     failing: List<u64>,
     progress: Progress,
+    finished: Option<SessionEnd>,
 }
 
 impl Drop for MemoryLink {
@@ -54,6 +55,7 @@ impl Drop for MemoryLink {
             sent,
             failing,
             progress,
+            finished: _,
         } = self;
         drop(script);
         drop(at_end);
@@ -89,6 +91,7 @@ impl Model for MemoryLink {
       failing = l.failing;
       faults = l.progress.faults;
       stage = l.progress.stage;
+      finished = l.finished;
     } };
 
     ghost invariant = { λ l. l.progress.place ≤ length l.script.items };
@@ -104,7 +107,7 @@ impl MemoryLink {
         limit: u32,
         failing: List<u64>,
     ) -> MemoryLink
-        ensures { result ≡ record { left = script.items; at_end = at_end; limit = limit; answers = []; sent = []; calls = 0; failing = failing; faults = 0; stage = at.Open } }
+        ensures { result ≡ record { left = script.items; at_end = at_end; limit = limit; answers = []; sent = []; calls = 0; failing = failing; faults = 0; stage = at.Open; finished = None } }
     {
         let progress = Progress {
             place: 0,
@@ -121,6 +124,7 @@ impl MemoryLink {
             sent: Vec::new(alloc),
             failing,
             progress,
+            finished: None,
         }
     }
 
@@ -257,6 +261,10 @@ impl Link for MemoryLink {
 
     ghost limit = { λ l. l.limit };
 
+    ghost clear = { λ _. true };
+
+    ghost finished = { λ l. l.finished };
+
     fn limit(&self) -> u32 {
         self.limit
     }
@@ -269,6 +277,7 @@ impl Link for MemoryLink {
         ensures limit { self.new.limit ≡ self.old.limit }
         ensures told { Some self.new.answers ≡ answers_after result (Some self.old.answers) }
         ensures sent { Some self.new.sent ≡ Some self.old.sent }
+        ensures finished { self.new.finished ≡ self.old.finished }
         ensures hears { Hears result self.old self.new }
     {
         if self.answers.reserve(1).is_err() {
@@ -289,6 +298,7 @@ impl Link for MemoryLink {
         ensures limit { self.new.limit ≡ self.old.limit }
         ensures answers { Some self.new.answers ≡ Some self.old.answers }
         ensures told { Sends result bytes.now self.old.sent (Some self.new.sent) }
+        ensures finished { self.new.finished ≡ self.old.finished }
         ensures keeps { Keeps result bytes.now self.old self.new }
     {
         self.progress.calls = self.progress.calls.saturating_add(1);
@@ -301,4 +311,25 @@ impl Link for MemoryLink {
         }
         Out::Done
     }
+
+    fn flush(&mut self) -> bool
+        ensures clear { result ≡ true }
+        ensures same { self.new ≡ self.old }
+    {
+        true
+    }
+
+    fn finish(&mut self, end: SessionEnd)
+        ensures { self.new ≡ record self.old { finished = Some end } }
+    {
+        self.finished = Some(end);
+    }
+
+    fn bot_seat(&self) -> Option<(MatchName, Seat)> {
+        None
+    }
+
+    fn ask_out(&mut self)
+        ensures { self.new ≡ self.old }
+    {}
 }

@@ -1,6 +1,6 @@
 //! A door over a TCP listener.
 
-ghost use Rattle.std.specs.Prelude.{◌≡◌, ◌≤◌, false, IfOk};
+ghost use Rattle.std.specs.Prelude.{◌≡◌, ◌≤◌, false, None, IfOk};
 
 use crate::halt::Halt;
 use crate::tcp_link::TcpLink;
@@ -36,6 +36,7 @@ impl<N: Net + Drop> TcpDoor<N> {
     pub fn bind(net: N, alloc: Global, addr: SocketAddr, limit: u32) -> io::Result<TcpDoor<N>>
         ensures given { IfOk result (λ d. ⟦<TcpDoor<N> as Door>⟧.given d ≡ 0) }
         ensures out { IfOk result (λ d. ⟦<TcpDoor<N> as Door>⟧.out d ≡ 0) }
+        ensures bots_out { IfOk result (λ d. ⟦<TcpDoor<N> as Door>⟧.bots_out d ≡ 0) }
         ensures shut { IfOk result (λ d. ⟦<TcpDoor<N> as Door>⟧.shut d ≡ false) }
         ensures faults { IfOk result (λ d. ⟦<TcpDoor<N> as Door>⟧.faults d ≡ 0) }
     {
@@ -66,6 +67,7 @@ impl<N: Net + Drop> TcpDoor<N> {
     fn link<R: Wait>(&mut self, rt: &R) -> Result<TcpLink, Halt>
         ensures same { (self.new.given ≡ self.old.given) × (self.new.came_back ≡ self.old.came_back) × (self.new.faults ≡ self.old.faults) }
         ensures fresh { IfOk result (λ l. ⟦<TcpLink as Link>⟧.faults l ≡ 0) }
+        ensures unfinished { IfOk result (λ l. ⟦<TcpLink as Link>⟧.finished l ≡ None) }
     {
         let stream = connection(rt, &self.listener, &mut self.watch)?;
         match TcpLink::over(&self.net, self.alloc, stream, self.limit) {
@@ -135,6 +137,8 @@ impl<N: Net + Drop> Door for TcpDoor<N> {
 
     ghost left = { λ _. None };
 
+    ghost returned = { λ _. None };
+
     fn accept<R: Wait>(&mut self, rt: &R) -> Visit<TcpLink> {
         if self.given < u64::MAX {
             match self.link(rt) {
@@ -148,6 +152,10 @@ impl<N: Net + Drop> Door for TcpDoor<N> {
         }
         self.faults = self.faults.saturating_add(1);
         Visit::Failed
+    }
+
+    fn is_bot(&self, _link: &TcpLink) -> bool {
+        false
     }
 
     fn back<R: Wait>(&mut self, _rt: &R, _link: TcpLink, _end: SessionEnd) {

@@ -1,11 +1,12 @@
 //! A link over a TCP socket.
 
-ghost use Rattle.std.specs.Prelude.{◌≡◌, ◌≤◌, IfOk};
+ghost use Rattle.std.specs.Prelude.{◌≡◌, ◌≤◌, IfOk, None};
 ghost use Rattle.board_links.specs.Faults.{HasRisen};
 ghost use Rattle.board_links.specs.declared.link.Stage.TheVariants as at;
 
 use crate::connection::Connection;
 use board_links::{Came, Link, Out, SessionEnd, Stage};
+use game_sheet::{MatchName, Seat};
 use mio::net::TcpStream;
 use std::alloc::Global;
 use std::io;
@@ -15,12 +16,13 @@ use std::sync::Wait;
 /// How many bytes a server's line may have, for a client that reads it.
 pub const SERVER_LINE: u32 = 8_388_608;
 
-/// A link over a TCP socket. It tells neither its answers nor what it was sent.
+/// A link over a TCP socket. It tells neither its answers nor what it was sent, and keeps nothing back.
 pub struct TcpLink {
     connection: Connection,
     limit: u32,
     faults: u64,
     stage: Stage,
+    finished: Option<SessionEnd>,
 }
 
 impl Drop for TcpLink {
@@ -30,6 +32,7 @@ impl Drop for TcpLink {
             limit: _,
             faults: _,
             stage,
+            finished: _,
         } = self;
         drop(connection);
         drop(stage);
@@ -48,6 +51,7 @@ impl TcpLink {
         ensures faults { IfOk result (λ l. ⟦<TcpLink as Link>⟧.faults l ≡ 0) }
         ensures stage { IfOk result (λ l. ⟦<TcpLink as Link>⟧.stage l ≡ at.Open) }
         ensures limit { IfOk result (λ l. ⟦<TcpLink as Link>⟧.limit l ≡ limit) }
+        ensures finished { IfOk result (λ l. ⟦<TcpLink as Link>⟧.finished l ≡ None) }
     {
         let connection = Connection::over(net, alloc, stream)?;
         Ok(TcpLink {
@@ -55,6 +59,7 @@ impl TcpLink {
             limit,
             faults: 0,
             stage: Stage::Open,
+            finished: None,
         })
     }
 
@@ -79,7 +84,7 @@ impl TcpLink {
 }
 
 impl Link for TcpLink {
-    ghost use Rattle.std.specs.Prelude.{None};
+    ghost use Rattle.std.specs.Prelude.{None, true};
 
     ghost answers = { λ _. None };
 
@@ -90,6 +95,10 @@ impl Link for TcpLink {
     ghost stage = { λ l. l.stage };
 
     ghost limit = { λ l. l.limit };
+
+    ghost clear = { λ _. true };
+
+    ghost finished = { λ l. l.finished };
 
     fn limit(&self) -> u32 {
         self.limit
@@ -118,7 +127,18 @@ impl Link for TcpLink {
         Out::Failed
     }
 
-    fn finish(&mut self, _end: SessionEnd) {
-        self.connection.close();
+    fn flush(&mut self) -> bool {
+        true
     }
+
+    fn finish(&mut self, end: SessionEnd) {
+        self.connection.close();
+        self.finished = Some(end);
+    }
+
+    fn bot_seat(&self) -> Option<(MatchName, Seat)> {
+        None
+    }
+
+    fn ask_out(&mut self) {}
 }

@@ -1,6 +1,7 @@
 //! A door in memory, by what it answers call by call.
 
-ghost use Rattle.std.specs.Prelude.{◌≡◌};
+ghost use Rattle.std.specs.Prelude.{Some};
+ghost use Rattle.board_links.specs.Doors.{IsFresh};
 
 use board_links::{AtEnd, Door, MemoryDoor, MemoryLink, Visit};
 use game_sheet::{List, NoMemory};
@@ -10,7 +11,7 @@ use std::test::Fail;
 
 /// A link that says nothing and ends.
 fn silent(alloc: Global) -> MemoryLink
-    ensures { result.faults ≡ 0 }
+    ensures { IsFresh result.faults result.finished (Some result.answers) (Some result.sent) }
 {
     MemoryLink::new(alloc, Vec::new(alloc), AtEnd::Ended, 4, List::new(alloc))
 }
@@ -28,6 +29,7 @@ fn door(alloc: Global) -> Result<MemoryDoor<MemoryLink>, NoMemory> {
 fn word<L>(visit: &Visit<L>) -> &'static str {
     match visit {
         Visit::Came(_) => "came",
+        Visit::Quiet => "quiet",
         Visit::Shut => "shut",
         Visit::Failed => "failed",
         Visit::NoMemory => "no memory",

@@ -3,7 +3,7 @@
 use board_links::{MemorySink, MemorySource, Piece, Put, ReaderSource, Sink, Source, WriterSink};
 use game_sheet::{List, NoMemory};
 use std::alloc::Global;
-use std::io::Cursor;
+use std::io::{self, Cursor, ErrorKind, Write};
 use std::test::Fail;
 
 fn source(alloc: Global, failing: &[u64]) -> Result<MemorySource, NoMemory> {
@@ -72,5 +72,41 @@ fn a_writer_that_refuses_is_a_fault(rt: HostRuntime) -> Result<(), Fail> {
     let mut room = [0u8; 2];
     let mut sink = WriterSink::new(room.as_mut_slice());
     assert_eq!(rt; fill(&mut sink), (Put::Done, Put::Failed));
+    Ok(())
+}
+
+/// A writer that takes one byte at a time, and is interrupted before each.
+#[derive(Drop)]
+struct Slow {
+    bytes: Vec<u8>,
+    interrupted: bool,
+}
+
+impl Write for Slow {
+    fn write(&mut self, bytes: &[u8]) -> io::Result<usize> {
+        self.interrupted = !self.interrupted;
+        if self.interrupted {
+            return Err(io::Error::from(ErrorKind::Interrupted));
+        }
+        let Some(first) = bytes.first() else {
+            return Ok(0);
+        };
+        self.bytes.push(*first)?;
+        Ok(1)
+    }
+
+    fn flush(&mut self) -> io::Result<()> {
+        Ok(())
+    }
+}
+
+#[test]
+fn a_writer_that_is_interrupted_is_asked_again(rt: HostRuntime) -> Result<(), Fail> {
+    let slow = Slow {
+        bytes: Vec::new(rt.alloc()),
+        interrupted: false,
+    };
+    let mut sink = WriterSink::new(slow);
+    assert_eq!(rt; fill(&mut sink), (Put::Done, Put::Done));
     Ok(())
 }

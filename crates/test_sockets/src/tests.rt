@@ -1,6 +1,6 @@
 //! A door at a free port, its links, and peers that send whole lines, parts of lines and lines that are too long, or go away.
 
-ghost use Rattle.std.specs.Prelude.{◌<◌, IfOk, IfSome};
+ghost use Rattle.std.specs.Prelude.{◌≡◌, ◌<◌, false, IfOk, IfSome};
 ghost use Rattle.board_links.specs.Answers.{AreLines};
 
 use board_links::{Came, Door, Link, Out, SessionEnd, Visit};
@@ -53,16 +53,18 @@ fn opened<N: Net + Drop>(net: N, alloc: Global) -> io::Result<(TcpDoor<N>, Socke
 
 /// The next link of a door.
 fn next<D: Door, R: Wait>(rt: &R, door: &mut D) -> Option<D::L>
-    ensures { IfSome result (λ _. 0 < D.out door.new) }
+    ensures { D.has_bots ≡ false → IfSome result (λ _. 0 < D.out door.new) }
 {
     match door.accept(rt) {
         Visit::Came(link) => Some(link),
-        Visit::Shut | Visit::Failed | Visit::NoMemory => None,
+        Visit::Quiet | Visit::Shut | Visit::Failed | Visit::NoMemory => None,
     }
 }
 
 /// What a link answers next but for silence.
-fn heard<L: Link, R: Wait>(rt: &R, link: &mut L) -> Came {
+fn heard<L: Link, R: Wait>(rt: &R, link: &mut L) -> Came
+    ensures { L.finished link.new ≡ L.finished link.old }
+{
     for _ in 0..QUIET {
         match link.receive(rt) {
             Came::Quiet => {}
@@ -93,7 +95,9 @@ fn word(came: &Came) -> Word {
 }
 
 /// The word of what a link answers next but for silence.
-fn word_heard<L: Link, R: Wait>(rt: &R, link: &mut L) -> Word {
+fn word_heard<L: Link, R: Wait>(rt: &R, link: &mut L) -> Word
+    ensures { L.finished link.new ≡ L.finished link.old }
+{
     let came = heard(rt, link);
     let told = word(&came);
     drop(came);
@@ -125,7 +129,9 @@ fn send_long<L: Link, R: Wait>(rt: &R, alloc: Global, link: &mut L, length: usiz
 }
 
 /// A server's session: it hears a line, answers with a long one, and ends.
-fn serve<D: Door, R: Wait>(rt: &R, alloc: Global, door: D) -> Told {
+fn serve<D: Door, R: Wait>(rt: &R, alloc: Global, door: D) -> Told
+    requires { D.has_bots ≡ false }
+{
     let mut door = door;
     let Some(mut link) = next(rt, &mut door) else {
         drop(door);
