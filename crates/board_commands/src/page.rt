@@ -10,8 +10,8 @@ use link_play::Exit;
 /// The page of help.
 pub const HELP: &str = "board_server: matches of turn-based games
 
-board_server serve --listen ADDRESS [--rooms 16] [--workers 8] [--sessions 1000000]
-    serves matches over TCP until so many sessions are over, and reports
+board_server serve --listen ADDRESS [--rooms 16] [--workers 8] [--sessions 1000000] [--ws]
+    serves matches over TCP, or over WebSockets, until so many sessions are over, and reports
 board_server play --connect ADDRESS --game NAME --match MATCH [--seat SEAT --key KEY]
     plays a match by the commands on standard input: act ACT, read, wait, show, end
 board_server script

@@ -81,6 +81,7 @@ where
         rooms,
         workers,
         sessions,
+        ws: _,
     } = asked;
     drop(listen);
     let (end, door, books) = serve_rooms(rt, alloc, rooms, workers, sessions, door, sink, seed);

@@ -14,6 +14,7 @@ use std::net::SocketAddr;
 use std::sync::Wait;
 use std::thread::Threads;
 use tcp_links::{TcpDoor, TcpLink};
+use ws_link::{TcpStreamDoor, WsDoor};
 
 /// How many bytes a line of a client may have.
 const CLIENT_LINE: u32 = 65_536;
@@ -65,38 +66,62 @@ pub fn serve_there<R: Threads + Wait + Sync>(
     rt: &HostRuntime,
     words: &[String],
 ) -> Exit {
-    let addr = match serve_words(rt.alloc(), words) {
+    let (addr, ws) = match serve_words(rt.alloc(), words) {
         Ok(asked) => {
             let addr = asked.listen.as_str().parse::<SocketAddr>();
+            let ws = asked.ws;
             drop(asked);
-            addr
+            (addr, ws)
         }
         Err(no) => return refused(no),
     };
     let Ok(addr) = addr else {
         return Exit::DoorFault;
     };
+    if ws {
+        return serve_sockets(leave, rt, words, addr);
+    }
     match TcpDoor::bind(*rt, rt.alloc(), addr, CLIENT_LINE) {
-        Ok(door) => serve_at(leave, rt, words, door),
+        Ok(door) => {
+            announce(rt, door.addr());
+            serve_at(leave, rt, words, door)
+        }
         Err(error) => fault(&error, Exit::DoorFault),
     }
 }
 
-/// Serves matches at this door, once it has said where that is.
-fn serve_at<R: Threads + Wait + Sync>(
+/// Serves matches over WebSockets at this address.
+fn serve_sockets<R: Threads + Wait + Sync>(
     leave: &R,
     rt: &HostRuntime,
     words: &[String],
-    door: TcpDoor<HostRuntime>,
+    addr: SocketAddr,
+) -> Exit {
+    match TcpStreamDoor::bind(*rt, rt.alloc(), addr) {
+        Ok(door) => {
+            announce(rt, door.addr());
+            serve_at(leave, rt, words, WsDoor::new(rt.alloc(), door))
+        }
+        Err(error) => fault(&error, Exit::DoorFault),
+    }
+}
+
+/// Serves matches at this door.
+fn serve_at<D: Door + Send, R: Threads + Wait + Sync>(
+    leave: &R,
+    rt: &HostRuntime,
+    words: &[String],
+    door: D,
 ) -> Exit
-    requires given { ⟦<TcpDoor<HostRuntime> as Door>⟧.given door ≡ 0 }
-    requires out { ⟦<TcpDoor<HostRuntime> as Door>⟧.out door ≡ 0 }
-    requires bots_out { ⟦<TcpDoor<HostRuntime> as Door>⟧.bots_out door ≡ 0 }
-    requires shut { ⟦<TcpDoor<HostRuntime> as Door>⟧.shut door ≡ false }
+where
+    D::L: Send,
+    requires given { D.given door ≡ 0 }
+    requires out { D.out door ≡ 0 }
+    requires bots_out { D.bots_out door ≡ 0 }
+    requires shut { D.shut door ≡ false }
 {
     match seed(rt) {
         Ok(seed) => {
-            announce(rt, &door);
             let mut sink = WriterSink::new(rt.stdout());
             let (exit, door, books) = serve(leave, rt.alloc(), words, door, &mut sink, seed);
             drop(door);
@@ -112,8 +137,8 @@ fn serve_at<R: Threads + Wait + Sync>(
 }
 
 /// Says on standard error where the door listens. A line that can't be written is lost.
-fn announce(rt: &HostRuntime, door: &TcpDoor<HostRuntime>) {
-    if let Ok(addr) = door.addr() {
+fn announce(rt: &HostRuntime, addr: io::Result<SocketAddr>) {
+    if let Ok(addr) = addr {
         let _said = eprintln!(rt; "listening on {addr}");
     }
 }

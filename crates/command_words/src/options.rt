@@ -2,7 +2,7 @@
 
 ghost use Rattle.std.specs.Prelude.{◌≡◌, false};
 ghost use Rattle.clap.specs.Words.{rule_of};
-ghost use Rattle.command_words.specs.Options.{needed_rule, option_rule};
+ghost use Rattle.command_words.specs.Options.{flag_rule, needed_rule, option_rule};
 
 use clap::{Arg, ArgAction};
 use std::alloc::Global;
@@ -13,6 +13,14 @@ pub(crate) fn option<'a>(alloc: Global, name: &'a str) -> Arg<'a>
     ensures own { result.global ≡ false }
 {
     Arg::new(alloc, name).long(name).action(ArgAction::Set)
+}
+
+/// One that takes no value, and is there or not.
+pub(crate) fn flag<'a>(alloc: Global, name: &'a str) -> Arg<'a>
+    ensures rule { rule_of result ≡ flag_rule name.entry.now }
+    ensures own { result.global ≡ false }
+{
+    Arg::new(alloc, name).long(name).action(ArgAction::SetTrue)
 }
 
 /// One that has to be said.

@@ -1,12 +1,12 @@
 //! The words of `serve`: where it listens, and how many rooms, workers and sessions it has.
 
-ghost use Rattle.std.specs.Prelude.{◌≡◌, ◌≤◌, IfOk, codes, map, string_bytes};
+ghost use Rattle.std.specs.Prelude.{◌≡◌, ◌≤◌, IfOk, codes, map, option_map, string_bytes};
 ghost use Rattle.clap.specs.Words.{FailsBy, HasMatchesOf, fault_of, first_value, found_of};
 ghost use Rattle.command_words.specs.Answers.{Answers};
-ghost use Rattle.command_words.specs.Serve.{serve_app, serve_from, serve_of};
+ghost use Rattle.command_words.specs.Serve.{is_said, serve_app, serve_from, serve_of};
 
 use crate::numbers::number_or;
-use crate::options::{needed, option};
+use crate::options::{flag, needed, option};
 use crate::words_no::{WordsNo, word_of};
 use clap::{ArgMatches, Command, Error};
 use game_sheet::Text;
@@ -23,6 +23,8 @@ pub struct ServeWords {
     pub workers: u8,
     /// How many sessions it serves before it ends, 1 to 1,000,000.
     pub sessions: u32,
+    /// Whether its links are WebSockets.
+    pub ws: bool,
 }
 
 /// What the words of `serve` ask for; the first word is the command's own.
@@ -48,14 +50,15 @@ fn matches_of<'a>(alloc: Global, words: &'a [String]) -> Result<ArgMatches<'a>, 
         .arg(needed(alloc, "listen"))?
         .arg(option(alloc, "rooms"))?
         .arg(option(alloc, "workers"))?
-        .arg(option(alloc, "sessions"))?;
+        .arg(option(alloc, "sessions"))?
+        .arg(flag(alloc, "ws"))?;
     command.try_get_matches_from(words)
 }
 
 /// What the matches ask for.
 fn words_in(alloc: Global, matches: &ArgMatches) -> Result<ServeWords, WordsNo>
     ensures asked { Answers (serve_of (first_value (found_of matches.now) (codes "listen")) (first_value (found_of matches.now) (codes "rooms"))
-        (first_value (found_of matches.now) (codes "workers")) (first_value (found_of matches.now) (codes "sessions"))) result }
+        (first_value (found_of matches.now) (codes "workers")) (first_value (found_of matches.now) (codes "sessions")) (first_value (found_of matches.now) (codes "ws"))) result }
     ensures bounds { IfOk result (λ asked. (1 ≤ asked.rooms) × (asked.rooms ≤ 64) × (1 ≤ asked.workers) × (asked.workers ≤ 32)) }
 {
     let listen = matches.get_str("listen").ok_or(WordsNo::Usage)?;
@@ -70,5 +73,16 @@ fn words_in(alloc: Global, matches: &ArgMatches) -> Result<ServeWords, WordsNo>
         rooms: rooms as u8,
         workers: workers as u8,
         sessions,
+        ws: is_said(matches.get_str("ws")),
     })
+}
+
+/// Whether a flag was said, by the text that stands for it.
+fn is_said(text: Option<&str>) -> bool
+    ensures { result ≡ is_said (option_map (λ text. text.now) text.entry) }
+{
+    match text {
+        Some(text) => text.as_bytes() == b"true".as_slice(),
+        None => false,
+    }
 }

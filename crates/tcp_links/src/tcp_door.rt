@@ -3,26 +3,20 @@
 ghost use Rattle.std.specs.Prelude.{◌≡◌, ◌≤◌, false, None, IfOk};
 
 use crate::halt::Halt;
+use crate::listening::Listening;
 use crate::tcp_link::TcpLink;
-use crate::watch::Watch;
 use board_links::{Door, Link, SessionEnd, Visit};
-use mio::Interest;
-use mio::net::{TcpListener, TcpStream};
 use std::alloc::Global;
 use std::io;
 use std::net::{Net, SocketAddr};
 use std::sync::Wait;
-
-/// How many milliseconds a poll for a connection waits before the listener is asked again.
-const WAIT: u64 = 100;
 
 /// A door over a TCP listener. It is never shut, and doesn't tell how many links are left.
 #[derive(Drop)]
 pub struct TcpDoor<N> {
     net: N,
     alloc: Global,
-    listener: TcpListener,
-    watch: Watch,
+    listening: Listening,
     limit: u32,
     given: u64,
     came_back: u64,
@@ -40,12 +34,11 @@ impl<N: Net + Drop> TcpDoor<N> {
         ensures shut { IfOk result (λ d. ⟦<TcpDoor<N> as Door>⟧.shut d ≡ false) }
         ensures faults { IfOk result (λ d. ⟦<TcpDoor<N> as Door>⟧.faults d ≡ 0) }
     {
-        match listen(&net, alloc, addr) {
-            Ok((listener, watch)) => Ok(TcpDoor {
+        match Listening::bind(&net, alloc, addr) {
+            Ok(listening) => Ok(TcpDoor {
                 net,
                 alloc,
-                listener,
-                watch,
+                listening,
                 limit,
                 given: 0,
                 came_back: 0,
@@ -60,7 +53,7 @@ impl<N: Net + Drop> TcpDoor<N> {
 
     /// The address at which it listens, with the port that it got.
     pub fn addr(&self) -> io::Result<SocketAddr> {
-        self.listener.local_addr()
+        self.listening.addr()
     }
 
     /// A link over the next connection. It may wait.
@@ -69,56 +62,11 @@ impl<N: Net + Drop> TcpDoor<N> {
         ensures fresh { IfOk result (λ l. ⟦<TcpLink as Link>⟧.faults l ≡ 0) }
         ensures unfinished { IfOk result (λ l. ⟦<TcpLink as Link>⟧.finished l ≡ None) }
     {
-        let stream = connection(rt, &self.listener, &mut self.watch)?;
+        let stream = self.listening.connection(rt)?;
         match TcpLink::over(&self.net, self.alloc, stream, self.limit) {
             Ok(link) => Ok(link),
             Err(error) => Err(Halt::from(error)),
         }
-    }
-}
-
-/// A listener at an address, with its watch.
-fn listen<N: Net>(net: &N, alloc: Global, addr: SocketAddr) -> io::Result<(TcpListener, Watch)> {
-    let mut listener = TcpListener::bind(net, addr)?;
-    match Watch::over(net, alloc, &mut listener, Interest::READABLE) {
-        Ok(watch) => Ok((listener, watch)),
-        Err(error) => {
-            drop(listener);
-            Err(error)
-        }
-    }
-}
-
-/// The next connection. It may wait.
-fn connection<R: Wait>(
-    rt: &R,
-    listener: &TcpListener,
-    watch: &mut Watch,
-) -> Result<TcpStream, Halt> {
-    for _ in rt.forever() {
-        if let Some(answer) = next(listener, watch) {
-            return answer;
-        }
-    }
-    unreachable!()
-}
-
-/// The next connection, or why none comes; nothing where it may come yet.
-fn next(listener: &TcpListener, watch: &mut Watch) -> Option<Result<TcpStream, Halt>> {
-    match accept(listener) {
-        Err(Halt::Wait) => match watch.ready(WAIT) {
-            Ok(_) => None,
-            Err(halt) => Some(Err(halt)),
-        },
-        answer => Some(answer),
-    }
-}
-
-/// A connection that waits already.
-fn accept(listener: &TcpListener) -> Result<TcpStream, Halt> {
-    match listener.accept() {
-        Ok((stream, _)) => Ok(stream),
-        Err(error) => Err(Halt::from(error)),
     }
 }
 

@@ -1,0 +1,104 @@
+//! A session over bytes that are known, and the bytes that it is sent.
+
+ghost use Rattle.std.specs.Prelude.{◌≡◌, None, vec_len};
+ghost use Rattle.session_pool.specs.Passes.{Belong, number_of};
+ghost use Rattle.session_pool.specs.Placed.{AttachedBy};
+
+use any_game::AnyGame;
+use board_links::SessionEnd;
+use dice_words::Tape;
+use game_sheet::NoMemory;
+use match_master::Book;
+use room_desk::{Desk, Pass};
+use session_pool::serve_link;
+use std::alloc::Global;
+use std::sync::Wait;
+use std::test::Fail;
+use tungstenite::Duplex;
+use ws_link::WsLink;
+
+/// A binary message with a mask of zeros, which asks for the games.
+const GAMES: &[u8] = b"\x82\x90\x00\x00\x00\x00{\"type\":\"games\"}";
+
+/// The text message that answers it.
+const ANSWER: &[u8] =
+    b"\x81\x5d{\"games\":[\"blind-bid\",\"captions\",\"countdown\",\"high-hand\",\"pig\",\"tic-tac-toe\"],\"type\":\"games\"}";
+
+/// The close of a session whose peer has ended.
+const ENDED: &[u8] = b"\x88\x02\x03\xe8";
+
+/// The close of one whose line was too long.
+const TOO_LONG: &[u8] = b"\x88\x02\x03\xf1";
+
+/// One room, and a pass to it.
+#[derive(Drop)]
+struct Rooms {
+    desks: Vec<Desk<Book<AnyGame>>>,
+    passes: Vec<Pass<Book<AnyGame>>>,
+    ghost one: { vec_len desks ≡ 1 },
+    ghost belong: { Belong desks.items (number_of passes.items) passes.items },
+    ghost free: { AttachedBy passes.items None },
+}
+
+fn opened(alloc: Global) -> Result<Rooms, NoMemory> {
+    let mut desks = Vec::with_capacity(alloc, 1)?;
+    let (desk, passes) = Desk::set_up(alloc, Book::new(alloc, 0)?, 1)?;
+    desks.push_reserved(desk);
+    Ok(Rooms { desks, passes })
+}
+
+/// Serves a session over these bytes: how it ended, and what it was sent.
+fn served<R: Wait>(
+    rt: &R,
+    alloc: Global,
+    bytes: &[u8],
+    sent: &mut Vec<u8>,
+) -> Result<SessionEnd, NoMemory> {
+    let mut rooms = opened(alloc)?;
+    let mut words = Tape::live([0; 32], 0, 0);
+    let mut link = WsLink::raw(
+        alloc,
+        Duplex {
+            reader: bytes,
+            writer: sent,
+        },
+    );
+    let Rooms { desks, passes } = &mut rooms;
+    let end = serve_link(
+        rt,
+        alloc,
+        desks.as_slice(),
+        passes.as_mut_slice(),
+        &mut link,
+        &mut words,
+    );
+    drop(link);
+    drop(rooms);
+    Ok(end)
+}
+
+#[test]
+fn games_by_frames(rt: HostRuntime) -> Result<(), Fail> {
+    let alloc = rt.alloc();
+    let mut sent = Vec::new(alloc);
+    let end = served(&rt, alloc, GAMES, &mut sent)?;
+    assert_eq!(rt; end, SessionEnd::Ended);
+    assert!(rt; sent.as_slice().starts_with(ANSWER));
+    assert_eq!(rt; &sent.as_slice()[ANSWER.len().min(sent.len())..], ENDED);
+    Ok(())
+}
+
+#[test]
+fn a_message_past_the_limit(rt: HostRuntime) -> Result<(), Fail> {
+    let alloc = rt.alloc();
+    let mut bytes = Vec::from_slice(
+        alloc,
+        b"\x82\xff\x00\x00\x00\x00\x00\x01\x00\x01\x00\x00\x00\x00",
+    )?;
+    bytes.resize(14 + 65_537, b' ')?;
+    let mut sent = Vec::new(alloc);
+    let end = served(&rt, alloc, bytes.as_slice(), &mut sent)?;
+    assert_eq!(rt; end, SessionEnd::TooLong);
+    assert_eq!(rt; sent.as_slice(), TOO_LONG);
+    Ok(())
+}
