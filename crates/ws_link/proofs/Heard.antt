@@ -1,7 +1,6 @@
 -- Runs of frames, one after another, and what they tell.
-use Rattle.std.proofs.Common.{inl, inr, ◌⊎◌, ◌≡◌, ℕ, List, [], ◌∷◌, ◌++◌, Bool, true, false, cond, Option, None, Some, Ok, Err, Result, refl, sym, ap, subst, ◌∙◌, append_assoc, append-nil, length}
+use Rattle.std.proofs.Common.{inl, inr, ◌⊎◌, ◌≡◌, ℕ, List, [], ◌∷◌, ◌++◌, Bool, true, false, cond, Option, None, Some, Ok, Err, refl, sym, ap, subst, ◌∙◌, append_assoc, append-nil, length}
 use Rattle.std.specs.Prelude.{MatchOption, nat_lt}
-use Rattle.std.specs.Io.KnownBytes.{Consumes}
 use Rattle.board_links.specs.declared.link.Came.{Came}
 use Rattle.board_links.specs.declared.link.Came.TheVariants as came
 use Rattle.tungstenite.specs.Connection.{Connection, Effect, read_step}
@@ -14,7 +13,7 @@ use Rattle.tungstenite.specs.declared.message.Message.{Message}
 use Rattle.tungstenite.proofs.SocketLemmas.{consumes-chain, consumes-nil, nil-left, replies-none, runs-more}
 use Rattle.websocket.specs.declared.error.Error.{Error as FrameError}
 use Rattle.websocket.specs.declared.error.Error.TheVariants as frame
-use Rattle.ws_link.specs.Frames.{Brings, Hears, IsCutOff, IsOver, IsSilent, ReadsRun, Tells, TellsNothing, frame_tells, line_limit, line_told, message_tells, tells}
+use Rattle.ws_link.specs.Frames.{Brings, Hears, IsCutOff, IsOver, IsSilent, ReadsRun, Tells, TellsNothing, frame_tells, line_limit, message_tells, tells}
 use Rattle.ws_link.specs.Refusals.{IsEndOf, Refused}
 use Rattle.ws_link.proofs.Roles.{runs_keep}
 

@@ -1,5 +1,5 @@
 -- Whatever is read, a connection keeps its side.
-use Rattle.std.proofs.Common.{◌≡◌, ℕ, List, [], ◌∷◌, ◌++◌, Bool, true, false, cond, not, Option, None, Some, Ok, Err, Result, refl, ap, subst, ◌∙◌, length, drop, nat_lt}
+use Rattle.std.proofs.Common.{◌≡◌, ℕ, List, [], ◌∷◌, ◌++◌, Bool, true, false, cond, not, Option, None, Some, Ok, Err, Result, refl, ap, subst, ◌∙◌, length, nat_lt}
 use Rattle.tungstenite.specs.Connection.{Connection, Effect, can_write, check_header, check_so_far, complete_message, decode_close, deliver, has_allowed_code, on_close, on_control, on_data, on_data_after, on_frame, on_message_bytes, on_opcode, on_short_control, read_step}
 use Rattle.tungstenite.specs.Content.{Content}
 use Rattle.tungstenite.specs.Frame.{Checked, after_check, check_size}

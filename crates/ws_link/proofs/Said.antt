@@ -1,13 +1,13 @@
 -- Lines as frames, one after another.
-use Rattle.std.proofs.Common.{inl, inr, ◌⊎◌, ◌≡◌, ◌<◌, ◌≤◌, ◌-◌, ◌==◌, ◌+◌, ℕ, zero, suc, List, [], ◌∷◌, ◌++◌, Bool, true, false, cond, Option, None, Some, Ok, Err, Result, refl, sym, ap, subst, ◌∙◌, append_assoc, append-nil, length, map, take, drop, slice_index, arith, length-take}
+use Rattle.std.proofs.Common.{◌≡◌, ◌<◌, ◌≤◌, ◌-◌, ◌==◌, ◌+◌, ℕ, zero, suc, List, [], ◌∷◌, ◌++◌, Bool, true, false, cond, Option, None, Some, Result, refl, sym, ap, subst, ◌∙◌, append_assoc, append-nil, length, map, take, drop, slice_index, arith, length-take}
 use Rattle.std.specs.List.{concat}
 use Rattle.std.specs.Io.KnownBytes.{Appends}
 use Rattle.std.proofs.lemmas.List.{take-take}
 use Rattle.memchr.specs.Find.{IsFirstByte, is_byte}
 use Rattle.game_sheet.specs.Lines.{first_length, lines}
 use Rattle.game_sheet.proofs.Cut.{cut_at, ended, longer}
-use Rattle.tungstenite.specs.Connection.{Connection, Effect, IsMaskOf, Sends, check_can_write, whole_header, write_active, write_step}
-use Rattle.tungstenite.specs.Content.{Content, text, binary, content_opcode}
+use Rattle.tungstenite.specs.Connection.{Connection, Effect, IsMaskOf, check_can_write, whole_header, write_active, write_step}
+use Rattle.tungstenite.specs.Content.{text, binary, content_opcode}
 use Rattle.tungstenite.specs.Frame.{after_check, encode_frame}
 use Rattle.tungstenite.specs.Socket.{Flushed, Socket, Writes}
 use Rattle.tungstenite.specs.Text.{is_utf8}

@@ -1,5 +1,5 @@
 -- What the frames of a WebSocket tell a link, and what lines are as frames.
-use Rattle.std.specs.Prelude.{◌≡◌, ◌⊎◌, ◌++◌, ◌∷◌, ◌-◌, ℕ, nat_lt, cond, if◌then◌else◌, List, [], length, map, take, Option, None, Some, Bool, false, Err, Result}
+use Rattle.std.specs.Prelude.{◌≡◌, ◌⊎◌, ◌++◌, ◌∷◌, ◌-◌, ℕ, nat_lt, cond, if◌then◌else◌, List, [], length, map, take, Option, None, Some, Err}
 use Rattle.std.specs.List.{concat}
 use Rattle.std.specs.Io.KnownBytes.{Appends, Consumes, IsAtEnd}
 use Rattle.board_links.specs.declared.link.Came.{Came}

@@ -1,7 +1,6 @@
 -- What a call makes of a link's peer where the handshake was made, and the numbers of closes.
 use Rattle.std.specs.Prelude.{◌≡◌, ℕ, List, Option}
 use Rattle.board_links.specs.declared.link.Came.{Came}
-use Rattle.board_links.specs.declared.link.Came.TheVariants as came
 use Rattle.board_links.specs.declared.link.Out.{Out}
 use Rattle.board_links.specs.declared.link.Out.TheVariants as out
 use Rattle.board_links.specs.declared.link.SessionEnd.{SessionEnd}

@@ -1,4 +1,4 @@
-use Rattle.std.proofs.Common.{◌≡◌, ◌∙◌, ap}
+use Rattle.std.proofs.Common.{◌∙◌, ap}
 use Rattle.tungstenite.specs.Content.{text}
 use Rattle.websocket.proofs.TextLemmas.{is_utf8-false, is_utf8-true}
 use Rattle.ws_link.proofs.socket.message.Goals as goal
