@@ -282,12 +282,7 @@ where
 }
 
 /// Serves the door with its workers' passes, as `J` has it too, which names what the lock has to know of this call.
-fn run<
-    D: Door + Send,
-    J: Shift + Send + Sync,
-    B: Ledger + Send + Sync,
-    R: Threads + Wait + Sync,
->(
+fn run<D: Door + Send, J: Shift + Send + Sync, B: Ledger + Send + Sync, R: Threads + Wait + Sync>(
     rt: &R,
     alloc: Global,
     desks: &[Desk<Book<AnyGame>>],

@@ -97,12 +97,7 @@ impl<D: Door, J: Shift, B: Ledger> Gate<D, J, B> {
     }
 
     /// The next link, unless none came yet or there is none to be taken any more.
-    pub fn take<R: Wait>(
-        &mut self,
-        rt: &R,
-        mine: &mut Share<J>,
-        bots: &mut Share<B>,
-    ) -> Next<D::L>
+    pub fn take<R: Wait>(&mut self, rt: &R, mine: &mut Share<J>, bots: &mut Share<B>) -> Next<D::L>
         requires parts { (0 < mine.old.parts) × (0 < bots.old.parts) }
         ensures parts { (mine.new.parts ≡ mine.old.parts) × (bots.new.parts ≡ bots.old.parts) }
         ensures others { mine.new.amount ≡ mine.old.amount + takes_other D.has_bots D.L.Link.is_bot result }
@@ -121,12 +116,7 @@ impl<D: Door, J: Shift, B: Ledger> Gate<D, J, B> {
     }
 
     /// The link that the door gives; if it will give none any more, its answer is the end.
-    fn accept<R: Wait>(
-        &mut self,
-        rt: &R,
-        mine: &mut Share<J>,
-        bots: &mut Share<B>,
-    ) -> Next<D::L>
+    fn accept<R: Wait>(&mut self, rt: &R, mine: &mut Share<J>, bots: &mut Share<B>) -> Next<D::L>
         requires parts { (0 < mine.old.parts) × (0 < bots.old.parts) }
         requires open { self.old.end ≡ None }
         requires more { self.old.count < J.sessions }

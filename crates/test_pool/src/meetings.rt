@@ -1,6 +1,6 @@
 //! Two links that wait for each other, over a door in memory and two workers.
 
-ghost use Rattle.std.specs.Prelude.{◌≡◌, ◌-◌, false, vec_len, IfOk, Some};
+ghost use Rattle.std.specs.Prelude.{◌≡◌, ◌-◌, false, vec_len, IfOk, Some, None};
 ghost use Rattle.board_links.specs.Answers.{CameRaises, IsWithin, stage_after};
 ghost use Rattle.board_links.specs.Doors.{IsFresh};
 
@@ -175,6 +175,28 @@ impl<'a, R: Clock> Link for Meeting<'a, R> {
     fn ask_out(&mut self) {}
 }
 
+/// The first link, or the second.
+fn meeting<'a, R: Clock>(
+    clock: &'a R,
+    flags: &'a Flags,
+    alloc: Global,
+    first: bool,
+) -> Meeting<'a, R>
+    ensures { result.finished ≡ None }
+{
+    Meeting {
+        clock,
+        flags,
+        alloc,
+        first,
+        turns: 0,
+        sends: 0,
+        key: [b'0'; 32],
+        stage: Stage::Open,
+        finished: None,
+    }
+}
+
 /// A door of both links, of which the second comes first.
 fn door<'a, R: Clock>(
     clock: &'a R,
@@ -184,19 +206,8 @@ fn door<'a, R: Clock>(
     ensures fresh { IfOk result (λ d. (d.start - vec_len d.links ≡ 0) × (d.start - vec_len d.links - vec_len d.ended ≡ 0) × (d.shut ≡ false)) }
 {
     let mut links = Vec::new(alloc);
-    for first in [true, false] {
-        links.push(Meeting {
-            clock,
-            flags,
-            alloc,
-            first,
-            turns: 0,
-            sends: 0,
-            key: [b'0'; 32],
-            stage: Stage::Open,
-            finished: None,
-        })?;
-    }
+    links.push(meeting(clock, flags, alloc, true))?;
+    links.push(meeting(clock, flags, alloc, false))?;
     MemoryDoor::new(alloc, links, List::new(alloc))
 }
 
