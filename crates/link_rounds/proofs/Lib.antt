@@ -1,0 +1,5 @@
+pub mod Benches
+pub mod Returns
+pub mod Rounds
+pub mod Sittings
+pub mod Workers

@@ -1,0 +1,12 @@
+use Rattle.std.proofs.Common.{◌≡◌}
+use Rattle.std.specs.Prelude.{All}
+use Rattle.link_rounds.specs.Places.{Sits, about, seated_bots, seated_others}
+use Rattle.link_rounds.proofs.bench.serve_due.Given as goal
+
+abbrev pub invariant-loop-at : goal.invariant-loop-at
+invariant-loop-at g l =
+    let a = about g.D.L.Link.answers g.D.L.Link.sent g.D.L.Link.faults g.D.L.Link.stage g.D.L.Link.clear g.D.L.Link.is_bot in
+    All (λ p. g.S.Service.fits l.hall p.service) l.places.items
+    × All (Sits g.S.Service.turn g.S.Service.leave a g.S.Service.rests) l.places.items
+    × (l.share.parts ≡ 1) × (l.bots.parts ≡ 1)
+    × (l.share.amount ≡ seated_others g.D.Door.has_bots g.D.L.Link.is_bot l.places.items) × (l.bots.amount ≡ seated_bots g.D.Door.has_bots g.D.L.Link.is_bot l.places.items)

@@ -1,0 +1,4 @@
+pub mod Ends
+pub mod Gate
+pub mod Places
+pub mod Turns

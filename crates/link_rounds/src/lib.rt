@@ -1,0 +1,21 @@
+//! Workers that serve many links each: every place has a service, which gives its link turn after turn, and a round gives a turn to the
+//! places that are ready.
+#![tactic(auto)]
+
+mod bench;
+mod gate;
+mod links;
+mod place;
+mod ready;
+mod round;
+mod service;
+mod serving;
+
+pub use bench::Bench;
+pub use gate::{DoorEnd, Gate, Next, Shift};
+pub use links::serve_links;
+pub use place::Place;
+pub use ready::Ready;
+pub use round::serve_round;
+pub use service::{Service, Stir};
+pub use serving::serve_door;
