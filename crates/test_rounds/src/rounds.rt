@@ -1,0 +1,133 @@
+//! Links in memory that are served at a bench of two places.
+
+ghost use Rattle.std.specs.Prelude.{◌≡◌, ◌<◌, [], All, Some, IfOk, false, vec_len};
+ghost use Rattle.board_links.specs.Doors.{IsFresh};
+
+use crate::echo::Echo;
+use board_links::{AtEnd, Door, Link, MemoryDoor, MemoryLink, Scripted, SessionEnd};
+use game_sheet::{List, NoMemory};
+use link_rounds::{Bench, DoorEnd, Ready, Service, Stir, serve_door};
+use std::alloc::Global;
+use std::sync::Wait;
+use std::test::Fail;
+use std::thread::Threads;
+
+/// Names both places of its bench in turn, the second in bursts, and one beyond them.
+#[derive(Drop)]
+struct Everyone;
+
+impl<L: Link> Ready<L> for Everyone {
+    ghost use Rattle.std.specs.Prelude.{None};
+
+    ghost named = { λ _. None };
+
+    fn watch(&mut self, _number: u32, _link: &mut L) {}
+
+    fn note(&mut self, _number: u32, _stir: Stir) {}
+
+    fn wait<R: Wait>(&mut self, _rt: &R, numbers: &mut Vec<u32>) {
+        numbers.clear();
+        for number in [0, 1, 1, 2, 1] {
+            let _named = numbers.push(number);
+        }
+    }
+}
+
+/// A link that says these lines, and ends.
+fn link(alloc: Global, lines: &[&[u8]]) -> Result<MemoryLink, NoMemory>
+    ensures { IfOk result (λ l. IsFresh l.faults l.finished (Some l.answers) (Some l.sent)) }
+{
+    let mut script = Vec::new(alloc);
+    for line in lines {
+        script.push(Scripted::Line(Vec::from_slice(alloc, line)?))?;
+    }
+    Ok(MemoryLink::new(alloc, script, AtEnd::Ended, 9, List::new(alloc)))
+}
+
+/// What the links of the door say, each in lines.
+const SAID: [&[&[u8]]; 5] = [
+    &[b"one", b"two"],
+    &[],
+    &[b"three", b"four", b"five"],
+    &[b"six"],
+    &[b"seven", b""],
+];
+
+/// What comes back from them, in the order in which they do: the last link comes first, and the second place is free first.
+const ANSWERED: [&[u8]; 5] = [
+    b"seven\n\n",
+    b"six\n",
+    b"",
+    b"three\nfour\nfive\n",
+    b"one\ntwo\n",
+];
+
+/// A door of links that say these lines, of which the last comes first.
+fn door(alloc: Global, said: &[&[&[u8]]]) -> Result<MemoryDoor<MemoryLink>, NoMemory>
+    ensures given { IfOk result (λ d. ⟦<MemoryDoor<MemoryLink> as Door>⟧.given d ≡ 0) }
+    ensures out { IfOk result (λ d. ⟦<MemoryDoor<MemoryLink> as Door>⟧.out d ≡ 0) }
+    ensures shut { IfOk result (λ d. ⟦<MemoryDoor<MemoryLink> as Door>⟧.shut d ≡ false) }
+    ensures returned { IfOk result (λ d. ⟦<MemoryDoor<MemoryLink> as Door>⟧.returned d ≡ Some []) }
+{
+    let mut links = Vec::new(alloc);
+    for lines in said {
+        links.push(link(alloc, lines)?)?;
+    }
+    MemoryDoor::new(alloc, links, List::new(alloc))
+}
+
+/// Serves a door at one bench with these services.
+fn serve<S: Service + Send, D: Door + Send, W: Ready<D::L> + Send, R: Threads + Wait + Sync>(
+    rt: &R,
+    alloc: Global,
+    hall: &S::Hall,
+    services: Vec<S>,
+    ready: W,
+    door: D,
+) -> Result<(DoorEnd, u32, D), NoMemory>
+where
+    D::L: Send,
+    S::Hall: Sync,
+    requires few { vec_len services < 4294967296 }
+    requires fit { All (S.fits hall.now) services.items }
+    requires rest { All S.rests services.items }
+    requires fresh { (D.given door ≡ 0) × (D.out door ≡ 0) × (D.bots_out door ≡ 0) × (D.shut door ≡ false) }
+    requires returned { D.returned door ≡ Some [] }
+{
+    let mut benches = Vec::with_capacity(alloc, 1)?;
+    match Bench::new(alloc, hall, services, ready) {
+        Ok(bench) => benches.push_reserved(bench),
+        Err(services) => {
+            drop(services);
+            drop(door);
+            return Err(NoMemory);
+        }
+    }
+    let (end, count, benches, door) = serve_door(rt, alloc, hall, benches, door, 1000);
+    drop(benches);
+    Ok((end, count, door))
+}
+
+/// Two services that send back what they are said.
+fn echoes(alloc: Global) -> Result<Vec<Echo>, NoMemory>
+    ensures { IfOk result (λ s. vec_len s ≡ 2) }
+{
+    let mut services = Vec::new(alloc);
+    services.push(Echo::new(alloc))?;
+    services.push(Echo::new(alloc))?;
+    Ok(services)
+}
+
+#[test]
+fn links_are_served_turn_by_turn_and_come_back(rt: HostRuntime) -> Result<(), Fail> {
+    let alloc = rt.alloc();
+    let services = echoes(alloc)?;
+    let door = door(alloc, &SAID)?;
+    let (end, count, door) = serve(&rt, alloc, &(), services, Everyone, door)?;
+    assert!(rt; end == DoorEnd::Done && count == 5);
+    for (place, (link, end)) in door.ended().iter().enumerate() {
+        assert!(rt; *end == SessionEnd::Ended && link.sent() == ANSWERED[place]);
+    }
+    assert_eq!(rt; door.ended().len(), 5);
+    Ok(())
+}
