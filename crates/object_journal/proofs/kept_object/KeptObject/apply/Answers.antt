@@ -2,7 +2,8 @@ use Rattle.std.proofs.Common.{rules, ◌≡◌, ◌∷◌, Some, true, false, []
 use Rattle.room_object.specs.Entry.{entry}
 use Rattle.object_journal.specs.Keeping.{Adds, HasEither}
 use Rattle.record_file.specs.Records.{IsBeforeOrAfter}
-use Rattle.object_journal.proofs.Either.{either, was_accepted, weaker}
+use Rattle.record_file.proofs.Composing.{weaker}
+use Rattle.object_journal.proofs.Either.{either, was_accepted}
 use Rattle.object_journal.proofs.kept_object.KeptObject.apply.Goals as goal
 
 pub returns-in-Done-clause-crash : goal.returns-in-Done-clause-crash

@@ -1,0 +1,2 @@
+pub mod ChangesOf
+pub mod Kept
