@@ -2,11 +2,8 @@
 
 ghost use Rattle.std.specs.Prelude.{◌≡◌, ◌-◌, false, vec_len, IfOk, Some, None};
 ghost use Rattle.board_links.specs.Answers.{CameRaises, IsWithin, stage_after};
-ghost use Rattle.board_links.specs.Doors.{IsFresh};
 
-use board_links::{
-    AtEnd, Came, Door, Link, MemoryDoor, MemoryLink, Out, Scripted, SessionEnd, Stage,
-};
+use board_links::{Came, Door, Link, MemoryDoor, Out, SessionEnd, Stage};
 use game_sheet::{Bytes, List, MatchName, NoMemory, Seat};
 use session_pool::{DoorEnd, serve_door, set_up_rooms};
 use std::alloc::Global;
@@ -176,7 +173,7 @@ impl<'a, R: Clock> Link for Meeting<'a, R> {
 }
 
 /// The first link, or the second.
-fn meeting<'a, R: Clock>(
+fn new_meeting<'a, R: Clock>(
     clock: &'a R,
     flags: &'a Flags,
     alloc: Global,
@@ -206,8 +203,8 @@ fn door<'a, R: Clock>(
     ensures fresh { IfOk result (λ d. (d.start - vec_len d.links ≡ 0) × (d.start - vec_len d.links - vec_len d.ended ≡ 0) × (d.shut ≡ false)) }
 {
     let mut links = Vec::new(alloc);
-    links.push(meeting(clock, flags, alloc, true))?;
-    links.push(meeting(clock, flags, alloc, false))?;
+    links.push(new_meeting(clock, flags, alloc, true))?;
+    links.push(new_meeting(clock, flags, alloc, false))?;
     MemoryDoor::new(alloc, links, List::new(alloc))
 }
 
@@ -242,57 +239,5 @@ fn two_links_that_wait_for_each_other_are_served_by_two_workers(
     }
     assert_eq!(rt; sends, [5, 0]);
     assert!(rt; !flags.missed.load(Ordering::SeqCst));
-    Ok(())
-}
-
-/// What each of five links says.
-const ASKS: &[u8] = b"{\"type\":\"games\"}";
-
-/// What it is answered.
-const GAMES: &[u8] =
-    b"{\"games\":[\"blind-bid\",\"captions\",\"countdown\",\"high-hand\",\"pig\",\"tic-tac-toe\"],\"type\":\"games\"}\n";
-
-/// A link that asks for the games, and ends.
-fn asking(alloc: Global) -> Result<MemoryLink, NoMemory>
-    ensures { IfOk result (λ link. IsFresh link.faults link.finished (Some link.answers) (Some link.sent)) }
-{
-    let mut script = Vec::new(alloc);
-    script.push(Scripted::Line(Vec::from_slice(alloc, ASKS)?))?;
-    Ok(MemoryLink::new(alloc, script, AtEnd::Ended, 65_536, List::new(alloc)))
-}
-
-/// A door of five links that ask for the games.
-fn five(alloc: Global) -> Result<MemoryDoor<MemoryLink>, NoMemory>
-    ensures fresh { IfOk result (λ d. (d.start - vec_len d.links ≡ 0) × (d.start - vec_len d.links - vec_len d.ended ≡ 0) × (d.shut ≡ false)) }
-{
-    let mut links = Vec::new(alloc);
-    for _ in 0..5 {
-        links.push(asking(alloc)?)?;
-    }
-    MemoryDoor::new(alloc, links, List::new(alloc))
-}
-
-#[test]
-fn five_links_are_served_by_two_workers(rt: HostRuntime) -> Result<(), Fail> {
-    let alloc = rt.alloc();
-    let door = five(alloc)?;
-    let (desks, passes) = set_up_rooms(alloc, 1, 2)?;
-    let (end, count, passes, door) = serve_door(
-        &rt,
-        alloc,
-        desks.as_slice(),
-        passes,
-        door,
-        1000,
-        [0; 32],
-    );
-    drop(passes);
-    drop(desks);
-    assert!(rt; end == DoorEnd::Done && count == 5);
-    for (link, end) in door.ended() {
-        assert_eq!(rt; *end, SessionEnd::Ended);
-        assert_eq!(rt; link.sent(), GAMES);
-    }
-    assert_eq!(rt; door.ended().len(), 5);
     Ok(())
 }
