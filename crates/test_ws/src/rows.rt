@@ -12,6 +12,7 @@ use match_master::Book;
 use room_desk::{Desk, Pass};
 use session_pool::serve_link;
 use std::alloc::Global;
+use std::io::Cursor;
 use std::sync::Wait;
 use std::test::Fail;
 use tungstenite::Duplex;
@@ -51,7 +52,7 @@ fn opened(alloc: Global) -> Result<Rooms, NoMemory> {
 fn served<R: Wait>(
     rt: &R,
     alloc: Global,
-    bytes: &[u8],
+    bytes: Vec<u8>,
     sent: &mut Vec<u8>,
 ) -> Result<SessionEnd, NoMemory> {
     let mut rooms = opened(alloc)?;
@@ -59,7 +60,7 @@ fn served<R: Wait>(
     let mut link = WsLink::raw(
         alloc,
         Duplex {
-            reader: bytes,
+            reader: Cursor::new(bytes),
             writer: sent,
         },
     );
@@ -81,7 +82,7 @@ fn served<R: Wait>(
 fn games_by_frames(rt: HostRuntime) -> Result<(), Fail> {
     let alloc = rt.alloc();
     let mut sent = Vec::new(alloc);
-    let end = served(&rt, alloc, GAMES, &mut sent)?;
+    let end = served(&rt, alloc, Vec::from_slice(alloc, GAMES)?, &mut sent)?;
     assert_eq!(rt; end, SessionEnd::Ended);
     assert!(rt; sent.as_slice().starts_with(ANSWER));
     assert_eq!(rt; &sent.as_slice()[ANSWER.len().min(sent.len())..], ENDED);
@@ -97,7 +98,7 @@ fn a_message_past_the_limit(rt: HostRuntime) -> Result<(), Fail> {
     )?;
     bytes.resize(14 + 65_537, b' ')?;
     let mut sent = Vec::new(alloc);
-    let end = served(&rt, alloc, bytes.as_slice(), &mut sent)?;
+    let end = served(&rt, alloc, bytes, &mut sent)?;
     assert_eq!(rt; end, SessionEnd::TooLong);
     assert_eq!(rt; sent.as_slice(), TOO_LONG);
     Ok(())
