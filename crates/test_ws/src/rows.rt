@@ -48,23 +48,24 @@ fn opened(alloc: Global) -> Result<Rooms, NoMemory> {
     Ok(Rooms { desks, passes })
 }
 
-/// Serves a session over these bytes: how it ended, and what it was sent.
-fn served<R: Wait>(
+/// Serves a session over these bytes in these rooms: how it ended, and what it was sent.
+fn serve<R: Wait>(
     rt: &R,
     alloc: Global,
+    rooms: &mut Rooms,
     bytes: Vec<u8>,
     sent: &mut Vec<u8>,
-) -> Result<SessionEnd, NoMemory> {
-    let mut rooms = opened(alloc)?;
+) -> SessionEnd {
     let mut words = Tape::live([0; 32], 0, 0);
+    let reader = Cursor::new(bytes);
     let mut link = WsLink::raw(
         alloc,
         Duplex {
-            reader: Cursor::new(bytes),
+            reader,
             writer: sent,
         },
     );
-    let Rooms { desks, passes } = &mut rooms;
+    let Rooms { desks, passes } = rooms;
     let end = serve_link(
         rt,
         alloc,
@@ -74,6 +75,18 @@ fn served<R: Wait>(
         &mut words,
     );
     drop(link);
+    end
+}
+
+/// Serves a session over these bytes in rooms of its own.
+fn served<R: Wait>(
+    rt: &R,
+    alloc: Global,
+    bytes: Vec<u8>,
+    sent: &mut Vec<u8>,
+) -> Result<SessionEnd, NoMemory> {
+    let mut rooms = opened(alloc)?;
+    let end = serve(rt, alloc, &mut rooms, bytes, sent);
     drop(rooms);
     Ok(end)
 }
