@@ -25,7 +25,7 @@ const GAMES: &[u8] = b"\x82\x90\x00\x00\x00\x00{\"type\":\"games\"}";
 const ANSWER: &[u8] =
     b"\x81\x5d{\"games\":[\"blind-bid\",\"captions\",\"countdown\",\"high-hand\",\"pig\",\"tic-tac-toe\"],\"type\":\"games\"}";
 
-/// The close of a session whose peer has ended.
+/// The close of a session whose peer has ended: at most this is sent once the stream is at its end.
 const ENDED: &[u8] = b"\x88\x02\x03\xe8";
 
 /// The close of one whose line was too long.
@@ -98,7 +98,8 @@ fn games_by_frames(rt: HostRuntime) -> Result<(), Fail> {
     let end = served(&rt, alloc, Vec::from_slice(alloc, GAMES)?, &mut sent)?;
     assert_eq!(rt; end, SessionEnd::Ended);
     assert!(rt; sent.as_slice().starts_with(ANSWER));
-    assert_eq!(rt; &sent.as_slice()[ANSWER.len().min(sent.len())..], ENDED);
+    let rest = &sent.as_slice()[ANSWER.len().min(sent.len())..];
+    assert!(rt; rest.is_empty() || rest == ENDED);
     Ok(())
 }
 
