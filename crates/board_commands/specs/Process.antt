@@ -2,8 +2,8 @@
 use Rattle.std.specs.Prelude.{ℕ, List, [], ◌∷◌, ◌++◌, codes, decimal}
 use Rattle.link_play.specs.declared.exit.Exit.{Exit}
 use Rattle.link_play.specs.declared.exit.Exit.TheVariants.{Done, Usage, ReadFault, WriteFault, BadLine, TooLong, TooMany, NoMemory, DoorFault, LinkFault, LinkEnded, LinkLong}
-use Rattle.world_script.specs.declared.exit.Exit.{Exit as RunExit}
-use Rattle.world_script.specs.declared.exit.Exit.TheVariants as run
+use Rattle.line_runner.specs.declared.exit.Exit.{Exit as RunExit}
+use Rattle.line_runner.specs.declared.exit.Exit.TheVariants as run
 
 -- the end of a run without a door or a link
 abbrev pub of_run : RunExit → Exit

@@ -4,14 +4,14 @@ use Rattle.board_links.specs.Faults.{HasRisen}
 use Rattle.board_links.specs.declared.link.Stage.{Stage}
 use Rattle.board_links.specs.declared.link.Stage.TheVariants as stage
 use Rattle.game_trait.specs.Rules.{Rules}
-use Rattle.world_script.specs.Reading.{Moves, StandsAt, given_after}
-use Rattle.world_script.specs.Reader.{Reader, fresh, to_come}
-use Rattle.world_script.specs.ScriptLines.{Script, first_line, script}
-use Rattle.world_script.specs.ScriptLines as script
-use Rattle.world_script.specs.declared.next.Next.{Next}
-use Rattle.world_script.specs.declared.next.Next.TheVariants as next
-use Rattle.world_script.proofs.Moving.{none_after}
-use Rattle.world_script.proofs.Underway.{fault_part, fault_read, line_read}
+use Rattle.line_runner.specs.Reading.{Moves, StandsAt, given_after}
+use Rattle.line_runner.specs.Reader.{Reader, fresh, to_come}
+use Rattle.line_runner.specs.ScriptLines.{Script, first_line, script}
+use Rattle.line_runner.specs.ScriptLines as script
+use Rattle.line_runner.specs.declared.next.Next.{Next}
+use Rattle.line_runner.specs.declared.next.Next.TheVariants as next
+use Rattle.line_runner.proofs.Moving.{none_after}
+use Rattle.line_runner.proofs.Underway.{fault_part, fault_read, line_read}
 use Rattle.link_play.specs.Commands.{Command, Syncs}
 use Rattle.link_play.specs.Counts.{ExitRaises, ExitShows}
 use Rattle.link_play.specs.Doing.{Does, Who, sync_line}

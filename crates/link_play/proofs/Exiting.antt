@@ -2,9 +2,9 @@
 use Rattle.std.proofs.Common.{◌≡◌, ◌+◌, ℕ, Option, Some, None, Err, refl, sym, ap, ◌∙◌, subst}
 use Rattle.board_links.specs.Faults.{HasRisen}
 use Rattle.board_links.specs.declared.link.Stage.{Stage}
-use Rattle.world_script.specs.Reading.{Raises}
-use Rattle.world_script.specs.declared.next.Next.{Next}
-use Rattle.world_script.specs.declared.next.Next.TheVariants as next
+use Rattle.line_runner.specs.Reading.{Raises}
+use Rattle.line_runner.specs.declared.next.Next.{Next}
+use Rattle.line_runner.specs.declared.next.Next.TheVariants as next
 use Rattle.link_play.specs.Counts.{ExitRaises, ExitShows, LineRaises, LineShows}
 use Rattle.link_play.specs.Pieces.{SendRaises}
 use Rattle.link_play.specs.Exits.{end_at, stop_at, stopped}

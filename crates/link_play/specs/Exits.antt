@@ -1,7 +1,7 @@
 -- How what comes of a line, and of its reading, ends a run.
 use Rattle.std.specs.Prelude.{ℕ, ◌+◌, Option, Some, None}
-use Rattle.world_script.specs.declared.next.Next.{Next}
-use Rattle.world_script.specs.declared.next.Next.TheVariants as next
+use Rattle.line_runner.specs.declared.next.Next.{Next}
+use Rattle.line_runner.specs.declared.next.Next.TheVariants as next
 use Rattle.link_play.specs.declared.exit.Exit.{Exit}
 use Rattle.link_play.specs.declared.exit.Exit.TheVariants.{Done, ReadFault, WriteFault, BadLine, TooLong, TooMany, NoMemory, LinkFault, LinkEnded, LinkLong}
 use Rattle.link_play.specs.declared.stop.LineStatus.{LineStatus}

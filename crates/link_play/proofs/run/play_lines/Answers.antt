@@ -1,6 +1,6 @@
 use Rattle.std.proofs.Common.{◌≡◌, ◌+◌, refl, sym, ap, ◌∙◌, subst, arith, Some, None}
 use Rattle.board_links.specs.Pieces.{told_bytes}
-use Rattle.world_script.specs.Reading.{given_after}
+use Rattle.line_runner.specs.Reading.{given_after}
 use Rattle.link_play.specs.Exits.{end_at, stop_at}
 use Rattle.link_play.specs.Lines.{RanLine}
 use Rattle.link_play.specs.Sitting.{sitting}
