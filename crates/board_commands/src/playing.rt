@@ -11,7 +11,7 @@ ghost use Rattle.link_play.specs.Counts.{ExitRaises, ExitShows};
 ghost use Rattle.link_play.specs.Doing.{key_of};
 ghost use Rattle.link_play.specs.Ends.{AreInForm, IsComplete};
 ghost use Rattle.link_play.specs.Sitting.{Tell};
-ghost use Rattle.link_play.specs.declared.exit.Exit.TheVariants.{Usage};
+ghost use Rattle.line_runner.specs.declared.exit.Exit.TheVariants.{Usage};
 ghost use Rattle.board_commands.specs.Playing.{IsRefused, Plays, who_asks};
 
 use any_game::AnyGame;
@@ -19,7 +19,8 @@ use board_links::{Link, Sink, Source};
 use client_predict::Client;
 use command_words::{PlayWords, WordsNo, play_words};
 use game_sheet::{Key, MatchName, NoMemory, Viewer};
-use link_play::{Exit, Player, play_match};
+use line_runner::Exit;
+use link_play::{Player, play_match};
 use std::alloc::Global;
 use std::sync::Wait;
 

@@ -3,10 +3,10 @@
 
 ghost use Rattle.std.specs.Prelude.{◌≡◌, false};
 
-use board_commands::{of_run, play, print_page, run, serve};
+use board_commands::{play, print_page, run, serve};
 use board_links::{Door, ReaderSource, WriterSink};
 use command_words::{WordsNo, play_words, serve_words};
-use link_play::Exit;
+use line_runner::Exit;
 use std::fs::File;
 use std::io::{self, Read};
 use std::mem;
@@ -28,7 +28,7 @@ pub fn print_here(rt: &HostRuntime, page: &str) -> Exit {
 pub fn run_here(rt: &HostRuntime, words: &[String]) -> Exit {
     let mut source = ReaderSource::new(rt.reader());
     let mut sink = WriterSink::new(rt.stdout());
-    of_run(run(rt.alloc(), words, &mut source, &mut sink))
+    run(rt.alloc(), words, &mut source, &mut sink)
 }
 
 /// Plays a match over a link to the server that the words name.

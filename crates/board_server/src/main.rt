@@ -5,9 +5,9 @@
 
 mod edge;
 
-use board_commands::{HELP, Mode, VERSION, after_name, mode_of, report, status};
+use board_commands::{HELP, Mode, VERSION, after_name, mode_of};
 use edge::{play_there, print_here, run_here, serve_there};
-use link_play::Exit;
+use line_runner::Exit;
 use std::process::ExitCode;
 use std::sync::Wait;
 use std::thread::Threads;
@@ -19,9 +19,10 @@ fn main(rt: HostRuntime) -> ExitCode {
         Err(error) if error.kind() == io::ErrorKind::OutOfMemory => Exit::NoMemory,
         Err(_) => Exit::Usage,
     };
+    let (status, report) = exit.told();
     // A report that can't be written is lost; the status says the same.
-    let _reported = eprint!(rt; "{}", report(exit));
-    ExitCode::from(status(exit))
+    let _reported = eprint!(rt; "{report}");
+    ExitCode::from(status)
 }
 
 /// All words of the call, of which the first is the program's name.

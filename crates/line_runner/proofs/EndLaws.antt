@@ -19,13 +19,13 @@ use Rattle.line_runner.proofs.Playing.{nothing_printed}
 use Rattle.line_runner.proofs.RunLaws.{begins, breaks, ends_at, ends_bad, ends_long, ends_whole, goes_on, plays_by, stops, stops_at}
 use Rattle.line_runner.proofs.Underway.{Underway, line_read}
 
-exit_is : (a b : Exit) → Some a ≡ Some b → a ≡ b
+pub exit_is : (a b : Exit) → Some a ≡ Some b → a ≡ b
 exit_is a b h = cc
 
-no_exit : (a : Exit) → None ≡ Some a → ⊥
+pub no_exit : (a : Exit) → None ≡ Some a → ⊥
 no_exit a h = cc
 
-some_exit : (a : Exit) → Some a ≡ None → ⊥
+pub some_exit : (a : Exit) → Some a ≡ None → ⊥
 some_exit a h = cc
 
 pub line_is : (n : Next) (given : ℕ) → stop_at n given ≡ None → n ≡ next.Line

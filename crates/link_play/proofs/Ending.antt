@@ -16,18 +16,19 @@ use Rattle.link_play.specs.Commands.{Command, Syncs}
 use Rattle.link_play.specs.Counts.{ExitRaises, ExitShows}
 use Rattle.link_play.specs.Doing.{Does, Who, sync_line}
 use Rattle.link_play.specs.Ends.{AreInForm, Ends, Interrupts, IsComplete, StopsAtFault}
-use Rattle.link_play.specs.Exits.{end_at, stop_at, stopped}
+use Rattle.line_runner.specs.Running.{stop_at}
+use Rattle.link_play.specs.Exits.{end_at, stopped}
 use Rattle.link_play.specs.Lines.{RanLine}
 use Rattle.link_play.specs.Plan.{AtBad, Open, plan_from, plan_of}
 use Rattle.link_play.specs.Sitting.{Sitting, sends}
 use Rattle.link_play.specs.Stopping.{StopsIn}
-use Rattle.link_play.specs.declared.exit.Exit.{Exit}
-use Rattle.link_play.specs.declared.exit.Exit.TheVariants.{Done, Usage, ReadFault, WriteFault, BadLine, TooLong, TooMany, NoMemory, DoorFault, LinkFault, LinkEnded, LinkLong}
+use Rattle.line_runner.specs.declared.exit.Exit.{Exit}
+use Rattle.line_runner.specs.declared.exit.Exit.TheVariants.{Done, Usage, ReadFault, WriteFault, BadLine, TooLong, TooMany, NoMemory, DoorFault, LinkFault, LinkEnded, LinkLong}
 use Rattle.link_play.specs.declared.stop.LineStatus.{LineStatus}
 use Rattle.link_play.specs.declared.stop.LineStatus.TheVariants as ran
 use Rattle.link_play.specs.declared.stop.Stop.{Stop}
 use Rattle.link_play.specs.declared.stop.Stop.TheVariants as stop
-use Rattle.link_play.proofs.Exiting.{exit_is, line_is, no_exit, some_exit}
+use Rattle.line_runner.proofs.EndLaws.{exit_is, line_is, no_exit}
 use Rattle.link_play.proofs.Underway.{Underway, all_done, all_out, bad_here, begins, ends_at, ends_here, goes_on, interrupts, pauses}
 
 not_long : script.Ended ≡ script.TooLong → ⊥

@@ -8,8 +8,8 @@ use Rattle.link_play.specs.Doing.{Runs, Who}
 use Rattle.link_play.specs.Plan.{AtBad, AtEnd, Close, Open, plan_of}
 use Rattle.link_play.specs.Sitting.{Sitting}
 use Rattle.link_play.specs.Stopping.{StopsIn}
-use Rattle.link_play.specs.declared.exit.Exit.{Exit}
-use Rattle.link_play.specs.declared.exit.Exit.TheVariants.{Done, Usage, ReadFault, WriteFault, BadLine, TooLong, TooMany, NoMemory, DoorFault, LinkFault, LinkEnded, LinkLong}
+use Rattle.line_runner.specs.declared.exit.Exit.{Exit}
+use Rattle.line_runner.specs.declared.exit.Exit.TheVariants.{Done, Usage, ReadFault, WriteFault, BadLine, TooLong, TooMany, NoMemory, DoorFault, LinkFault, LinkEnded, LinkLong}
 use Rattle.link_play.specs.declared.stop.Stop.{Stop}
 use Rattle.link_play.specs.declared.stop.Stop.TheVariants as stop
 

@@ -4,7 +4,6 @@
 mod acting;
 mod command;
 mod doing;
-mod exit;
 mod hearing;
 mod player;
 mod printing;
@@ -14,7 +13,6 @@ mod stop;
 mod telling;
 
 pub use command::{Command, command_of};
-pub use exit::Exit;
 pub use player::Player;
 pub use run::play_match;
 pub use stop::{LineStatus, Stop};
