@@ -5,7 +5,6 @@ mod acting;
 mod command;
 mod doing;
 mod hearing;
-mod player;
 mod printing;
 mod run;
 mod showing;
@@ -13,6 +12,5 @@ mod stop;
 mod telling;
 
 pub use command::{Command, command_of};
-pub use player::Player;
 pub use run::play_match;
 pub use stop::{LineStatus, Stop};

@@ -12,9 +12,9 @@ ghost use Rattle.link_play.specs.Sitting.{Sitting, Tell, sends, sitting};
 
 use crate::acting::sync;
 use crate::doing::run_line;
-use crate::player::Player;
 use crate::stop::{LineStatus, Stop};
 use board_links::{Link, Sink, Source};
+use client_predict::Client;
 use game_sheet::{MatchName, Viewer};
 use game_trait::Game;
 use line_runner::{Exit, Lines, stop_at};
@@ -31,7 +31,7 @@ use std::sync::Wait;
 pub fn play_match<X: Game + Drop, S: Source, K: Sink, L: Link, R: Wait>(
     rt: &R,
     alloc: Global,
-    player: &mut Player<X>,
+    player: &mut Client<X>,
     name: MatchName,
     viewer: Viewer,
     source: &mut S,
@@ -58,7 +58,7 @@ pub fn play_match<X: Game + Drop, S: Source, K: Sink, L: Link, R: Wait>(
 fn begin<X: Game + Drop, S: Source, K: Sink, L: Link, R: Wait>(
     rt: &R,
     alloc: Global,
-    player: &mut Player<X>,
+    player: &mut Client<X>,
     name: MatchName,
     viewer: Viewer,
     source: &mut S,
@@ -86,7 +86,7 @@ fn begin<X: Game + Drop, S: Source, K: Sink, L: Link, R: Wait>(
 fn play_lines<X: Game + Drop, S: Source, K: Sink, L: Link, R: Wait>(
     rt: &R,
     alloc: Global,
-    player: &mut Player<X>,
+    player: &mut Client<X>,
     source: &mut S,
     sink: &mut K,
     link: &mut L,
