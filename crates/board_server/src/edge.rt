@@ -7,7 +7,7 @@ use board_commands::{play, print_page, run, serve};
 use board_links::{Door, ReaderSource, WriterSink};
 use command_words::{WordsNo, play_words, serve_words};
 use line_runner::Exit;
-use std::fd::AsRawFd;
+use std::os::fd::AsRawFd;
 use std::fs::File;
 use std::io::{self, Read};
 use std::mem;
