@@ -5,8 +5,8 @@ use Rattle.board_links.specs.declared.link.Came.{Came}
 use Rattle.client_predict.specs.Client.{fresh}
 use Rattle.link_play.specs.Doing.{Who}
 use Rattle.link_play.specs.Plan.{plan_of}
-use Rattle.link_play.specs.declared.exit.Exit.TheVariants.{NoMemory}
-use Rattle.world_script.specs.ScriptLines.{script}
+use Rattle.line_runner.specs.declared.exit.Exit.TheVariants.{NoMemory}
+use Rattle.line_runner.specs.ScriptLines.{script}
 use Rattle.board_commands.specs.Playing.{Plays}
 
 -- nothing is done

@@ -1,7 +1,6 @@
 pub mod Modes
 pub mod Page
 pub mod Playing
-pub mod Process
 pub mod Serving
 pub mod Words
 pub mod Workloads

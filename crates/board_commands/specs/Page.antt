@@ -1,8 +1,8 @@
 -- How the printing of a page ends.
 use Rattle.std.specs.Prelude.{◌≡◌, ℕ, List, ◌++◌, take, Option, Some}
 use Rattle.board_links.specs.Faults.{HasRisen}
-use Rattle.link_play.specs.declared.exit.Exit.{Exit}
-use Rattle.link_play.specs.declared.exit.Exit.TheVariants.{Done, WriteFault}
+use Rattle.line_runner.specs.declared.exit.Exit.{Exit}
+use Rattle.line_runner.specs.declared.exit.Exit.TheVariants.{Done, WriteFault}
 
 abbrev pub PageEnds : Exit → List ℕ → List ℕ → Option (List ℕ) → Type 0
 PageEnds Done page before after = after ≡ Some (before ++ page)

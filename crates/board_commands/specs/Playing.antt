@@ -9,8 +9,8 @@ use Rattle.command_words.specs.declared.play.PlayWords.{PlayWords}
 use Rattle.link_play.specs.Doing.{Who}
 use Rattle.link_play.specs.Ends.{Ends}
 use Rattle.link_play.specs.Sitting.{sitting}
-use Rattle.link_play.specs.declared.exit.Exit.{Exit}
-use Rattle.link_play.specs.declared.exit.Exit.TheVariants.{Usage, NoMemory}
+use Rattle.line_runner.specs.declared.exit.Exit.{Exit}
+use Rattle.line_runner.specs.declared.exit.Exit.TheVariants.{Usage, NoMemory}
 
 abbrev pub who_asks : PlayWords → Who
 who_asks asked = record { name = asked.name; viewer = asked.viewer }

@@ -7,8 +7,8 @@ use Rattle.command_words.specs.declared.serve.ServeWords.{ServeWords}
 use Rattle.door_serve.specs.Ends.{EndsBy, Reports}
 use Rattle.door_serve.specs.declared.serving.ServeEnd.{ServeEnd}
 use Rattle.door_serve.specs.declared.serving.ServeEnd.TheVariants as end
-use Rattle.link_play.specs.declared.exit.Exit.{Exit}
-use Rattle.link_play.specs.declared.exit.Exit.TheVariants.{Done, WriteFault, NoMemory, DoorFault}
+use Rattle.line_runner.specs.declared.exit.Exit.{Exit}
+use Rattle.line_runner.specs.declared.exit.Exit.TheVariants.{Done, WriteFault, NoMemory, DoorFault}
 use Rattle.match_master.specs.Held.{Held as Book}
 
 -- the end of a run that served

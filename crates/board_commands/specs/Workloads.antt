@@ -3,8 +3,8 @@ use Rattle.std.specs.Prelude.{◌≡◌, ℕ, List, ◌++◌, take, Option, Some
 use Rattle.any_game.specs.AnyRules.{any_rules, named}
 use Rattle.hall_history.specs.Tapes.{hall_tape, steps_tape}
 use Rattle.hall_history.specs.Workload.{transcript}
-use Rattle.world_script.specs.declared.exit.Exit.{Exit}
-use Rattle.world_script.specs.declared.exit.Exit.TheVariants.{Done, WriteFault, NoMemory}
+use Rattle.line_runner.specs.declared.exit.Exit.{Exit}
+use Rattle.line_runner.specs.declared.exit.Exit.TheVariants.{Done, WriteFault, NoMemory}
 
 abbrev pub workload_text : ℕ → ℕ → List ℕ
 workload_text seed steps = transcript named any_rules hall_tape (steps_tape seed) 8 steps

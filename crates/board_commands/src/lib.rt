@@ -15,6 +15,6 @@ pub use command::{Command, command_of};
 pub use mode::{Mode, mode_of};
 pub use page::{HELP, VERSION, print_page};
 pub use playing::play;
-pub use process::{after_name, of_run, report, status};
+pub use process::after_name;
 pub use running::run;
 pub use serving::serve;

@@ -5,7 +5,7 @@ ghost use Rattle.board_links.specs.Pieces.{told_bytes};
 ghost use Rattle.board_commands.specs.Page.{PageEnds, PageRaises};
 
 use board_links::{Put, Sink};
-use link_play::Exit;
+use line_runner::Exit;
 
 /// The page of help.
 pub const HELP: &str = "board_server: matches of turn-based games

@@ -1,6 +1,6 @@
 //! Plays a match of any game over a link, as the words of `play` ask for.
 
-ghost use Rattle.std.specs.Prelude.{◌≡◌, ◌≤◌, IfOk, IsSome, None, Some, map, string_bytes};
+ghost use Rattle.std.specs.Prelude.{◌≡◌, ◌≤◌, IsSome, None, Some, map, string_bytes};
 ghost use Rattle.board_links.specs.Faults.{HasRisen};
 ghost use Rattle.board_links.specs.Pieces.{told_bytes};
 ghost use Rattle.board_links.specs.declared.link.Stage.TheVariants as at;
@@ -11,15 +11,16 @@ ghost use Rattle.link_play.specs.Counts.{ExitRaises, ExitShows};
 ghost use Rattle.link_play.specs.Doing.{key_of};
 ghost use Rattle.link_play.specs.Ends.{AreInForm, IsComplete};
 ghost use Rattle.link_play.specs.Sitting.{Tell};
-ghost use Rattle.link_play.specs.declared.exit.Exit.TheVariants.{Usage};
+ghost use Rattle.line_runner.specs.declared.exit.Exit.TheVariants.{Usage};
 ghost use Rattle.board_commands.specs.Playing.{IsRefused, Plays, who_asks};
 
 use any_game::AnyGame;
 use board_links::{Link, Sink, Source};
 use client_predict::Client;
 use command_words::{PlayWords, WordsNo, play_words};
-use game_sheet::{Key, MatchName, NoMemory, Viewer};
-use link_play::{Exit, Player, play_match};
+use game_sheet::{Key, MatchName, Viewer};
+use line_runner::Exit;
+use link_play::play_match;
 use std::alloc::Global;
 use std::sync::Wait;
 
@@ -91,17 +92,15 @@ fn play_asked<S: Source, K: Sink, L: Link, R: Wait>(
         viewer,
     } = asked;
     drop(connect);
-    match player_of(alloc, game, &viewer) {
-        Ok(player) => play_as(rt, alloc, player, name, viewer, source, sink, link),
-        Err(NoMemory) => Exit::NoMemory,
-    }
+    let player = Client::new(alloc, game, key_of(&viewer));
+    play_as(rt, alloc, player, name, viewer, source, sink, link)
 }
 
 /// Plays the match of this name with a client that has read nothing.
 fn play_as<S: Source, K: Sink, L: Link, R: Wait>(
     rt: &R,
     alloc: Global,
-    mut player: Player<AnyGame>,
+    mut player: Client<AnyGame>,
     name: MatchName,
     viewer: Viewer,
     source: &mut S,
@@ -125,22 +124,6 @@ fn play_as<S: Source, K: Sink, L: Link, R: Wait>(
     let exit = play_match(rt, alloc, &mut player, name, viewer, source, sink, link);
     drop(player);
     exit
-}
-
-/// A client of the game that has read nothing, with the viewer's key.
-fn player_of(alloc: Global, game: AnyGame, viewer: &Viewer) -> Result<Player<AnyGame>, NoMemory>
-    ensures { IfOk result (λ p. p ≡ record { game = game; key = key_of viewer.now; client = fresh }) }
-{
-    match game.copy_game(alloc) {
-        Ok(copied) => {
-            let client = Client::new(alloc, copied, key_of(viewer));
-            Ok(Player::new(game, client))
-        }
-        Err(no) => {
-            drop(game);
-            Err(no)
-        }
-    }
 }
 
 /// The key that a viewer shows; none for a spectator.

@@ -5,10 +5,11 @@ ghost use Rattle.board_links.specs.Faults.{HasRisen};
 ghost use Rattle.board_links.specs.Pieces.{told_bytes};
 ghost use Rattle.hall_history.specs.Mark.{Mark};
 ghost use Rattle.world_script.specs.Converging.{ConvergesIn};
-ghost use Rattle.world_script.specs.Running.{AreInForm, Ends, ExitRaises, IsComplete};
-ghost use Rattle.world_script.specs.ScriptPlay.{script_play};
+ghost use Rattle.line_runner.specs.Running.{AreInForm, Ends, ExitRaises, IsComplete};
+ghost use Rattle.world_script.specs.ScriptPlay.{first_hall, script_play};
+ghost use Rattle.world_script.specs.Deliveries.{first_world};
 ghost use Rattle.world_script.specs.WorldPlay.{world_play};
-ghost use Rattle.world_script.specs.declared.exit.Exit.TheVariants.{Usage};
+ghost use Rattle.line_runner.specs.declared.exit.Exit.TheVariants.{Usage};
 ghost use Rattle.board_commands.specs.Words.{command_of};
 ghost use Rattle.board_commands.specs.Workloads.{Prints, workload_text};
 ghost use Rattle.board_commands.specs.declared.command.Command.{Command as Asked};
@@ -17,8 +18,9 @@ ghost use Rattle.board_commands.specs.declared.command.Command.TheVariants.{Scri
 use crate::command::{Command, command_of};
 use crate::workloads::run_workload;
 use board_links::{Sink, Source};
+use line_runner::Exit;
 use std::alloc::Global;
-use world_script::{Exit, run_script, run_world};
+use world_script::{run_script, run_world};
 
 /// Runs what the words after the program's name ask for: `script`, a script, or `world`, a world, from a source to a sink; or
 /// `workload` with a seed and a number of steps, into a sink alone.
@@ -42,11 +44,11 @@ pub fn run<S: Source, K: Sink>(
     ensures untouched_sink { command_of words.now ≡ None → sink.new ≡ sink.old }
     ensures raises { (asked : Asked) → command_of words.now ≡ Some asked → ExitRaises result (S.faults source.old) (S.faults source.new) (K.faults sink.old) (K.faults sink.new) }
     ensures ends { command_of words.now ≡ Some Script → IsSome (S.left source.old) → IsSome (K.held sink.old)
-        → Ends script_play (told_bytes (S.left source.old)) (told_bytes (S.left source.new)) (told_bytes (K.held sink.old)) (K.held sink.new) result }
+        → Ends script_play first_hall (told_bytes (S.left source.old)) (told_bytes (S.left source.new)) (told_bytes (K.held sink.old)) (K.held sink.new) result }
     ensures completes { command_of words.now ≡ Some Script → IsSome (S.left source.old) → IsSome (K.held sink.old) → AreInForm script_play (told_bytes (S.left source.old))
         → (HasRisen (S.faults source.old) (S.faults source.new) → ⊥) → (HasRisen (K.faults sink.old) (K.faults sink.new) → ⊥) → IsComplete result }
     ensures world_ends { command_of words.now ≡ Some World → IsSome (S.left source.old) → IsSome (K.held sink.old)
-        → Ends world_play (told_bytes (S.left source.old)) (told_bytes (S.left source.new)) (told_bytes (K.held sink.old)) (K.held sink.new) result }
+        → Ends world_play first_world (told_bytes (S.left source.old)) (told_bytes (S.left source.new)) (told_bytes (K.held sink.old)) (K.held sink.new) result }
     ensures world_completes { command_of words.now ≡ Some World → IsSome (S.left source.old) → IsSome (K.held sink.old) → AreInForm world_play (told_bytes (S.left source.old))
         → (HasRisen (S.faults source.old) (S.faults source.new) → ⊥) → (HasRisen (K.faults sink.old) (K.faults sink.new) → ⊥) → IsComplete result }
     ensures world_converges { command_of words.now ≡ Some World → (marks : List Mark) (lines : List (List ℕ)) → ConvergesIn marks lines }

@@ -5,7 +5,7 @@ ghost use Rattle.board_links.specs.Faults.{HasRisen};
 ghost use Rattle.command_words.specs.Serve.{serve_from};
 ghost use Rattle.command_words.specs.declared.serve.ServeWords.{ServeWords as Asked};
 ghost use Rattle.link_play.specs.Ends.{IsComplete};
-ghost use Rattle.link_play.specs.declared.exit.Exit.TheVariants.{Usage};
+ghost use Rattle.line_runner.specs.declared.exit.Exit.TheVariants.{Usage};
 ghost use Rattle.board_commands.specs.Playing.{IsRefused};
 ghost use Rattle.board_commands.specs.Serving.{Serves, exit_of};
 
@@ -13,7 +13,7 @@ use any_game::AnyGame;
 use board_links::{Door, Sink};
 use command_words::{ServeWords, WordsNo, serve_words};
 use door_serve::{ServeEnd, serve_rooms};
-use link_play::Exit;
+use line_runner::Exit;
 use match_master::Book;
 use std::alloc::Global;
 use std::sync::Wait;

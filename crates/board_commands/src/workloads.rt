@@ -3,7 +3,7 @@
 ghost use Rattle.std.specs.Prelude.{◌≡◌, ◌≤◌, ℕ, IsSome};
 ghost use Rattle.board_links.specs.Faults.{HasRisen};
 ghost use Rattle.board_links.specs.Pieces.{told_bytes};
-ghost use Rattle.world_script.specs.Running.{ExitRaises, IsComplete};
+ghost use Rattle.line_runner.specs.Running.{ExitRaises, IsComplete};
 ghost use Rattle.board_commands.specs.Workloads.{Prints, workload_text};
 
 use board_links::{Put, Sink};

@@ -3,10 +3,11 @@
 
 ghost use Rattle.std.specs.Prelude.{◌≡◌, false};
 
-use board_commands::{of_run, play, print_page, run, serve};
+use board_commands::{play, print_page, run, serve};
 use board_links::{Door, ReaderSource, WriterSink};
 use command_words::{WordsNo, play_words, serve_words};
-use link_play::Exit;
+use line_runner::Exit;
+use std::os::fd::AsRawFd;
 use std::fs::File;
 use std::io::{self, Read};
 use std::mem;
@@ -15,6 +16,26 @@ use std::sync::Wait;
 use std::thread::Threads;
 use tcp_links::{TcpDoor, TcpLink};
 use ws_link::{TcpStreamDoor, WsDoor};
+
+/// Opens the null device where standard input, output or error is closed, so that no socket takes its place and is read or written for it.
+/// What is closed still fails: as standard input it can't be read, and as the others it can't be written.
+pub fn keep_standard(rt: &HostRuntime) -> io::Result<()> {
+    for _stream in 0..3 {
+        let unread = File::options().write(true).open(rt, NULL)?;
+        match unread.as_raw_fd() {
+            0 => mem::forget(unread),
+            1 | 2 => {
+                drop(unread);
+                mem::forget(File::open(rt, NULL)?);
+            }
+            _ => return Ok(()),
+        }
+    }
+    Ok(())
+}
+
+/// The null device.
+const NULL: &str = "/dev/null";
 
 /// How many bytes a line of a client may have.
 const CLIENT_LINE: u32 = 65_536;
@@ -28,7 +49,7 @@ pub fn print_here(rt: &HostRuntime, page: &str) -> Exit {
 pub fn run_here(rt: &HostRuntime, words: &[String]) -> Exit {
     let mut source = ReaderSource::new(rt.reader());
     let mut sink = WriterSink::new(rt.stdout());
-    of_run(run(rt.alloc(), words, &mut source, &mut sink))
+    run(rt.alloc(), words, &mut source, &mut sink)
 }
 
 /// Plays a match over a link to the server that the words name.

@@ -5,23 +5,32 @@
 
 mod edge;
 
-use board_commands::{HELP, Mode, VERSION, after_name, mode_of, report, status};
-use edge::{play_there, print_here, run_here, serve_there};
-use link_play::Exit;
+use board_commands::{HELP, Mode, VERSION, after_name, mode_of};
+use edge::{keep_standard, play_there, print_here, run_here, serve_there};
+use line_runner::Exit;
 use std::process::ExitCode;
 use std::sync::Wait;
 use std::thread::Threads;
 use std::{env, io};
 
 fn main(rt: HostRuntime) -> ExitCode {
-    let exit = match words(&rt) {
-        Ok(words) => perform(&rt, &rt, after_name(words.as_slice())),
+    let exit = match keep_standard(&rt) {
+        Ok(()) => perform_words(&rt),
+        Err(_) => Exit::ReadFault,
+    };
+    let (status, report) = exit.told();
+    // A report that can't be written is lost; the status says the same.
+    let _reported = eprint!(rt; "{report}");
+    ExitCode::from(status)
+}
+
+/// Does what the words of the call ask for.
+fn perform_words(rt: &HostRuntime) -> Exit {
+    match words(rt) {
+        Ok(words) => perform(rt, rt, after_name(words.as_slice())),
         Err(error) if error.kind() == io::ErrorKind::OutOfMemory => Exit::NoMemory,
         Err(_) => Exit::Usage,
-    };
-    // A report that can't be written is lost; the status says the same.
-    let _reported = eprint!(rt; "{}", report(exit));
-    ExitCode::from(status(exit))
+    }
 }
 
 /// All words of the call, of which the first is the program's name.

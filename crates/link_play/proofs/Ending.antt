@@ -4,30 +4,31 @@ use Rattle.board_links.specs.Faults.{HasRisen}
 use Rattle.board_links.specs.declared.link.Stage.{Stage}
 use Rattle.board_links.specs.declared.link.Stage.TheVariants as stage
 use Rattle.game_trait.specs.Rules.{Rules}
-use Rattle.world_script.specs.Reading.{Moves, StandsAt, given_after}
-use Rattle.world_script.specs.Reader.{Reader, fresh, to_come}
-use Rattle.world_script.specs.ScriptLines.{Script, first_line, script}
-use Rattle.world_script.specs.ScriptLines as script
-use Rattle.world_script.specs.declared.next.Next.{Next}
-use Rattle.world_script.specs.declared.next.Next.TheVariants as next
-use Rattle.world_script.proofs.Moving.{none_after}
-use Rattle.world_script.proofs.Underway.{fault_part, fault_read, line_read}
+use Rattle.line_runner.specs.Reading.{Moves, StandsAt, given_after}
+use Rattle.line_runner.specs.Reader.{Reader, fresh, to_come}
+use Rattle.line_runner.specs.ScriptLines.{Script, first_line, script}
+use Rattle.line_runner.specs.ScriptLines as script
+use Rattle.line_runner.specs.declared.next.Next.{Next}
+use Rattle.line_runner.specs.declared.next.Next.TheVariants as next
+use Rattle.line_runner.proofs.Moving.{none_after}
+use Rattle.line_runner.proofs.Underway.{fault_part, fault_read, line_read}
 use Rattle.link_play.specs.Commands.{Command, Syncs}
 use Rattle.link_play.specs.Counts.{ExitRaises, ExitShows}
 use Rattle.link_play.specs.Doing.{Does, Who, sync_line}
 use Rattle.link_play.specs.Ends.{AreInForm, Ends, Interrupts, IsComplete, StopsAtFault}
-use Rattle.link_play.specs.Exits.{end_at, stop_at, stopped}
+use Rattle.line_runner.specs.Running.{stop_at}
+use Rattle.link_play.specs.Exits.{end_at, stopped}
 use Rattle.link_play.specs.Lines.{RanLine}
 use Rattle.link_play.specs.Plan.{AtBad, Open, plan_from, plan_of}
 use Rattle.link_play.specs.Sitting.{Sitting, sends}
 use Rattle.link_play.specs.Stopping.{StopsIn}
-use Rattle.link_play.specs.declared.exit.Exit.{Exit}
-use Rattle.link_play.specs.declared.exit.Exit.TheVariants.{Done, Usage, ReadFault, WriteFault, BadLine, TooLong, TooMany, NoMemory, DoorFault, LinkFault, LinkEnded, LinkLong}
+use Rattle.line_runner.specs.declared.exit.Exit.{Exit}
+use Rattle.line_runner.specs.declared.exit.Exit.TheVariants.{Done, Usage, ReadFault, WriteFault, BadLine, TooLong, TooMany, NoMemory, DoorFault, LinkFault, LinkEnded, LinkLong}
 use Rattle.link_play.specs.declared.stop.LineStatus.{LineStatus}
 use Rattle.link_play.specs.declared.stop.LineStatus.TheVariants as ran
 use Rattle.link_play.specs.declared.stop.Stop.{Stop}
 use Rattle.link_play.specs.declared.stop.Stop.TheVariants as stop
-use Rattle.link_play.proofs.Exiting.{exit_is, line_is, no_exit, some_exit}
+use Rattle.line_runner.proofs.EndLaws.{exit_is, line_is, no_exit}
 use Rattle.link_play.proofs.Underway.{Underway, all_done, all_out, bad_here, begins, ends_at, ends_here, goes_on, interrupts, pauses}
 
 not_long : script.Ended ≡ script.TooLong → ⊥

@@ -2,35 +2,20 @@
 use Rattle.std.proofs.Common.{◌≡◌, ◌+◌, ℕ, Option, Some, None, Err, refl, sym, ap, ◌∙◌, subst}
 use Rattle.board_links.specs.Faults.{HasRisen}
 use Rattle.board_links.specs.declared.link.Stage.{Stage}
-use Rattle.world_script.specs.Reading.{Raises}
-use Rattle.world_script.specs.declared.next.Next.{Next}
-use Rattle.world_script.specs.declared.next.Next.TheVariants as next
+use Rattle.line_runner.specs.Reading.{Raises}
+use Rattle.line_runner.specs.declared.next.Next.{Next}
+use Rattle.line_runner.specs.declared.next.Next.TheVariants as next
 use Rattle.link_play.specs.Counts.{ExitRaises, ExitShows, LineRaises, LineShows}
 use Rattle.link_play.specs.Pieces.{SendRaises}
-use Rattle.link_play.specs.Exits.{end_at, stop_at, stopped}
-use Rattle.link_play.specs.declared.exit.Exit.{Exit}
-use Rattle.link_play.specs.declared.exit.Exit.TheVariants.{Done, BadLine, TooLong, TooMany, ReadFault, WriteFault, NoMemory, LinkFault, LinkEnded, LinkLong}
+use Rattle.line_runner.proofs.EndLaws.{exit_is, no_exit, some_exit}
+use Rattle.line_runner.specs.Running.{stop_at}
+use Rattle.link_play.specs.Exits.{end_at, stopped}
+use Rattle.line_runner.specs.declared.exit.Exit.{Exit}
+use Rattle.line_runner.specs.declared.exit.Exit.TheVariants.{Done, BadLine, TooLong, TooMany, ReadFault, WriteFault, NoMemory, LinkFault, LinkEnded, LinkLong}
 use Rattle.link_play.specs.declared.stop.LineStatus.{LineStatus}
 use Rattle.link_play.specs.declared.stop.LineStatus.TheVariants as ran
 use Rattle.link_play.specs.declared.stop.Stop.{Stop}
 use Rattle.link_play.specs.declared.stop.Stop.TheVariants as stop
-
-pub exit_is : (a b : Exit) → Some a ≡ Some b → a ≡ b
-exit_is a b h = cc
-
-pub no_exit : (a : Exit) → None ≡ Some a → ⊥
-no_exit a h = cc
-
-pub some_exit : (a : Exit) → Some a ≡ None → ⊥
-some_exit a h = cc
-
-pub line_is : (n : Next) (given : ℕ) → stop_at n given ≡ None → n ≡ next.Line
-line_is next.Line given h = refl
-line_is next.End given h = absurd (some_exit Done h)
-line_is next.TooLong given h = absurd (some_exit (TooLong (given + 1)) h)
-line_is next.TooMany given h = absurd (some_exit TooMany h)
-line_is next.ReadFault given h = absurd (some_exit ReadFault h)
-line_is next.NoMemory given h = absurd (some_exit NoMemory h)
 
 -- ---- where no line came
 
@@ -51,14 +36,6 @@ stop_shows at next.TooLong given exit e = subst (λ x. ExitShows x at) (exit_is 
 stop_shows at next.TooMany given exit e = subst (λ x. ExitShows x at) (exit_is TooMany exit e) tt
 stop_shows at next.ReadFault given exit e = subst (λ x. ExitShows x at) (exit_is ReadFault exit e) tt
 stop_shows at next.NoMemory given exit e = subst (λ x. ExitShows x at) (exit_is NoMemory exit e) tt
-
-pub stop_stays : (n : Next) (given old new : ℕ) → stop_at n given ≡ None → Raises n old new → new ≡ old
-stop_stays next.Line given old new e r = r
-stop_stays next.End given old new e r = r
-stop_stays next.TooLong given old new e r = r
-stop_stays next.TooMany given old new e r = r
-stop_stays next.ReadFault given old new e r = absurd (some_exit ReadFault e)
-stop_stays next.NoMemory given old new e r = r
 
 -- ---- at a line
 

@@ -1,9 +1,9 @@
 -- What a run has come to, before its next line.
 use Rattle.std.proofs.Common.{◌≡◌, ◌≢◌, ℕ, ◌+◌, List, [], ◌∷◌, ◌++◌, length, Some, None, refl, sym, ap, ◌∙◌, subst, append_assoc, append-nil, length-append}
 use Rattle.game_trait.specs.Rules.{Rules}
-use Rattle.world_script.specs.Reader.{Reader, fresh}
-use Rattle.world_script.specs.ScriptLines.{Script, Ending, Ended, first_line, no_lines, script, whole_lines}
-use Rattle.world_script.proofs.Underway.{HasRead, nothing_read}
+use Rattle.line_runner.specs.Reader.{Reader, fresh}
+use Rattle.line_runner.specs.ScriptLines.{Script, Ending, Ended, first_line, no_lines, script, whole_lines}
+use Rattle.line_runner.proofs.Underway.{HasRead, nothing_read}
 use Rattle.link_play.specs.Commands.{Command, Syncs, Ends, command_of}
 use Rattle.link_play.specs.Doing.{Does, Runs, Who, sync_line}
 use Rattle.link_play.specs.Ends.{Interrupts, Pauses, RunsAll, RunsOut}

@@ -1,15 +1,15 @@
 -- How a run ends, beside the bytes that its source had left before and has left after, and the player's sitting before and after.
 use Rattle.std.specs.Prelude.{◌≡◌, ◌⊎◌, ℕ, ◌+◌, List, [], ◌∷◌, ◌++◌, length}
 use Rattle.game_trait.specs.Rules.{Rules}
-use Rattle.world_script.specs.ScriptLines.{Script, Ended, script, whole_lines}
-use Rattle.world_script.specs.ScriptLines as script
+use Rattle.line_runner.specs.ScriptLines.{Script, Ended, script, whole_lines}
+use Rattle.line_runner.specs.ScriptLines as script
 use Rattle.link_play.specs.Commands.{Command}
 use Rattle.link_play.specs.Doing.{Runs, Who}
 use Rattle.link_play.specs.Plan.{AtBad, AtEnd, Close, Open, plan_of}
 use Rattle.link_play.specs.Sitting.{Sitting}
 use Rattle.link_play.specs.Stopping.{StopsIn}
-use Rattle.link_play.specs.declared.exit.Exit.{Exit}
-use Rattle.link_play.specs.declared.exit.Exit.TheVariants.{Done, Usage, ReadFault, WriteFault, BadLine, TooLong, TooMany, NoMemory, DoorFault, LinkFault, LinkEnded, LinkLong}
+use Rattle.line_runner.specs.declared.exit.Exit.{Exit}
+use Rattle.line_runner.specs.declared.exit.Exit.TheVariants.{Done, Usage, ReadFault, WriteFault, BadLine, TooLong, TooMany, NoMemory, DoorFault, LinkFault, LinkEnded, LinkLong}
 use Rattle.link_play.specs.declared.stop.Stop.{Stop}
 use Rattle.link_play.specs.declared.stop.Stop.TheVariants as stop
 

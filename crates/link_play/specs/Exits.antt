@@ -1,9 +1,7 @@
--- How what comes of a line, and of its reading, ends a run.
-use Rattle.std.specs.Prelude.{ℕ, ◌+◌, Option, Some, None}
-use Rattle.world_script.specs.declared.next.Next.{Next}
-use Rattle.world_script.specs.declared.next.Next.TheVariants as next
-use Rattle.link_play.specs.declared.exit.Exit.{Exit}
-use Rattle.link_play.specs.declared.exit.Exit.TheVariants.{Done, ReadFault, WriteFault, BadLine, TooLong, TooMany, NoMemory, LinkFault, LinkEnded, LinkLong}
+-- How what comes of a line ends a run.
+use Rattle.std.specs.Prelude.{ℕ, Option, Some, None}
+use Rattle.line_runner.specs.declared.exit.Exit.{Exit}
+use Rattle.line_runner.specs.declared.exit.Exit.TheVariants.{Done, WriteFault, BadLine, NoMemory, LinkFault, LinkEnded, LinkLong}
 use Rattle.link_play.specs.declared.stop.LineStatus.{LineStatus}
 use Rattle.link_play.specs.declared.stop.LineStatus.TheVariants as status
 use Rattle.link_play.specs.declared.stop.Stop.{Stop}
@@ -16,15 +14,6 @@ stopped stop.LinkFault = LinkFault
 stopped stop.LinkEnded = LinkEnded
 stopped stop.LinkLong = LinkLong
 stopped stop.NoMemory = NoMemory
-
--- the end where no line came after so many
-abbrev pub stop_at : Next → ℕ → Option Exit
-stop_at next.Line given = None
-stop_at next.End given = Some Done
-stop_at next.TooLong given = Some (TooLong (given + 1))
-stop_at next.TooMany given = Some TooMany
-stop_at next.ReadFault given = Some ReadFault
-stop_at next.NoMemory given = Some NoMemory
 
 -- the end at a line, if it ends there
 abbrev pub end_at : LineStatus → ℕ → Option Exit

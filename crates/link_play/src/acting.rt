@@ -10,11 +10,11 @@ ghost use Rattle.link_play.specs.Pieces.{SendRaises, Sends};
 ghost use Rattle.link_play.specs.Sitting.{Tell, sitting};
 ghost use Rattle.wire_json.specs.Asking.{IsAskable};
 
-use crate::player::Player;
 use crate::printing::print;
 use crate::stop::Stop;
 use crate::telling::{act_no_line, predicted_line};
 use board_links::{Link, Out, Sink};
+use client_predict::Client;
 use game_sheet::{MatchName, NoMemory, Viewer};
 use game_trait::Game;
 use std::alloc::Global;
@@ -80,7 +80,7 @@ pub(crate) fn sync<L: Link, R: Wait>(
 /// Makes an action, sends its line, and prints what came of it.
 pub(crate) fn act<X: Game + Drop, K: Sink, L: Link, R: Wait>(
     rt: &R,
-    player: &mut Player<X>,
+    player: &mut Client<X>,
     sink: &mut K,
     link: &mut L,
     asked: &Asked,

@@ -14,10 +14,11 @@ ghost use Rattle.link_play.specs.Stopping.{Did};
 use crate::acting::act;
 use crate::command::{Command, command_of};
 use crate::hearing::{read_lines, wait_for_line};
-use crate::player::Player;
 use crate::printing::print;
+use crate::showing::show_client;
 use crate::stop::{LineStatus, Stop};
 use board_links::{Link, Sink};
+use client_predict::Client;
 use game_sheet::NoMemory;
 use game_trait::Game;
 use std::alloc::Global;
@@ -26,7 +27,7 @@ use std::sync::Wait;
 /// Prints what the client holds.
 fn show<X: Game + Drop, K: Sink>(
     alloc: Global,
-    player: &Player<X>,
+    player: &Client<X>,
     sink: &mut K,
 ) -> Result<(), Stop>
     ensures never_falls { K.faults sink.old ≤ K.faults sink.new }
@@ -34,7 +35,7 @@ fn show<X: Game + Drop, K: Sink>(
     ensures tells { IsSome (K.held sink.old) → IsSome (K.held sink.new) }
     ensures shows { IsSome (K.held sink.old) → ShowsOn (X.rules player.now.game) result player.now.client (told_bytes (K.held sink.old)) (told_bytes (K.held sink.new)) }
 {
-    match player.show(alloc) {
+    match show_client(alloc, player) {
         Ok(text) => {
             let shown = print(sink, text.as_slice());
             drop(text);
@@ -48,7 +49,7 @@ fn show<X: Game + Drop, K: Sink>(
 fn do_command<X: Game + Drop, K: Sink, L: Link, R: Wait>(
     rt: &R,
     alloc: Global,
-    player: &mut Player<X>,
+    player: &mut Client<X>,
     sink: &mut K,
     link: &mut L,
     command: &Command,
@@ -78,7 +79,7 @@ fn do_command<X: Game + Drop, K: Sink, L: Link, R: Wait>(
 pub(crate) fn run_line<X: Game + Drop, K: Sink, L: Link, R: Wait>(
     rt: &R,
     alloc: Global,
-    player: &mut Player<X>,
+    player: &mut Client<X>,
     sink: &mut K,
     link: &mut L,
     line: &[u8],
@@ -109,7 +110,7 @@ pub(crate) fn run_line<X: Game + Drop, K: Sink, L: Link, R: Wait>(
 fn status_of<X: Game + Drop, K: Sink, L: Link, R: Wait>(
     rt: &R,
     alloc: Global,
-    player: &mut Player<X>,
+    player: &mut Client<X>,
     sink: &mut K,
     link: &mut L,
     command: &Command,

@@ -8,12 +8,11 @@ ghost use Rattle.link_play.specs.Hearing.{HearsOne, ReadsOn, WaitsOn};
 ghost use Rattle.link_play.specs.Pieces.{TakesIn, TakesRaises};
 ghost use Rattle.link_play.specs.Sitting.{Tell, sitting};
 
-use crate::player::Player;
 use crate::printing::print;
 use crate::stop::Stop;
 use crate::telling::heard_line;
 use board_links::{Came, Link, Sink};
-use client_predict::FeedNo;
+use client_predict::{Client, FeedNo};
 use game_sheet::{Bytes, NoMemory};
 use game_trait::Game;
 use std::alloc::Global;
@@ -47,7 +46,7 @@ fn gathered(alloc: Global, line: &Bytes) -> Result<Vec<u8>, NoMemory>
 
 /// Has the client read a line, and prints what came of it.
 fn take_bytes<X: Game + Drop, K: Sink>(
-    player: &mut Player<X>,
+    player: &mut Client<X>,
     sink: &mut K,
     line: &[u8],
 ) -> Result<(), Stop>
@@ -68,7 +67,7 @@ fn take_bytes<X: Game + Drop, K: Sink>(
 /// Has the client read a line that the link gave.
 fn take_in<X: Game + Drop, K: Sink>(
     alloc: Global,
-    player: &mut Player<X>,
+    player: &mut Client<X>,
     sink: &mut K,
     line: &Bytes,
 ) -> Result<(), Stop>
@@ -97,7 +96,7 @@ fn take_in<X: Game + Drop, K: Sink>(
 fn hear<X: Game + Drop, K: Sink, L: Link, R: Wait>(
     rt: &R,
     alloc: Global,
-    player: &mut Player<X>,
+    player: &mut Client<X>,
     sink: &mut K,
     link: &mut L,
 ) -> Result<Given, Stop>
@@ -133,7 +132,7 @@ fn hear<X: Game + Drop, K: Sink, L: Link, R: Wait>(
 pub(crate) fn read_lines<X: Game + Drop, K: Sink, L: Link, R: Wait>(
     rt: &R,
     alloc: Global,
-    player: &mut Player<X>,
+    player: &mut Client<X>,
     sink: &mut K,
     link: &mut L,
 ) -> Result<(), Stop>
@@ -162,7 +161,7 @@ pub(crate) fn read_lines<X: Game + Drop, K: Sink, L: Link, R: Wait>(
 pub(crate) fn wait_for_line<X: Game + Drop, K: Sink, L: Link, R: Wait>(
     rt: &R,
     alloc: Global,
-    player: &mut Player<X>,
+    player: &mut Client<X>,
     sink: &mut K,
     link: &mut L,
 ) -> Result<(), Stop>

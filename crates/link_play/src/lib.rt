@@ -4,9 +4,7 @@
 mod acting;
 mod command;
 mod doing;
-mod exit;
 mod hearing;
-mod player;
 mod printing;
 mod run;
 mod showing;
@@ -14,7 +12,5 @@ mod stop;
 mod telling;
 
 pub use command::{Command, command_of};
-pub use exit::Exit;
-pub use player::Player;
 pub use run::play_match;
 pub use stop::{LineStatus, Stop};

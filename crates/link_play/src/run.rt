@@ -7,20 +7,19 @@ ghost use Rattle.board_links.specs.declared.link.Stage.TheVariants as at;
 ghost use Rattle.link_play.specs.Counts.{ExitRaises, ExitShows};
 ghost use Rattle.link_play.specs.Doing.{Who, key_of, sync_line};
 ghost use Rattle.link_play.specs.Ends.{AreInForm, Ends, IsComplete};
-ghost use Rattle.link_play.specs.Exits.{end_at, stop_at, stopped};
+ghost use Rattle.link_play.specs.Exits.{end_at, stopped};
 ghost use Rattle.link_play.specs.Sitting.{Sitting, Tell, sends, sitting};
 
 use crate::acting::sync;
 use crate::doing::run_line;
-use crate::exit::Exit;
-use crate::player::Player;
 use crate::stop::{LineStatus, Stop};
 use board_links::{Link, Sink, Source};
+use client_predict::Client;
 use game_sheet::{MatchName, Viewer};
 use game_trait::Game;
+use line_runner::{Exit, Lines, stop_at};
 use std::alloc::Global;
 use std::sync::Wait;
-use world_script::{Lines, Next};
 
 /// Plays a match over a link: asks for its stream, and then does the commands of a source, line by line.
 ///
@@ -32,7 +31,7 @@ use world_script::{Lines, Next};
 pub fn play_match<X: Game + Drop, S: Source, K: Sink, L: Link, R: Wait>(
     rt: &R,
     alloc: Global,
-    player: &mut Player<X>,
+    player: &mut Client<X>,
     name: MatchName,
     viewer: Viewer,
     source: &mut S,
@@ -59,7 +58,7 @@ pub fn play_match<X: Game + Drop, S: Source, K: Sink, L: Link, R: Wait>(
 fn begin<X: Game + Drop, S: Source, K: Sink, L: Link, R: Wait>(
     rt: &R,
     alloc: Global,
-    player: &mut Player<X>,
+    player: &mut Client<X>,
     name: MatchName,
     viewer: Viewer,
     source: &mut S,
@@ -87,7 +86,7 @@ fn begin<X: Game + Drop, S: Source, K: Sink, L: Link, R: Wait>(
 fn play_lines<X: Game + Drop, S: Source, K: Sink, L: Link, R: Wait>(
     rt: &R,
     alloc: Global,
-    player: &mut Player<X>,
+    player: &mut Client<X>,
     source: &mut S,
     sink: &mut K,
     link: &mut L,
@@ -126,21 +125,6 @@ fn stopped(why: Stop) -> Exit
         Stop::LinkEnded => Exit::LinkEnded,
         Stop::LinkLong => Exit::LinkLong,
         Stop::NoMemory => Exit::NoMemory,
-    }
-}
-
-/// The end where no line came after so many.
-fn stop_at(next: Next, given: u32) -> Option<Exit>
-    requires { given ≤ 1000000 }
-    ensures { result ≡ stop_at next given }
-{
-    match next {
-        Next::Line => None,
-        Next::End => Some(Exit::Done),
-        Next::TooLong => Some(Exit::TooLong { line: given + 1 }),
-        Next::TooMany => Some(Exit::TooMany),
-        Next::ReadFault => Some(Exit::ReadFault),
-        Next::NoMemory => Some(Exit::NoMemory),
     }
 }
 

@@ -1,13 +1,14 @@
 //! The lines that show what a client holds.
 
-ghost use Rattle.std.specs.Prelude.{◌≡◌, ◌++◌, ◌∷◌, codes, false, OnOk};
+ghost use Rattle.std.specs.Prelude.{◌≡◌, ◌++◌, ◌∷◌, codes, false, IfOk, OnOk};
 ghost use Rattle.serde_json.specs.View.{view};
 ghost use Rattle.serde_json.specs.Written.{compact_text, has_float};
 ghost use Rattle.client_predict.specs.Stack.{snapshot_of};
-ghost use Rattle.link_play.specs.Doing.{snapshot_text};
+ghost use Rattle.client_predict.specs.Client.{settled_in, shown_in};
+ghost use Rattle.link_play.specs.Doing.{shows, snapshot_text};
 ghost use Rattle.link_play.specs.Sitting.{on_line};
 
-use client_predict::Shown;
+use client_predict::{Client, Shown};
 use game_sheet::NoMemory;
 use game_trait::Game;
 use json_tree::line_of;
@@ -15,8 +16,24 @@ use player_sight::{Snapshot, snapshot_value, to_value};
 use serde_json::Value;
 use std::alloc::Global;
 
+/// What a client holds: the snapshot that the server settled last, and the one that is shown.
+pub(crate) fn show_client<X: Game>(alloc: Global, client: &Client<X>) -> Result<Vec<u8>, NoMemory>
+    ensures { IfOk result (λ text. text.items ≡ shows (X.rules client.now.game) client.now.client) }
+{
+    let Some(settled) = client.settled() else {
+        return Ok(Vec::from_slice(alloc, b"none\n")?);
+    };
+    let Some(shown) = client.shown() else {
+        return Ok(Vec::from_slice(alloc, b"none\n")?);
+    };
+    let mut text = Vec::new(alloc);
+    put_settled(alloc, &mut text, client.game(), settled)?;
+    put_shown(alloc, &mut text, client.game(), &shown)?;
+    Ok(text)
+}
+
 /// Adds the line with the snapshot that the server settled last.
-pub(crate) fn put_settled<X: Game>(
+fn put_settled<X: Game>(
     alloc: Global,
     text: &mut Vec<u8>,
     game: &X,
@@ -30,7 +47,7 @@ pub(crate) fn put_settled<X: Game>(
 }
 
 /// Adds the line with the snapshot that is shown.
-pub(crate) fn put_shown<X: Game>(
+fn put_shown<X: Game>(
     alloc: Global,
     text: &mut Vec<u8>,
     game: &X,

@@ -3,7 +3,7 @@
 use board_commands::play;
 use board_links::{AtEnd, MemoryLink, MemorySink, MemorySource, Scripted};
 use game_sheet::{List, NoMemory};
-use link_play::Exit;
+use line_runner::Exit;
 use std::alloc::Global;
 use std::test::Fail;
 

@@ -6,7 +6,7 @@ use board_links::{MemorySink, MemorySource};
 use game_sheet::{List, NoMemory};
 use std::alloc::Global;
 use std::test::Fail;
-use world_script::Exit;
+use line_runner::Exit;
 
 /// Two players click until one of them has a row, and one click comes too late; both take what waits for them after each line. The opening,
 /// two syncs, five updates for each and the refusal are put, one after the other.

@@ -1,12 +1,12 @@
 //! Runs in memory: of another word, and with reads and writes that fail.
 
-use board_commands::{of_run, run, status};
+use board_commands::run;
 use board_links::{MemorySink, MemorySource};
 use game_sheet::{List, NoMemory};
 use std::alloc::Global;
 use std::process::Abort;
 use std::test::Fail;
-use world_script::Exit;
+use line_runner::Exit;
 
 const SCRIPT: &[u8] = b"open tic-tac-toe 2
 s0 {\"key\":\"00000000000000000000000000000000\",\"match\":\"0-1\",\"seat\":0,\"type\":\"sync\"}
@@ -131,7 +131,7 @@ fn runs(rt: &impl Abort, alloc: Global, row: Row) -> Result<(), NoMemory> {
     let mut sink = MemorySink::new(alloc, writes);
     let exit = run(alloc, words.as_slice(), &mut source, &mut sink);
     assert_eq!(rt; exit, row.exit);
-    assert_eq!(rt; status(of_run(exit)), row.status);
+    assert_eq!(rt; exit.told().0, row.status);
     assert_eq!(rt; sink.bytes(), row.printed);
     Ok(())
 }

@@ -6,7 +6,7 @@ ghost use Rattle.board_links.specs.Doors.{IsFresh};
 use board_commands::serve;
 use board_links::{AtEnd, Door, MemoryDoor, MemoryLink, MemorySink, Scripted};
 use game_sheet::{List, NoMemory};
-use link_play::Exit;
+use line_runner::Exit;
 use std::alloc::Global;
 use std::process::Abort;
 use std::sync::Wait;

@@ -6,7 +6,7 @@ use game_sheet::{List, NoMemory};
 use std::alloc::Global;
 use std::process::Abort;
 use std::test::Fail;
-use world_script::Exit;
+use line_runner::Exit;
 
 /// A run, and what comes of it.
 #[derive(Clone, Copy)]

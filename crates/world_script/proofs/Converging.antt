@@ -9,7 +9,7 @@ use Rattle.world_convergence.specs.Converging.{Converges}
 use Rattle.world_convergence.specs.Meeting.{Run}
 use Rattle.world_script.specs.Converging.{ConvergesIn}
 use Rattle.world_script.specs.Deliveries.{rooms_of_world}
-use Rattle.world_script.specs.Play.{steps_of}
+use Rattle.line_runner.specs.Play.{steps_of}
 use Rattle.world_script.proofs.Fitting.{lines_fit}
 
 few : rooms_of_world ≤ 64

@@ -1,10 +1,3 @@
-pub mod Steps
-pub mod Moving
-pub mod Progress
-pub mod Playing
-pub mod Underway
-pub mod RunLaws
-pub mod EndLaws
 pub mod FormLaws
 pub mod Printed
 pub mod StepLaws

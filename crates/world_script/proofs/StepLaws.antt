@@ -38,8 +38,8 @@ use Rattle.session_hall.specs.Held.{HeldHall, StandsForHall}
 use Rattle.session_hall.specs.Opens.{made_by}
 use Rattle.session_hall.specs.declared.tally.Tally.{Tally}
 use Rattle.world_script.specs.Printing.{end_text, reply_text}
-use Rattle.world_script.specs.Play.{Does}
-use Rattle.world_script.specs.ScriptPlay.{script_play}
+use Rattle.line_runner.specs.Play.{Does}
+use Rattle.world_script.specs.ScriptDoing.{script_doing}
 
 -- ---- texts that are lines
 
@@ -142,7 +142,7 @@ detach_prints h pass taker (Some room) = detach_text pass (latest_state ((room_o
 
 -- a text was added, unless there was no memory
 pub does_by : {A E : Type 0} (r : Result A E) (h : Hall GameKind) (step : Step) (hall : HeldHall) (before after added : List ℕ)
-    → (after ≡ before ++ added → Does script_play h step hall before after) → OnOk r (after ≡ before ++ added) → OnOk r (Does script_play h step hall before after)
+    → (after ≡ before ++ added → Does script_doing h step hall before after) → OnOk r (after ≡ before ++ added) → OnOk r (Does script_doing h step hall before after)
 does_by (Ok x) h step hall before after added f e = f e
 does_by (Err x) h step hall before after added f e = e
 
@@ -151,16 +151,16 @@ same_added (Ok x) before after added other e f = f ∙ ap (λ t. before ++ t) e
 same_added (Err x) before after added other e f = f
 
 module _ (h : Hall GameKind) (hall : HeldHall) (before after : List ℕ) where
-  pub did_nothing : StandsForHall hall_tape hall h → after ≡ before → Does script_play h Nothing hall before after
-  unfolding script_play
+  pub did_nothing : StandsForHall hall_tape hall h → after ≡ before → Does script_doing h Nothing hall before after
+  unfolding script_doing
   did_nothing s e = record { mark = Served; stands = s; added = e ∙ sym (append-nil before) }
 
-  pub seeded : (seed : List ℕ) → StandsForHall hall_tape hall (record h { seed = Some seed }) → after ≡ before → Does script_play h (Seeds seed) hall before after
-  unfolding script_play
+  pub seeded : (seed : List ℕ) → StandsForHall hall_tape hall (record h { seed = Some seed }) → after ≡ before → Does script_doing h (Seeds seed) hall before after
+  unfolding script_doing
   seeded seed s e = record { mark = Served; stands = s; added = e ∙ sym (append-nil before) }
 
-  pub opened : (game : List ℕ) (seats : ℕ) (made : Option Name) → answered.Opens hall_tape h game seats hall made → after ≡ before ++ made_text made → Does script_play h (Opens game seats) hall before after
-  unfolding script_play
+  pub opened : (game : List ℕ) (seats : ℕ) (made : Option Name) → answered.Opens hall_tape h game seats hall made → after ≡ before ++ made_text made → Does script_doing h (Opens game seats) hall before after
+  unfolding script_doing
   opened game seats made r e = record {
     mark = Served;
     stands = r.stands;
@@ -168,24 +168,24 @@ module _ (h : Hall GameKind) (hall : HeldHall) (before after : List ℕ) where
   }
 
   pub heard : (pass : ℕ) (line said : List ℕ) (again : Bool) (tally : Tally) → HearsLine hall_tape h pass line hall said again tally → after ≡ before ++ all_to_session pass said
-      → Does script_play h (Says pass line) hall before after
-  unfolding script_play
+      → Does script_doing h (Says pass line) hall before after
+  unfolding script_doing
   heard pass line said again tally r e = record {
     mark = r.mark;
     stands = r.stands;
     added = e ∙ ap (λ s. before ++ all_to_session pass s) r.text ∙ ap (λ t. before ++ t) (answered_is pass (after_line named any_rules hall_tape r.mark h pass line).1);
   }
 
-  pub took : (pass : ℕ) (told : Option RoomReply) → Frees hall_tape h pass call.Take hall told → after ≡ before ++ reply_text pass told → Does script_play h (Takes pass) hall before after
-  unfolding script_play
+  pub took : (pass : ℕ) (told : Option RoomReply) → Frees hall_tape h pass call.Take hall told → after ≡ before ++ reply_text pass told → Does script_doing h (Takes pass) hall before after
+  unfolding script_doing
   took pass told r e = record {
     mark = Served;
     stands = r.stands;
     added = e ∙ ap (λ o. before ++ reply_text pass o) r.reply ∙ ap (λ t. before ++ t) (take_prints h pass pass (h.at pass));
   }
 
-  pub detached : (pass : ℕ) (told : Option RoomReply) → Frees hall_tape h pass call.Detach hall told → after ≡ before ++ reply_text pass told → Does script_play h (Detaches pass) hall before after
-  unfolding script_play
+  pub detached : (pass : ℕ) (told : Option RoomReply) → Frees hall_tape h pass call.Detach hall told → after ≡ before ++ reply_text pass told → Does script_doing h (Detaches pass) hall before after
+  unfolding script_doing
   detached pass told r e = record {
     mark = Served;
     stands = r.stands;

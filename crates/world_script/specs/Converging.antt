@@ -8,7 +8,7 @@ use Rattle.hall_history.specs.Tapes.{hall_tape}
 use Rattle.world_convergence.specs.Converging.{Converges}
 use Rattle.world_convergence.specs.Meeting.{Run}
 use Rattle.world_script.specs.Deliveries.{rooms_of_world}
-use Rattle.world_script.specs.Play.{steps_of}
+use Rattle.line_runner.specs.Play.{steps_of}
 
 pub record ConvergesIn (marks : List Mark) (lines : List (List ℕ)) : Type 0 where
   pub run : Run GameKind

@@ -14,7 +14,7 @@ use Rattle.hall_history.specs.Tapes.{hall_tape}
 use Rattle.hall_history.specs.World.{World, new_world}
 use Rattle.hall_history.specs.WorldScript.{runs_world}
 use Rattle.hall_history.specs.WorldTold.{delivered}
-use Rattle.world_script.specs.Play.{steps_of}
+use Rattle.line_runner.specs.Play.{steps_of}
 
 -- how many rooms a world has
 abbrev pub rooms_of_world : ℕ

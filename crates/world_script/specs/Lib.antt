@@ -1,15 +1,12 @@
-pub mod ScriptLines
-pub mod Reader
-pub mod Reading
 pub mod Forms
 pub mod StepIs
 pub mod Printing
-pub mod Play
-pub mod Running
 pub mod Sessions
 pub mod ScriptPlay
+pub mod ScriptDoing
 pub mod ScriptLaws
 pub mod Deliveries
 pub mod WorldPlay
+pub mod WorldDoing
 pub mod WorldLaws
 pub mod Converging

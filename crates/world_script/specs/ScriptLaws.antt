@@ -5,7 +5,8 @@ use Rattle.hall_history.specs.Mark.{Mark}
 use Rattle.hall_history.specs.Tapes.{hall_tape}
 use Rattle.hall_history.proofs.Clauses.{all_handed, alike_handed}
 use Rattle.world_script.specs.Forms.{step_of}
-use Rattle.world_script.specs.Play.{IsPlay, steps_of}
+use Rattle.line_runner.specs.Play.{IsPlay, steps_of}
+use Rattle.world_script.specs.ScriptDoing.{script_doing}
 use Rattle.world_script.specs.ScriptPlay.{script_play}
 use Rattle.world_script.specs.Sessions.{TellsSessions, printed_for, room_after, rooms_of_script}
 
@@ -17,6 +18,6 @@ tells marks lines = record {
       alike_handed any_rules any_rules named hall_tape rooms_of_script marks (steps_of step_of lines) pass room j s e other_room h other i t f a;
 }
 
-pub script_is_played : IsPlay script_play
-unfolding script_play
+pub script_is_played : IsPlay script_play script_doing
+unfolding script_play script_doing
 script_is_played = record { none = λ marks h. refl; more = λ mark marks step steps h. refl; tells = tells }

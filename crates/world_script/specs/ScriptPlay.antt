@@ -2,20 +2,17 @@
 use Rattle.any_game.specs.AnyRules.{any_rules, named}
 use Rattle.any_game.specs.GameKind.{GameKind}
 use Rattle.hall_history.specs.Hall.{Hall, new_hall}
-use Rattle.hall_history.specs.Script.{Step, does, runs_script}
+use Rattle.hall_history.specs.Mark.{Mark}
+use Rattle.hall_history.specs.Script.{Step, runs_script}
 use Rattle.hall_history.specs.Tapes.{hall_tape}
-use Rattle.session_hall.specs.Held.{HeldHall, StandsForHall}
 use Rattle.world_script.specs.Forms.{step_of}
-use Rattle.world_script.specs.Play.{Play}
+use Rattle.line_runner.specs.Play.{Play}
 use Rattle.world_script.specs.Sessions.{TellsSessions, rooms_of_script}
 
 -- its transcript is that of hall_history over its steps, with the words of a script's tape
-unfoldable pub script_play : Play Step (Hall GameKind) HeldHall
-script_play = record {
-  form = step_of;
-  begin = new_hall rooms_of_script;
-  does = does named any_rules hall_tape;
-  runs = runs_script named any_rules hall_tape;
-  Stands = StandsForHall hall_tape;
-  Tells = TellsSessions;
-}
+unfoldable pub script_play : Play Mark Step (Hall GameKind)
+script_play = record { form = step_of; runs = runs_script named any_rules hall_tape; Tells = TellsSessions }
+
+-- it begins with a hall in which nothing was done
+abbrev pub first_hall : Hall GameKind
+first_hall = new_hall rooms_of_script

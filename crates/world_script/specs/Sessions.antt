@@ -13,7 +13,7 @@ use Rattle.hall_history.specs.Script.{script_hall}
 use Rattle.hall_history.specs.Tapes.{hall_tape}
 use Rattle.hall_history.specs.Told.{handed_out}
 use Rattle.world_script.specs.Forms.{step_of}
-use Rattle.world_script.specs.Play.{steps_of}
+use Rattle.line_runner.specs.Play.{steps_of}
 
 -- how many rooms a script has
 abbrev pub rooms_of_script : ℕ

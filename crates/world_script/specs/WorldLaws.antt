@@ -8,7 +8,8 @@ use Rattle.hall_history.specs.Mark.{Mark}
 use Rattle.hall_history.specs.Tapes.{hall_tape}
 use Rattle.hall_history.proofs.Delivering.{all_delivered}
 use Rattle.world_script.specs.Deliveries.{DeliversLines, delivered_for, rooms_of_world, world_room_after}
-use Rattle.world_script.specs.Play.{IsPlay, steps_of}
+use Rattle.line_runner.specs.Play.{IsPlay, steps_of}
+use Rattle.world_script.specs.WorldDoing.{world_doing}
 use Rattle.world_script.specs.WorldPlay.{world_play}
 
 delivers : (marks : List Mark) (lines : List (List ℕ)) → DeliversLines marks lines
@@ -20,6 +21,6 @@ delivers marks lines = record {
       ∙ ap (λ l. concat l) (are_sent_alike any_rules any_rules room (world_room_after marks lines room) pass j s e other_room h other i t f a);
 }
 
-pub world_is_played : IsPlay world_play
-unfolding world_play
+pub world_is_played : IsPlay world_play world_doing
+unfolding world_play world_doing
 world_is_played = record { none = λ marks w. refl; more = λ mark marks step steps w. refl; tells = delivers }

@@ -6,8 +6,8 @@ ghost use Rattle.hall_history.specs.Hall.{Hall};
 ghost use Rattle.hall_history.specs.Script.{Opens, Says, Takes, Detaches};
 ghost use Rattle.hall_history.specs.Tapes.{hall_tape};
 ghost use Rattle.session_hall.specs.Held.{StandsForHall};
-ghost use Rattle.world_script.specs.Play.{Does};
-ghost use Rattle.world_script.specs.ScriptPlay.{script_play};
+ghost use Rattle.line_runner.specs.Play.{Does};
+ghost use Rattle.world_script.specs.ScriptDoing.{script_doing};
 ghost use Rattle.world_script.specs.StepIs.{HasPass, step_is};
 
 use crate::printing::{put_lines, put_opened, put_reply};
@@ -20,7 +20,7 @@ use session_hall::SessionHall;
 /// After want of memory the hall may have gone on, and no more is known of it: the run ends.
 pub fn do_step(hall: &mut SessionHall, text: &mut Vec<u8>, step: Step<'_>) -> Result<(), NoMemory>
     requires { HasPass step }
-    ensures { (h : Hall GameKind) → StandsForHall hall_tape hall.old h → OnOk result (Does script_play h (step_is step.entry) hall.new text.old.items text.new.items) }
+    ensures { (h : Hall GameKind) → StandsForHall hall_tape hall.old h → OnOk result (Does script_doing h (step_is step.entry) hall.new text.old.items text.new.items) }
 {
     match step {
         Step::Nothing => Ok(()),
@@ -37,7 +37,7 @@ pub fn do_step(hall: &mut SessionHall, text: &mut Vec<u8>, step: Step<'_>) -> Re
 
 /// Opens a match with a player at each seat.
 fn open(hall: &mut SessionHall, text: &mut Vec<u8>, game: &str, seats: u8) -> Result<(), NoMemory>
-    ensures { (h : Hall GameKind) → StandsForHall hall_tape hall.old h → OnOk result (Does script_play h (Opens game.now seats) hall.new text.old.items text.new.items) }
+    ensures { (h : Hall GameKind) → StandsForHall hall_tape hall.old h → OnOk result (Does script_doing h (Opens game.now seats) hall.new text.old.items text.new.items) }
 {
     let made = hall.open(game, seats)?;
     put_opened(text, made)
@@ -46,7 +46,7 @@ fn open(hall: &mut SessionHall, text: &mut Vec<u8>, game: &str, seats: u8) -> Re
 /// Hears a session's line.
 fn say(hall: &mut SessionHall, text: &mut Vec<u8>, pass: u8, line: &[u8]) -> Result<(), NoMemory>
     requires { pass < 32 }
-    ensures { (h : Hall GameKind) → StandsForHall hall_tape hall.old h → OnOk result (Does script_play h (Says pass line.now) hall.new text.old.items text.new.items) }
+    ensures { (h : Hall GameKind) → StandsForHall hall_tape hall.old h → OnOk result (Does script_doing h (Says pass line.now) hall.new text.old.items text.new.items) }
 {
     let said = hall.on_line(pass, line);
     let put = put_lines(text, pass, &said.line);
@@ -57,7 +57,7 @@ fn say(hall: &mut SessionHall, text: &mut Vec<u8>, pass: u8, line: &[u8]) -> Res
 /// Takes what waits for a session.
 fn take(hall: &mut SessionHall, text: &mut Vec<u8>, pass: u8) -> Result<(), NoMemory>
     requires { pass < 32 }
-    ensures { (h : Hall GameKind) → StandsForHall hall_tape hall.old h → OnOk result (Does script_play h (Takes pass) hall.new text.old.items text.new.items) }
+    ensures { (h : Hall GameKind) → StandsForHall hall_tape hall.old h → OnOk result (Does script_doing h (Takes pass) hall.new text.old.items text.new.items) }
 {
     let reply = hall.take(pass);
     let put = put_reply(text, pass, &reply);
@@ -68,7 +68,7 @@ fn take(hall: &mut SessionHall, text: &mut Vec<u8>, pass: u8) -> Result<(), NoMe
 /// Ends a session's attachment.
 fn detach(hall: &mut SessionHall, text: &mut Vec<u8>, pass: u8) -> Result<(), NoMemory>
     requires { pass < 32 }
-    ensures { (h : Hall GameKind) → StandsForHall hall_tape hall.old h → OnOk result (Does script_play h (Detaches pass) hall.new text.old.items text.new.items) }
+    ensures { (h : Hall GameKind) → StandsForHall hall_tape hall.old h → OnOk result (Does script_doing h (Detaches pass) hall.new text.old.items text.new.items) }
 {
     let reply = hall.detach(pass);
     let put = put_reply(text, pass, &reply);

@@ -3,15 +3,13 @@
 ghost use Rattle.std.specs.Prelude.{◌≤◌, IsSome};
 ghost use Rattle.board_links.specs.Faults.{HasRisen};
 ghost use Rattle.board_links.specs.Pieces.{told_bytes};
-ghost use Rattle.world_script.specs.Running.{AreInForm, Ends, ExitRaises, IsComplete};
-ghost use Rattle.world_script.specs.ScriptPlay.{script_play};
+ghost use Rattle.line_runner.specs.Running.{AreInForm, Ends, ExitRaises, IsComplete};
+ghost use Rattle.world_script.specs.ScriptPlay.{first_hall, script_play};
 
 use crate::doing::do_step;
-use crate::exit::Exit;
-use crate::interpreter::{Interpreter, LineNo, ended};
-use crate::run::run_lines;
 use crate::step::step_of;
 use board_links::{Sink, Source};
+use line_runner::{Exit, Interpreter, LineNo, ended, run_lines};
 use session_hall::SessionHall;
 use std::alloc::Global;
 
@@ -30,7 +28,7 @@ pub fn run_script<S: Source, K: Sink>(alloc: Global, source: &mut S, sink: &mut 
     ensures sink_never_falls { K.faults sink.old ≤ K.faults sink.new }
     ensures raises { ExitRaises result (S.faults source.old) (S.faults source.new) (K.faults sink.old) (K.faults sink.new) }
     ensures ends { IsSome (S.left source.old) → IsSome (K.held sink.old)
-        → Ends script_play (told_bytes (S.left source.old)) (told_bytes (S.left source.new)) (told_bytes (K.held sink.old)) (K.held sink.new) result }
+        → Ends script_play first_hall (told_bytes (S.left source.old)) (told_bytes (S.left source.new)) (told_bytes (K.held sink.old)) (K.held sink.new) result }
     ensures completes { IsSome (S.left source.old) → IsSome (K.held sink.old) → AreInForm script_play (told_bytes (S.left source.old))
         → (HasRisen (S.faults source.old) (S.faults source.new) → ⊥) → (HasRisen (K.faults sink.old) (K.faults sink.new) → ⊥) → IsComplete result }
 {
@@ -47,15 +45,21 @@ pub fn run_script<S: Source, K: Sink>(alloc: Global, source: &mut S, sink: &mut 
 impl Interpreter for SessionHall {
     ghost use Rattle.any_game.specs.GameKind.{GameKind};
     ghost use Rattle.hall_history.specs.Hall.{Hall};
+    ghost use Rattle.hall_history.specs.Mark.{Mark as LineMark};
     ghost use Rattle.hall_history.specs.Script.{Step as ScriptStep};
+    ghost use Rattle.world_script.specs.ScriptDoing.{script_doing};
     ghost use Rattle.world_script.specs.ScriptPlay.{script_play};
     ghost use Rattle.world_script.specs.ScriptLaws.{script_is_played};
+
+    ghost Mark = { LineMark };
 
     ghost Step = { ScriptStep };
 
     ghost State = { Hall GameKind };
 
     ghost play = { script_play };
+
+    ghost doing = { script_doing };
 
     ghost one_by_one = { script_is_played };
 

@@ -11,16 +11,16 @@ ghost use Rattle.hall_history.specs.Mark.{Mark};
 ghost use Rattle.hall_history.specs.Tapes.{hall_tape};
 ghost use Rattle.hall_history.specs.World.{World};
 ghost use Rattle.world_script.specs.Converging.{ConvergesIn};
-ghost use Rattle.world_script.specs.Play.{Does};
-ghost use Rattle.world_script.specs.Running.{AreInForm, Ends, ExitRaises, IsComplete};
+ghost use Rattle.line_runner.specs.Play.{Does};
+ghost use Rattle.line_runner.specs.Running.{AreInForm, Ends, ExitRaises, IsComplete};
+ghost use Rattle.world_script.specs.Deliveries.{first_world};
+ghost use Rattle.world_script.specs.WorldDoing.{world_doing};
 ghost use Rattle.world_script.specs.WorldPlay.{world_play};
 
-use crate::exit::Exit;
-use crate::interpreter::{Interpreter, LineNo, ended};
-use crate::run::run_lines;
 use board_links::{Sink, Source};
 use client_world::{ClientWorld, WorldStep, read_world_step};
 use game_sheet::NoMemory;
+use line_runner::{Exit, Interpreter, LineNo, ended, run_lines};
 use std::alloc::Global;
 use world_convergence::worlds_of_all_games_converge;
 
@@ -37,7 +37,7 @@ pub fn run_world<S: Source, K: Sink>(alloc: Global, source: &mut S, sink: &mut K
     ensures sink_never_falls { K.faults sink.old ≤ K.faults sink.new }
     ensures raises { ExitRaises result (S.faults source.old) (S.faults source.new) (K.faults sink.old) (K.faults sink.new) }
     ensures ends { IsSome (S.left source.old) → IsSome (K.held sink.old)
-        → Ends world_play (told_bytes (S.left source.old)) (told_bytes (S.left source.new)) (told_bytes (K.held sink.old)) (K.held sink.new) result }
+        → Ends world_play first_world (told_bytes (S.left source.old)) (told_bytes (S.left source.new)) (told_bytes (K.held sink.old)) (K.held sink.new) result }
     ensures completes { IsSome (S.left source.old) → IsSome (K.held sink.old) → AreInForm world_play (told_bytes (S.left source.old))
         → (HasRisen (S.faults source.old) (S.faults source.new) → ⊥) → (HasRisen (K.faults sink.old) (K.faults sink.new) → ⊥) → IsComplete result }
     ensures converges { (marks : List Mark) (lines : List (List ℕ)) → ConvergesIn marks lines }
@@ -57,14 +57,20 @@ impl Interpreter for ClientWorld {
     ghost use Rattle.any_game.specs.GameKind.{GameKind};
     ghost use Rattle.any_game.specs.declared.any_g.AnyG.{AnyG};
     ghost use Rattle.hall_history.specs.World.{Step as WorldLine, World};
+    ghost use Rattle.hall_history.specs.Mark.{Mark as LineMark};
+    ghost use Rattle.world_script.specs.WorldDoing.{world_doing};
     ghost use Rattle.world_script.specs.WorldPlay.{world_play};
     ghost use Rattle.world_script.specs.WorldLaws.{world_is_played};
+
+    ghost Mark = { LineMark };
 
     ghost Step = { WorldLine GameKind };
 
     ghost State = { World GameKind AnyG };
 
     ghost play = { world_play };
+
+    ghost doing = { world_doing };
 
     ghost one_by_one = { world_is_played };
 
@@ -82,7 +88,7 @@ impl Interpreter for ClientWorld {
 /// After want of memory the world may have gone on, and no more is known of it: the run ends.
 fn do_step(world: &mut ClientWorld, text: &mut Vec<u8>, step: WorldStep) -> Result<(), NoMemory>
     requires { IsRunnable step }
-    ensures { (w : World GameKind AnyG) → IsWorld hall_tape world.old w → OnOk result (Does world_play w (step_of step) world.new text.old.items text.new.items) }
+    ensures { (w : World GameKind AnyG) → IsWorld hall_tape world.old w → OnOk result (Does world_doing w (step_of step) world.new text.old.items text.new.items) }
 {
     let said = world.run(step)?;
     Ok(text.extend_from_slice(said.as_slice())?)

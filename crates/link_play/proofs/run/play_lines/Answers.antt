@@ -1,11 +1,13 @@
 use Rattle.std.proofs.Common.{◌≡◌, ◌+◌, refl, sym, ap, ◌∙◌, subst, arith, Some, None}
 use Rattle.board_links.specs.Pieces.{told_bytes}
-use Rattle.world_script.specs.Reading.{given_after}
-use Rattle.link_play.specs.Exits.{end_at, stop_at}
+use Rattle.line_runner.specs.Reading.{given_after}
+use Rattle.line_runner.specs.Running.{stop_at}
+use Rattle.link_play.specs.Exits.{end_at}
 use Rattle.link_play.specs.Lines.{RanLine}
 use Rattle.link_play.specs.Sitting.{sitting}
 use Rattle.link_play.proofs.Ending.{as_line, begins_with, counts_line, end_ends, line_goes, stop_ends}
-use Rattle.link_play.proofs.Exiting.{done_is, end_raises, end_shows, end_stays, line_is, stop_raises, stop_shows, stop_stays}
+use Rattle.line_runner.proofs.EndLaws.{line_is, stop_stays}
+use Rattle.link_play.proofs.Exiting.{done_is, end_raises, end_shows, end_stays, stop_raises, stop_shows}
 use Rattle.link_play.proofs.run.play_lines.Goals as goal
 
 pub lines-init : goal.lines-init

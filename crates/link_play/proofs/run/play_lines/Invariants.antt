@@ -1,6 +1,6 @@
 use Rattle.std.proofs.Common.{◌≡◌, ◌-◌, IsSome}
 use Rattle.board_links.specs.Pieces.{told_bytes}
-use Rattle.world_script.specs.Reader.{to_come}
+use Rattle.line_runner.specs.Reader.{to_come}
 use Rattle.link_play.specs.Doing.{Who, key_of, sync_line}
 use Rattle.link_play.specs.Sitting.{Sitting, Tell, sends, sitting}
 use Rattle.link_play.proofs.Underway.{Underway}

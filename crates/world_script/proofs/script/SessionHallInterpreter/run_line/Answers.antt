@@ -1,5 +1,6 @@
 use Rattle.std.proofs.Common.{ap, option_map, subst, sym, ◌∙◌}
-use Rattle.world_script.specs.Play.{RunsLine}
+use Rattle.line_runner.specs.Play.{RunsLine}
+use Rattle.world_script.specs.ScriptDoing.{script_doing}
 use Rattle.world_script.specs.ScriptPlay.{script_play}
 use Rattle.world_script.specs.StepIs.{step_is}
 use Rattle.world_script.proofs.LineLaws.{script_bad, script_line}
@@ -7,7 +8,7 @@ use Rattle.world_script.proofs.script.SessionHallInterpreter.run_line.Goals as g
 
 pub returns-in-Some : goal.returns-in-Some
 returns-in-Some c = λ h s.
-    subst (λ told. RunsLine script_play h c.args.line.now c.do_step.new.hall c.args.text.now.items c.do_step.new.text.items told) (sym c.ended.ensures)
+    subst (λ told. RunsLine script_play script_doing h c.args.line.now c.do_step.new.hall c.args.text.now.items c.do_step.new.text.items told) (sym c.ended.ensures)
     (script_line c.do_step.result c.args.self.now c.do_step.new.hall c.args.line.now c.args.text.now.items c.do_step.new.text.items (step_is c.in-Some.step)
     (sym c.step_of.ensures.value ∙ ap (option_map step_is) c.in-Some.is) c.do_step.ensures h s)
 

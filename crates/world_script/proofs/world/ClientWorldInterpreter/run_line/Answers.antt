@@ -1,13 +1,14 @@
 use Rattle.std.proofs.Common.{ap, option_map, subst, sym, ◌∙◌}
 use Rattle.client_world.specs.Steps.{step_of}
-use Rattle.world_script.specs.Play.{RunsLine}
+use Rattle.line_runner.specs.Play.{RunsLine}
+use Rattle.world_script.specs.WorldDoing.{world_doing}
 use Rattle.world_script.specs.WorldPlay.{world_play}
 use Rattle.world_script.proofs.LineLaws.{world_bad, world_line}
 use Rattle.world_script.proofs.world.ClientWorldInterpreter.run_line.Goals as goal
 
 pub returns-in-Ok-Some : goal.returns-in-Ok-Some
 returns-in-Ok-Some c = λ w s.
-    subst (λ told. RunsLine world_play w c.args.line.now c.do_step.new.world c.args.text.now.items c.do_step.new.text.items told) (sym c.ended.ensures)
+    subst (λ told. RunsLine world_play world_doing w c.args.line.now c.do_step.new.world c.args.text.now.items c.do_step.new.text.items told) (sym c.ended.ensures)
     (world_line c.do_step.result c.args.self.now c.do_step.new.world c.args.line.now c.args.text.now.items c.do_step.new.text.items (step_of c.in-Ok-Some.step)
     (sym c.in-Ok-Some.ensures.step ∙ ap (option_map step_of) c.in-Ok-Some.field-0-is) c.do_step.ensures w s)
 

@@ -1,0 +1,7 @@
+pub mod Steps
+pub mod Moving
+pub mod Progress
+pub mod Playing
+pub mod Underway
+pub mod RunLaws
+pub mod EndLaws
