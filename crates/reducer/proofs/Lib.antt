@@ -4,4 +4,3 @@ mod Seats
 mod States
 mod Stepping
 mod Walks
-mod Ways

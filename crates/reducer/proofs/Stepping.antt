@@ -1,5 +1,5 @@
 -- What is prepared on a state is answered as it should be, and the state that takes it in is the one after it.
-use Rattle.std.proofs.Common.{◌≡◌, ◌+◌, ◌<◌, ◌≤◌, ◌&&◌, ℕ, Bool, true, false, nat_eq, nat_lt, if◌then◌else◌, List, [], ◌∷◌, length, slice_get, Option, Some, None, option_and_then, Result, Ok, Err, IsOk, All, arith, refl, sym, subst, ap, ◌∙◌}
+use Rattle.std.proofs.Common.{◌≡◌, ◌+◌, ◌<◌, ◌≤◌, ◌&&◌, ℕ, Bool, true, false, nat_eq, nat_lt, if◌then◌else◌, List, [], ◌∷◌, length, slice_get, Option, Some, None, option_and_then, Result, Ok, Err, IsOk, arith, refl, sym, subst, ap, ◌∙◌}
 use Rattle.std.proofs.lemmas.Bool.Decides.{nat_tests}
 use Rattle.game_sheet.specs.declared.act.Act.{Act}
 use Rattle.game_sheet.specs.declared.act.Act.TheVariants.{Move, Event as Asks, Undo, Redo}
@@ -7,7 +7,7 @@ use Rattle.game_sheet.specs.declared.memory.NoMemory.{NoMemory as Starved}
 use Rattle.game_sheet.specs.declared.refusal.GameNo.{GameNo}
 use Rattle.game_sheet.specs.declared.refusal.GameNo.TheVariants.{Broken, NoMemory}
 use Rattle.game_sheet.specs.declared.refusal.GameRule.{GameRule}
-use Rattle.game_sheet.specs.declared.refusal.GameRule.TheVariants.{NotYours, NothingToRedo, NothingToUndo}
+use Rattle.game_sheet.specs.declared.refusal.GameRule.TheVariants.{NotYours, NothingToUndo}
 use Rattle.game_sheet.specs.declared.ids.TheConstants.{MOST_ACTIONS}
 use Rattle.game_trait.specs.InSheet.{ActInSheet}
 use Rattle.game_trait.specs.Rules.{Rules}
@@ -31,19 +31,13 @@ use Rattle.reducer.specs.Walk.{Fits, reached_at, walked, checkpoint}
 use Rattle.reducer.specs.declared.checkpoint.Checkpoint.{Checkpoint}
 use Rattle.reducer.proofs.Seats.{may_is_seat}
 use Rattle.reducer.proofs.States.{IsWalk, Opened, stands_after, trail_held}
-use Rattle.reducer.proofs.Walks.{came_last, folds, leads_first, none_came, none_leads, walks_on}
+use Rattle.reducer.proofs.Walks.{came_last, folds, leads_first, none_came, walks_on}
 
 deed_call : (act : Act) (a : Accepted) → IsDeed act → called act a ≡ advance a
 deed_call (Move id args) a d = refl
 deed_call (Asks event) a d = refl
 deed_call Undo a d = absurd d
 deed_call Redo a d = absurd d
-
-pub first_has : {A : Type 0} (P : A → Type 0) (told : A) (xs : List A) → Some told ≡ slice_get xs 0 → All P xs → P told
-first_has P told [] h all = absurd (cc)
-first_has P told (x ∷ xs) h all =
-    let same : x ≡ told = cc in
-    subst P same (all 0 x (omega arith))
 
 both : (a b c d : ℕ) → a < b → c < d → (nat_lt a b && nat_lt c d) ≡ true
 both a b c d h k = grind (arith, nat_tests)
@@ -168,12 +162,6 @@ module _ {G : Type 0} (rules : Rules G) where
         leads_on = λ d. absurd d;
       } in
       shown_as number t s seat Redo p told o.shown (sym e) refl ready
-
-  pub nothing_undone : (number : ℕ) (t : Kept (Checkpoint G) Accepted) (s : Standing G) (seat : ℕ) → Opened rules number t s → None ≡ slice_get t.ahead 0 → answer_on rules s seat Redo ≡ Some NothingToRedo
-  nothing_undone number t s seat o n =
-      let trail : IsWalk rules t = walk number t s o in
-      ap (λ (x : Standing G). answer_on rules x seat Redo) (sym o.shown)
-      ∙ ap (λ (undone : List Accepted). redo_answer undone seat) (none_leads rules t.now t.undone t.ahead trail.leads_to n)
 
   -- ---- what is taken in
 

@@ -1,6 +1,7 @@
 pub mod Accepted
 pub mod Acts
 pub mod Answer
+pub mod Change
 pub mod Fold
 pub mod Folded
 pub mod Performs

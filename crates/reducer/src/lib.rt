@@ -2,6 +2,7 @@
 #![tactic(auto)]
 
 mod act;
+mod change;
 mod checkpoint;
 mod fold;
 mod laws;

@@ -1,42 +1,36 @@
 //! An accepted action with what it comes to, before a state takes it in.
 
 ghost use Rattle.std.specs.Prelude.{◌≡◌};
-ghost use Rattle.reducer.specs.Walk.{reached_at};
-ghost use Rattle.move_log.specs.Way.{way_of};
+ghost use Rattle.reducer.specs.Change.{coming, StepsByDeeds};
 
-use crate::checkpoint::{Checkpoint, Deed};
+use crate::change::Change;
 use game_sheet::{Ctx, Number};
-use move_log::Way;
 use std::marker::Model;
-use undo_redo::Step;
 
-/// An accepted action with the state that it comes to, which no state of a match has taken in yet.
+/// An accepted action with what it makes of the trail, which no state of a match has taken in yet.
 ///
 /// Contracts see the action, and the number and the table after it.
 pub struct Prepared<G> {
     pub(crate) number: Number,
-    pub(crate) step: Step<Checkpoint<G>, Deed>,
+    pub(crate) change: Change<G>,
 }
 
 impl<G: Drop> Drop for Prepared<G> {
     fn drop(self) {
-        let Prepared { number: _, step } = self;
-        drop(step);
+        let Prepared { number: _, change } = self;
+        drop(change);
     }
 }
 
 impl<G> Model for Prepared<G> {
+    ghost use Rattle.reducer.specs.Change.{coming, StepsByDeeds};
     ghost use Rattle.reducer.specs.Prepared.{Coming};
-    ghost use Rattle.reducer.specs.Walk.{reached_at};
 
     ghost Value = { Coming G };
 
-    ghost view = { λ p. record {
-      action = p.step.act;
-      number = p.number;
-      count = p.step.after.count;
-      table = reached_at p.step.after;
-    } };
+    ghost view = { λ p. coming p.number p.change };
+
+    ghost invariant = { λ p. StepsByDeeds p.change };
 }
 
 impl<G> Prepared<G> {
@@ -51,39 +45,31 @@ impl<G> Prepared<G> {
     pub fn ctx(&self) -> &Ctx
         ensures { result.now ≡ self.now.table.ctx }
     {
-        &self.step.after().table.ctx
+        &self.change.after().table.ctx
     }
 
     /// The game's own state after the action.
     pub fn g(&self) -> &G
         ensures { result.now ≡ self.now.table.g }
     {
-        &self.step.after().table.g
+        &self.change.after().table.g
     }
 
     /// The place of the match's next random word, counted from 0.
     pub fn place(&self) -> u64
         ensures { result ≡ self.now.table.place }
     {
-        self.step.after().place
-    }
-
-    /// Which way the action takes the match.
-    pub(crate) fn way(&self) -> Way
-        ensures { result ≡ way_of self.now.action.act }
-    {
-        self.step.act().act.way()
+        self.change.after().place
     }
 }
 
 impl<G: Drop> Prepared<G> {
-    /// The step that the action makes.
-    pub(crate) fn into_step(self) -> Step<Checkpoint<G>, Deed>
-        ensures act { result.act ≡ self.action }
-        ensures count { result.after.count ≡ self.count }
-        ensures table { reached_at result.after ≡ self.table }
+    /// What the action makes of the trail.
+    pub(crate) fn into_change(self) -> Change<G>
+        ensures coming { coming self.number result ≡ self }
+        ensures steps { StepsByDeeds result }
     {
-        let Prepared { number: _, step } = self;
-        step
+        let Prepared { number: _, change } = self;
+        change
     }
 }

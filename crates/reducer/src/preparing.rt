@@ -12,6 +12,7 @@ ghost use Rattle.reducer.specs.Walk.{InSheet, reached_at};
 ghost use Rattle.stage_map.specs.Moves.{may};
 ghost use Rattle.game_sheet.specs.declared.ids.TheConstants.{MOST_ACTIONS};
 
+use crate::change::Change;
 use crate::checkpoint::{Checkpoint, Deed};
 use crate::machine::perform;
 use crate::prepared::Prepared;
@@ -26,7 +27,7 @@ use undo_redo::Step;
 /// What one action more of a seat that may act comes to, for [`commit`](crate::commit) to take in. The state stays as it is.
 ///
 /// A rule is broken exactly where the action on this state breaks it. An undo strikes the last done action, and a redo does the
-/// first undone one again; both come to a state that is kept, with its place in the words.
+/// first undone one again; both come to a state that is kept, with its place in the words, and make nothing anew.
 pub fn prepare<X: Game>(
     alloc: Global,
     game: &X,
@@ -41,8 +42,8 @@ pub fn prepare<X: Game>(
     ensures answer { Prepares (X.rules game.now) state.now seat act.now result }
 {
     match act {
-        Act::Undo => undo(alloc, game, state, seat),
-        Act::Redo => redo(alloc, game, state, seat),
+        Act::Undo => undo(game, state, seat),
+        Act::Redo => redo(game, state, seat),
         Act::Move { .. } | Act::Event(_) => apply(alloc, game, state, seat, act),
     }
 }
@@ -72,12 +73,7 @@ fn apply<X: Game>(
 }
 
 /// What an undo comes to.
-fn undo<X: Game>(
-    alloc: Global,
-    game: &X,
-    state: &State<X::G>,
-    seat: Seat,
-) -> Result<Prepared<X::G>, GameNo>
+fn undo<X: Game>(game: &X, state: &State<X::G>, seat: Seat) -> Result<Prepared<X::G>, GameNo>
     requires room { state.now.number < MOST_ACTIONS }
     requires sound { IsSound (X.rules game.now) state.now }
     requires active { may state.now.table.ctx seat ≡ true }
@@ -91,7 +87,7 @@ fn undo<X: Game>(
     };
     match undo_broken(game, state.trail.now(), before, last, seat) {
         Some(rule) => Err(GameNo::Broken(rule)),
-        None => match kept(alloc, state.number + 1, seat, Act::Undo, before) {
+        None => match back(state.number + 1, seat, before) {
             Ok(prepared) => Ok(prepared),
             Err(_) => Err(GameNo::NoMemory),
         },
@@ -99,12 +95,7 @@ fn undo<X: Game>(
 }
 
 /// What a redo comes to.
-fn redo<X: Game>(
-    alloc: Global,
-    game: &X,
-    state: &State<X::G>,
-    seat: Seat,
-) -> Result<Prepared<X::G>, GameNo>
+fn redo<X: Game>(game: &X, state: &State<X::G>, seat: Seat) -> Result<Prepared<X::G>, GameNo>
     requires room { state.now.number < MOST_ACTIONS }
     requires sound { IsSound (X.rules game.now) state.now }
     requires active { may state.now.table.ctx seat ≡ true }
@@ -120,13 +111,13 @@ fn redo<X: Game>(
     let Some(after) = state.trail.ahead() else {
         return Err(GameNo::Broken(GameRule::NothingToRedo));
     };
-    match kept(alloc, state.number + 1, seat, Act::Redo, after) {
+    match again(state.number + 1, seat, after) {
         Ok(prepared) => Ok(prepared),
         Err(_) => Err(GameNo::NoMemory),
     }
 }
 
-/// An action to a checkpoint of its own.
+/// A move or an event to a checkpoint of its own.
 fn made<G: Drop>(
     alloc: Global,
     number: Number,
@@ -134,28 +125,46 @@ fn made<G: Drop>(
     act: &Act,
     next: Checkpoint<G>,
 ) -> Result<Prepared<G>, NoMemory>
+    requires { IsDeed act.now }
     ensures { IfOk result (λ p. p ≡ record { action = record { seat = seat; act = act.now }; number = number; count = next.count; table = reached_at next }) }
 {
     let act = KeptAct::of(alloc, act)?;
     let deed = Deed { seat, act };
     let step = Step::new(alloc, deed, next)?;
-    Ok(Prepared { number, step })
+    Ok(Prepared {
+        number,
+        change: Change::On(step),
+    })
 }
 
-/// An action to a checkpoint that is kept already.
-fn kept<G: Drop>(
-    alloc: Global,
+/// An undo to a checkpoint that is kept already.
+fn back<G: Drop>(
     number: Number,
     seat: Seat,
-    act: Act,
     next: &Arc<Checkpoint<G>>,
 ) -> Result<Prepared<G>, NoMemory>
-    ensures { IfOk result (λ p. p ≡ record { action = record { seat = seat; act = act }; number = number; count = (arc_value next.now).count; table = reached_at (arc_value next.now) }) }
+    ensures { IfOk result (λ p. p ≡ record { action = record { seat = seat; act = Undo }; number = number; count = (arc_value next.now).count; table = reached_at (arc_value next.now) }) }
 {
-    let act = KeptAct::of(alloc, &act)?;
-    let deed = Deed { seat, act };
-    let step = Step::to_kept(alloc, deed, next)?;
-    Ok(Prepared { number, step })
+    let to = Arc::try_clone(next)?;
+    Ok(Prepared {
+        number,
+        change: Change::Back { seat, to },
+    })
+}
+
+/// A redo to a checkpoint that is kept already.
+fn again<G: Drop>(
+    number: Number,
+    seat: Seat,
+    next: &Arc<Checkpoint<G>>,
+) -> Result<Prepared<G>, NoMemory>
+    ensures { IfOk result (λ p. p ≡ record { action = record { seat = seat; act = Redo }; number = number; count = (arc_value next.now).count; table = reached_at (arc_value next.now) }) }
+{
+    let to = Arc::try_clone(next)?;
+    Ok(Prepared {
+        number,
+        change: Change::Again { seat, to },
+    })
 }
 
 /// The rule that the undo of the last action breaks, which led from one checkpoint to the present one.

@@ -43,16 +43,6 @@ impl<S: Drop, A: Drop> Step<S, A> {
         Ok(Step { act, after })
     }
 
-    /// A step to a state that is kept already.
-    pub fn to_kept(alloc: Global, act: A, after: &Arc<S>) -> Result<Self, NoMemory>
-        ensures act { IfOk result (λ step. step.act ≡ act) }
-        ensures after { IfOk result (λ step. step.after ≡ arc_value after.now) }
-    {
-        let after = Arc::try_clone(after)?;
-        let act = Arc::new(alloc, act)?;
-        Ok(Step { act, after })
-    }
-
     /// The same act and state.
     pub(crate) fn share(&self) -> Result<Self, NoMemory>
         ensures { IfOk result (λ step. step ≡ self.now) }

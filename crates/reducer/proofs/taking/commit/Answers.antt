@@ -1,15 +1,11 @@
-use Rattle.std.proofs.Common.{ap, sym, ◌∙◌}
-use Rattle.game_sheet.specs.declared.act.Act.{Act}
+use Rattle.std.proofs.Common.{ap, ◌∙◌}
 use Rattle.reducer.specs.Steps.{state_after}
-use Rattle.reducer.proofs.Ways.{is_redo, is_undo}
 use Rattle.reducer.proofs.taking.commit.Goals as goal
 
 pub returns-in-Back-clause-after : goal.returns-in-Back-clause-after
 returns-in-Back-clause-after g c =
-    c.undo.ensures.after c.args.prepared.action.seat
-    ∙ ap (λ (act : Act). state_after (g.X.Game.rules c.args.game.now) c.args.state.now (record { seat = c.args.prepared.action.seat; act = act })) (sym (is_undo c.args.prepared.action.act c.in-Back.ensures))
+    c.undo.ensures.after c.in-Back.seat ∙ ap (λ p. state_after (g.X.Game.rules c.args.game.now) c.args.state.now p.action) c.in-Back.ensures.coming
 
 pub returns-in-Again-clause-after : goal.returns-in-Again-clause-after
 returns-in-Again-clause-after g c =
-    c.redo.ensures.after c.args.prepared.action.seat
-    ∙ ap (λ (act : Act). state_after (g.X.Game.rules c.args.game.now) c.args.state.now (record { seat = c.args.prepared.action.seat; act = act })) (sym (is_redo c.args.prepared.action.act c.in-Again.ensures))
+    c.redo.ensures.after c.in-Again.seat ∙ ap (λ p. state_after (g.X.Game.rules c.args.game.now) c.args.state.now p.action) c.in-Again.ensures.coming
