@@ -8,7 +8,6 @@ use Rattle.std.proofs.lemmas.List.Folds.{concat-append}
 use Rattle.std.proofs.lemmas.Option.{slice_get_within, get_or_from_slice_get}
 use Rattle.game_sheet.specs.Lines.{lines}
 use Rattle.game_sheet.specs.declared.act.Bye.{Bye}
-use Rattle.room_history.specs.Message.{Farewell, line}
 use Rattle.room_history.specs.Session.{bye_lines}
 use Rattle.wire_json.specs.ServerText.{text as server_text}
 use Rattle.wire_json.specs.declared.server.ServerMsg.TheVariants as message
@@ -36,10 +35,6 @@ line_more ls place line h =
 pub all_joined : (bytes : List ℕ) (place : ℕ) → length (lines bytes) ≤ place → concat (take place (lines bytes)) ≡ bytes
 all_joined bytes place h = ap concat (take_all place (lines bytes) h) ∙ lines_joined bytes
 
-bye_is : (why : Bye) → server_text (message.Bye why) ≡ line (Farewell why)
-unfolding line server_text
-bye_is why = refl
-
 -- the bye line stands behind what waits
 pub ended : (bytes : List ℕ) (why : Bye) → bytes ++ server_text (message.Bye why) ≡ bytes ++ concat (bye_lines (Some why))
-ended bytes why = ap (λ l. bytes ++ l) (bye_is why ∙ sym (append-nil (line (Farewell why))))
+ended bytes why = ap (λ l. bytes ++ l) (sym (append-nil (server_text (message.Bye why))))

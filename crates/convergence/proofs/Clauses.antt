@@ -13,7 +13,9 @@ use Rattle.player_sight.specs.SnapshotData.{Snap}
 use Rattle.reducer.specs.Accepted.{Accepted}
 use Rattle.room_history.specs.Course.{IsFirstPart, IsOpen}
 use Rattle.room_history.specs.Match.{Match}
-use Rattle.room_history.specs.Message.{Message, Farewell, line}
+use Rattle.wire_json.specs.declared.server.ServerMsg.{ServerMsg}
+use Rattle.wire_json.specs.declared.server.ServerMsg.TheVariants.{Bye as Farewell}
+use Rattle.wire_json.specs.ServerText.{text}
 use Rattle.room_history.specs.News.{messages, messages_of, news}
 use Rattle.room_history.specs.Piece.{State, Open, Closed, all_lines, message_lines_to_mark, state_of}
 use Rattle.room_history.specs.Room.{latest_session, match_of, room_of, session, standing}
@@ -132,23 +134,23 @@ module _ {X G : Type 0} (rules : X → Rules G) (room : ℕ) (low : room ≤ 63)
   -- nothing that is told; the first messages of what was shown; or all that was handed out, and a bye line
   data Has (s : Session) (told : List (List ℕ)) : Type 0 where
     Nothing : told ≡ [] → Has s told
-    Some_of : (newer : List Message) (head : Message) (older : List Message) → messages_of s ≡ newer ++ head ∷ older → AllRead (head ∷ older) → told ≡ lines_of (head ∷ older) → Has s told
-    Only_bye : (why : Bye) → told ≡ line (Farewell why) ∷ [] → Has s told
-    With_bye : (newer : List Message) (head : Message) (older : List Message) (why : Bye) → messages_of s ≡ newer ++ head ∷ older → AllRead (head ∷ older) → told ≡ lines_of (head ∷ older) ++ line (Farewell why) ∷ [] → Has s told
+    Some_of : (newer : List ServerMsg) (head : ServerMsg) (older : List ServerMsg) → messages_of s ≡ newer ++ head ∷ older → AllRead (head ∷ older) → told ≡ lines_of (head ∷ older) → Has s told
+    Only_bye : (why : Bye) → told ≡ text (Farewell why) ∷ [] → Has s told
+    With_bye : (newer : List ServerMsg) (head : ServerMsg) (older : List ServerMsg) (why : Bye) → messages_of s ≡ newer ++ head ∷ older → AllRead (head ∷ older) → told ≡ lines_of (head ∷ older) ++ text (Farewell why) ∷ [] → Has s told
 
-  has_part : (s : Session) (more ms : List Message) (told : List (List ℕ)) → messages_of s ≡ more ++ ms → AllRead ms → Parted ms told → Has s told
+  has_part : (s : Session) (more ms : List ServerMsg) (told : List (List ℕ)) → messages_of s ≡ more ++ ms → AllRead ms → Parted ms told → Has s told
   has_part s more ms told e back p = by p.older p.is p.lines
     where
-      by : (older : List Message) → ms ≡ p.newer ++ older → told ≡ lines_of older → Has s told
+      by : (older : List ServerMsg) → ms ≡ p.newer ++ older → told ≡ lines_of older → Has s told
       by [] is lines = Nothing lines
       by (head ∷ older) is lines =
           Some_of (more ++ p.newer) head older (e ∙ ap (λ l. more ++ l) is ∙ sym (append_assoc more p.newer (head ∷ older))) (later_read p.newer (head ∷ older) (subst AllRead is back)) lines
 
-  has_all : (s : Session) (more ms : List Message) (why : Bye) (told : List (List ℕ)) → messages_of s ≡ more ++ ms → AllRead ms → told ≡ lines_of ms ++ line (Farewell why) ∷ [] → Has s told
+  has_all : (s : Session) (more ms : List ServerMsg) (why : Bye) (told : List (List ℕ)) → messages_of s ≡ more ++ ms → AllRead ms → told ≡ lines_of ms ++ text (Farewell why) ∷ [] → Has s told
   has_all s more [] why told e back is = Only_bye why is
   has_all s more (head ∷ older) why told e back is = With_bye more head older why e back is
 
-  bye_line : (why : Bye) → told_lines (line (Farewell why) ∷ []) ≡ line (Farewell why) ∷ []
+  bye_line : (why : Bye) → told_lines (text (Farewell why) ∷ []) ≡ text (Farewell why) ∷ []
   bye_line why = rw (bye_reads why) refl
 
   has : (s : Session) → Good s → AllLines ReadsBack (stream_of s) → (told : List (List ℕ)) → IsFirstPart told (told_lines s.sent) → Has s told
@@ -160,7 +162,7 @@ module _ {X G : Type 0} (rules : X → Rules G) (room : ℕ) (low : room ≤ 63)
       older_back : AllLines ReadsBack mark.older
       older_back = older_lines ReadsBack mark.newer mark.older (subst (AllLines ReadsBack) mark.is back)
 
-      more : (more : List Message) × (messages_of s ≡ more ++ news mark.older)
+      more : (more : List ServerMsg) × (messages_of s ≡ more ++ news mark.older)
       more = mark_older s mark.newer mark.older mark.is
 
       lines_told : told_lines (message_lines_to_mark (stream_of s)) ≡ lines_of (news mark.older)
@@ -170,15 +172,15 @@ module _ {X G : Type 0} (rules : X → Rules G) (room : ℕ) (low : room ≤ 63)
       by (inl e) =
           has_part s more.0 (news mark.older) told more.1 (news_read mark.older older_back)
           (part_lines (news mark.older) told (f.0, sym (ap told_lines e ∙ lines_told) ∙ f.1))
-      by (inr e) = ended_by (last_in (lines_of (news mark.older)) (line (Farewell e.0)) told f.0 (sym (ap told_lines e.1 ∙ told_append (message_lines_to_mark (stream_of s)) (line (Farewell e.0) ∷ []) ∙ ap (λ l. l ++ told_lines (line (Farewell e.0) ∷ [])) lines_told ∙ ap (λ l. lines_of (news mark.older) ++ l) (bye_line e.0)) ∙ f.1))
+      by (inr e) = ended_by (last_in (lines_of (news mark.older)) (text (Farewell e.0)) told f.0 (sym (ap told_lines e.1 ∙ told_append (message_lines_to_mark (stream_of s)) (text (Farewell e.0) ∷ []) ∙ ap (λ l. l ++ told_lines (text (Farewell e.0) ∷ [])) lines_told ∙ ap (λ l. lines_of (news mark.older) ++ l) (bye_line e.0)) ∙ f.1))
         where
-          ended_by : (told ≡ lines_of (news mark.older) ++ line (Farewell e.0) ∷ []) ⊎ IsFirstPart told (lines_of (news mark.older)) → Has s told
+          ended_by : (told ≡ lines_of (news mark.older) ++ text (Farewell e.0) ∷ []) ⊎ IsFirstPart told (lines_of (news mark.older)) → Has s told
           ended_by (inl whole) = has_all s more.0 (news mark.older) e.0 told more.1 (news_read mark.older older_back) whole
           ended_by (inr part) = has_part s more.0 (news mark.older) told more.1 (news_read mark.older older_back) (part_lines (news mark.older) told part)
 
   -- ---- so it sees the match
 
-  some_seen : (h : List (Entry (RoomCall X))) (s : Session) (k : Seen h s) (newer : List Message) (head : Message) (older : List Message) → messages_of s ≡ newer ++ head ∷ older → AllRead (head ∷ older)
+  some_seen : (h : List (Entry (RoomCall X))) (s : Session) (k : Seen h s) (newer : List ServerMsg) (head : ServerMsg) (older : List ServerMsg) → messages_of s ≡ newer ++ head ∷ older → AllRead (head ∷ older)
       → SeesSome rules room lawful stays k.sees.m k.ground s.name s.viewer s.protocol (head ∷ older)
   some_seen h s k newer head older e back =
       let x : SeesMatch rules room h s = k.sees in
@@ -198,8 +200,8 @@ module _ {X G : Type 0} (rules : X → Rules G) (room : ℕ) (low : room ≤ 63)
         earlier = x.earlier;
         in_order = x.in_order;
         plays = ap (λ l. (reads_all (rules k.sees.m.game) fresh l).playing) is
-            ∙ ap (λ (c : Client G). c.playing) (reads_last (rules k.sees.m.game) fresh (lines_of (head ∷ older)) (line (Farewell why)))
-            ∙ reads_bye (rules k.sees.m.game) (reads_all (rules k.sees.m.game) fresh (lines_of (head ∷ older))) (line (Farewell why)) why (bye_reads why)
+            ∙ ap (λ (c : Client G). c.playing) (reads_last (rules k.sees.m.game) fresh (lines_of (head ∷ older)) (text (Farewell why)))
+            ∙ reads_bye (rules k.sees.m.game) (reads_all (rules k.sees.m.game) fresh (lines_of (head ∷ older))) (text (Farewell why)) why (bye_reads why)
             ∙ ap (λ (c : Client G). c.playing) x.sees;
       }
 

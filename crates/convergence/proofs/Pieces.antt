@@ -5,8 +5,8 @@ use Rattle.game_sheet.specs.Viewer.{Viewer}
 use Rattle.game_sheet.specs.declared.act.Bye.TheVariants as bye
 use Rattle.game_sheet.specs.declared.sheet.Sheet.{Sheet}
 use Rattle.room_history.specs.Item.{GameAnswer, Starved, Unasked, Accepted as IsAccepted, Refused, Item, Submitted, Took, Left, Detached, number_after}
-use Rattle.room_history.specs.Message.{Message, No}
-use Rattle.room_history.specs.Message as room
+use Rattle.wire_json.specs.declared.server.ServerMsg.{ServerMsg}
+use Rattle.wire_json.specs.declared.server.ServerMsg.TheVariants.{No, Ok as Accepts}
 use Rattle.room_history.specs.Piece.{Piece, Line, Mark, End, State, Open, Ended, Closed, counted_size, state_of, waiting_size}
 use Rattle.room_history.specs.Session.{Session, stream_of}
 use Rattle.room_history.specs.Showing.{Showing, showings, showings_above, showings_up_to, snapshot_of_number}
@@ -46,11 +46,11 @@ items_fit n (Took k ∷ own) h c o t = items_fit n own h (low_before n k own c o
 items_fit n (Left k ∷ own) h c o t = items_fit n own h (low_before n k own c o.0) o.1 t
 items_fit n (Detached k ∷ own) h c o t = items_fit n own h (low_before n k own c o.0) o.1 t
 
-abbrev pub AllHave : (Message → Type 0) → List Showing → Type 0
+abbrev pub AllHave : (ServerMsg → Type 0) → List Showing → Type 0
 AllHave Has [] = Unit {0}
 AllHave Has (t ∷ shown) = Has t.message × AllHave Has shown
 
-module _ (Has : Message → Type 0) (oks : (n ticket : ℕ) → n ≤ 4294967295 → ticket ≤ 4294967295 → Has (room.Ok n ticket))
+module _ (Has : ServerMsg → Type 0) (oks : (n ticket : ℕ) → n ≤ 4294967295 → ticket ≤ 4294967295 → Has (Accepts n ticket))
     (nos : (n : ℕ) (reason : Reason) (ticket : ℕ) → n ≤ 4294967295 → ticket ≤ 4294967295 → Has (No n reason ticket)) where
   -- ---- the long list
 
@@ -116,7 +116,7 @@ module _ (Has : Message → Type 0) (oks : (n ticket : ℕ) → n ≤ 4294967295
 
   -- ---- the cut
 
-  line_put : (b : Bool) (m : Message) (ps : List Piece) → Has m → AllLines Has ps → AllLines Has (line_or_end b m ps)
+  line_put : (b : Bool) (m : ServerMsg) (ps : List Piece) → Has m → AllLines Has ps → AllLines Has (line_or_end b m ps)
   line_put true m ps h k = k
   line_put false m ps h k = (h, k)
 

@@ -11,8 +11,8 @@ use Rattle.player_sight.specs.Change.{gone_part, lost_names, members_in, put_par
 use Rattle.player_sight.specs.SnapshotData.{Snap, snapshot_data}
 use Rattle.reducer.specs.Accepted.{Accepted}
 use Rattle.room_history.specs.Match.{Match}
-use Rattle.room_history.specs.Message.{Message, No, Sync}
-use Rattle.room_history.specs.Message as room
+use Rattle.wire_json.specs.declared.server.ServerMsg.{ServerMsg}
+use Rattle.wire_json.specs.declared.server.ServerMsg.TheVariants.{No, Sync, Ok as Accepts}
 use Rattle.room_history.specs.Piece.{Piece, Line, Mark, End}
 use Rattle.room_history.specs.Session.{Session, stream_of}
 use Rattle.room_history.specs.Showing.{Showing, newest_entry, showings, update_message}
@@ -34,7 +34,7 @@ use Rattle.convergence.proofs.Pieces.{AllHave, ItemsFit, stream_have}
 use Rattle.convergence.proofs.Texts.{all_texts, gone_writable, put_writable}
 use Rattle.convergence.proofs.Values.{ctx_ok, newest_ok, snapshot_ok}
 
-abbrev pub May : Message → Type 0
+abbrev pub May : ServerMsg → Type 0
 May m = IsShallow m → ReadsBack m
 
 no_both : false ≡ true → ⊥
@@ -50,7 +50,7 @@ put_object old (object ms) h = refl
 
 -- ---- what was shown
 
-verdict_ok : (n ticket : ℕ) → n ≤ 4294967295 → ticket ≤ 4294967295 → May (room.Ok n ticket)
+verdict_ok : (n ticket : ℕ) → n ≤ 4294967295 → ticket ≤ 4294967295 → May (Accepts n ticket)
 verdict_ok n ticket h t = λ deep. ok_reads n ticket h t
 
 verdict_no : (n : ℕ) (reason : Reason) (ticket : ℕ) → n ≤ 4294967295 → ticket ≤ 4294967295 → May (No n reason ticket)

@@ -12,8 +12,7 @@ use Rattle.player_sight.specs.SnapshotData.{Snap, snapshot_data}
 use Rattle.player_sight.proofs.Depths.{ctx_is_shallow, entry_is_shallow, snapshot_is_shallow}
 use Rattle.reducer.specs.Accepted.{Accepted}
 use Rattle.room_history.specs.Match.{Match}
-use Rattle.room_history.specs.Message.{Change, No, Sync, Update}
-use Rattle.room_history.specs.Message as room
+use Rattle.wire_json.specs.declared.server.ServerMsg.TheVariants.{Change, No, Sync, Update, Ok as Accepts}
 use Rattle.room_history.specs.Showing.{newest_entry, showings, update_message}
 use Rattle.room_history.specs.Shown.{snapshot_at, snapshots}
 use Rattle.serde_json.specs.Data.{Data, null, boolean, number, string, array, object, Members, no_members, member, depth, items_depth, members_depth}
@@ -66,7 +65,7 @@ gone_shallow old new = omega (arith, texts_flat (lost_names (members_in old) new
 
 -- ---- each message
 
-pub ok_shallow : (n ticket : ℕ) → n ≤ 4294967295 → ticket ≤ 4294967295 → IsShallow (room.Ok n ticket)
+pub ok_shallow : (n ticket : ℕ) → n ≤ 4294967295 → ticket ≤ 4294967295 → IsShallow (Accepts n ticket)
 ok_shallow n ticket h t = omega arith
 
 pub no_shallow : (n : ℕ) (reason : Reason) (ticket : ℕ) → n ≤ 4294967295 → ticket ≤ 4294967295 → IsShallow (No n reason ticket)
@@ -79,8 +78,8 @@ sync_shallow name seat Two d h = omega (arith, h, flat seat)
 update_shallow : (ctx entry g : Data) (n : ℕ) → depth ctx ≤ 2 → depth entry ≤ 3 → depth g ≤ 125 → IsShallow (Update ctx entry g n)
 update_shallow ctx entry g n c e s = omega (arith, c, e, s)
 
-change_shallow : (ctx entry gone put : Data) (n was : ℕ) → depth ctx ≤ 2 → depth entry ≤ 3 → depth gone ≤ 1 → depth put ≤ 125 → IsShallow (Change ctx entry gone put n was)
-change_shallow ctx entry gone put n was c e g p = omega (arith, c, e, g, p)
+change_shallow : (ctx entry gone put : Data) (n : ℕ) → depth ctx ≤ 2 → depth entry ≤ 3 → depth gone ≤ 1 → depth put ≤ 125 → IsShallow (Change ctx entry gone put n)
+change_shallow ctx entry gone put n c e g p = omega (arith, c, e, g, p)
 
 module _ {X G : Type 0} (rules : X → Rules G) (room : ℕ) (lawful : (game : X) → Lawful (rules game)) (stays : StaysSound rules) (low : StatesAreShallow rules) (m : Match X G) (g : IsGrounded rules room m)
     (name : Name) (viewer : Viewer) (protocol : Protocol) where
@@ -112,7 +111,7 @@ module _ {X G : Type 0} (rules : X → Rules G) (room : ℕ) (lawful : (game : X
       let ctx : depth (put_part old new) ≤ 2 = omega (arith, put_shallow old new, ctx_is_shallow (rules m.game).sheet (snap (a ∷ accepted)).ctx new refl) in
       let state : depth (put_part (snap accepted).g (snap (a ∷ accepted)).g) ≤ 125 = omega (arith, put_shallow (snap accepted).g (snap (a ∷ accepted)).g, state_shallow later (a ∷ accepted) e) in
       change_shallow (put_part old new) (newest_entry (rules m.game).sheet (snap (a ∷ accepted)).log) (gone_part (snap accepted).g (snap (a ∷ accepted)).g) (put_part (snap accepted).g (snap (a ∷ accepted)).g)
-      (suc (length accepted)) (length accepted) ctx (newest_shallow (rules m.game).sheet (snap (a ∷ accepted)).log) (gone_shallow (snap accepted).g (snap (a ∷ accepted)).g) state
+      (suc (length accepted)) ctx (newest_shallow (rules m.game).sheet (snap (a ∷ accepted)).log) (gone_shallow (snap accepted).g (snap (a ∷ accepted)).g) state
 
   head_is : (many : ℕ) (accepted : List Accepted) → (snaps many accepted ≡ []) ⊎ ((rest : List Snap) × (snaps many accepted ≡ snap accepted ∷ rest))
   head_is zero accepted = inr ([], refl)

@@ -18,7 +18,9 @@ use Rattle.player_sight.specs.declared.shown.Snapshot.{Snapshot}
 use Rattle.reducer.specs.Accepted.{Accepted}
 use Rattle.reducer.specs.Fold.{fold}
 use Rattle.room_history.specs.Match.{Match}
-use Rattle.room_history.specs.Message.{Message, Sync, line}
+use Rattle.wire_json.specs.declared.server.ServerMsg.{ServerMsg}
+use Rattle.wire_json.specs.declared.server.ServerMsg.TheVariants.{Sync}
+use Rattle.wire_json.specs.ServerText.{text}
 use Rattle.room_history.specs.News.{messages}
 use Rattle.room_history.specs.Showing.{newest_entry, showings, update_message}
 use Rattle.room_history.specs.Shown.{entry_of, log_from, snapshot_at, snapshots}
@@ -38,15 +40,15 @@ use Rattle.convergence.proofs.Texts.{leads_to_new}
 use Rattle.convergence.proofs.Values.{ctx_ok}
 
 -- the lines of messages, in order; the latest message is the first of the list
-abbrev pub lines_of : List Message → List (List ℕ)
+abbrev pub lines_of : List ServerMsg → List (List ℕ)
 lines_of [] = []
-lines_of (m ∷ ms) = lines_of ms ++ line m ∷ []
+lines_of (m ∷ ms) = lines_of ms ++ text m ∷ []
 
-abbrev pub AllRead : List Message → Type 0
+abbrev pub AllRead : List ServerMsg → Type 0
 AllRead [] = Unit {0}
 AllRead (m ∷ ms) = ReadsBack m × AllRead ms
 
-pub later_read : (newer older : List Message) → AllRead (newer ++ older) → AllRead older
+pub later_read : (newer older : List ServerMsg) → AllRead (newer ++ older) → AllRead older
 later_read [] older h = h
 later_read (m ∷ newer) older h = later_read newer older h.1
 
@@ -68,14 +70,14 @@ module _ {X G : Type 0} (rules : X → Rules G) (room : ℕ) (lawful : (game : X
   abbrev snaps : ℕ → List Accepted → List Snap
   snaps many accepted = snapshots (rules m.game) m.first (seat_of viewer) many accepted
 
-  abbrev pub told_at : List Snap → List Message
+  abbrev pub told_at : List Snap → List ServerMsg
   told_at sight = messages (showings name (rules m.game).sheet viewer protocol sight)
 
   sync_step : (c : Client G) (later accepted : List Accepted) → m.accepted ≡ later ++ accepted
       → ReadsBack (Sync name (seat_of viewer) protocol (snapshot_data (rules m.game).sheet (snap accepted)))
-      → Sees (reads (rules m.game) c (line (Sync name (seat_of viewer) protocol (snapshot_data (rules m.game).sheet (snap accepted))))).client accepted
+      → Sees (reads (rules m.game) c (text (Sync name (seat_of viewer) protocol (snapshot_data (rules m.game).sheet (snap accepted))))).client accepted
   sync_step c later accepted e back =
-      reads_sync (rules m.game) c (line (Sync name (seat_of viewer) protocol (snapshot_data (rules m.game).sheet (snap accepted)))) name (seat_of viewer) protocol
+      reads_sync (rules m.game) c (text (Sync name (seat_of viewer) protocol (snapshot_data (rules m.game).sheet (snap accepted)))) name (seat_of viewer) protocol
       (snapshot_data (rules m.game).sheet (snap accepted)) (view_at (rules m.game) m.first (seat_of viewer) accepted) back
       (view_read rules room lawful stays m g later accepted e (seat_of viewer)).read
 
@@ -100,14 +102,14 @@ module _ {X G : Type 0} (rules : X → Rules G) (room : ℕ) (lawful : (game : X
 
   next_by : (p : Protocol) (a : Accepted) (accepted : List Accepted) → IsPlain (rules m.game) (view accepted) → IsPlain (rules m.game) (view (a ∷ accepted))
       → ReadsBack (update_message p (rules m.game).sheet (snap accepted) (snap (a ∷ accepted)))
-      → Sees (reads (rules m.game) (seeing name (seat_of viewer) (view accepted)) (line (update_message p (rules m.game).sheet (snap accepted) (snap (a ∷ accepted))))).client (a ∷ accepted)
+      → Sees (reads (rules m.game) (seeing name (seat_of viewer) (view accepted)) (text (update_message p (rules m.game).sheet (snap accepted) (snap (a ∷ accepted))))).client (a ∷ accepted)
   next_by One a accepted old new back =
-      reads_update (rules m.game) (line (update_message One (rules m.game).sheet (snap accepted) (snap (a ∷ accepted)))) name (seat_of viewer) (view accepted) (view (a ∷ accepted))
+      reads_update (rules m.game) (text (update_message One (rules m.game).sheet (snap accepted) (snap (a ∷ accepted)))) name (seat_of viewer) (view accepted) (view (a ∷ accepted))
       (ctx_data (rules m.game).sheet (view (a ∷ accepted)).ctx) (newest_entry (rules m.game).sheet (view (a ∷ accepted)).log) ((rules m.game).value (view (a ∷ accepted)).g) (entry_at a accepted) back
       (ctx_again (rules m.game).sheet (view (a ∷ accepted)).ctx (lawful m.game).fits new.ctx) (entry_read a accepted new) ((lawful m.game).reads_back (view (a ∷ accepted)).g new.own)
       (next_number a accepted) (log_grows a accepted)
   next_by Two a accepted old new back =
-      reads_change (rules m.game) (line (update_message Two (rules m.game).sheet (snap accepted) (snap (a ∷ accepted)))) name (seat_of viewer) (view accepted) (view (a ∷ accepted))
+      reads_change (rules m.game) (text (update_message Two (rules m.game).sheet (snap accepted) (snap (a ∷ accepted)))) name (seat_of viewer) (view accepted) (view (a ∷ accepted))
       (put_part (ctx_data (rules m.game).sheet (view accepted).ctx) (ctx_data (rules m.game).sheet (view (a ∷ accepted)).ctx)) (newest_entry (rules m.game).sheet (view (a ∷ accepted)).log)
       (gone_part ((rules m.game).value (view accepted).g) ((rules m.game).value (view (a ∷ accepted)).g)) (put_part ((rules m.game).value (view accepted).g) ((rules m.game).value (view (a ∷ accepted)).g)) (entry_at a accepted) back
       (entry_read a accepted new)
@@ -120,9 +122,9 @@ module _ {X G : Type 0} (rules : X → Rules G) (room : ℕ) (lawful : (game : X
 
   update_step : (p : Protocol) (later : List Accepted) (a : Accepted) (accepted : List Accepted) → m.accepted ≡ later ++ a ∷ accepted
       → ReadsBack (update_message p (rules m.game).sheet (snap accepted) (snap (a ∷ accepted)))
-      → (c : Client G) → Sees c accepted → Sees (reads (rules m.game) c (line (update_message p (rules m.game).sheet (snap accepted) (snap (a ∷ accepted))))).client (a ∷ accepted)
+      → (c : Client G) → Sees c accepted → Sees (reads (rules m.game) c (text (update_message p (rules m.game).sheet (snap accepted) (snap (a ∷ accepted))))).client (a ∷ accepted)
   update_step p later a accepted e back c sees =
-      subst (λ x. Sees (reads (rules m.game) x (line (update_message p (rules m.game).sheet (snap accepted) (snap (a ∷ accepted))))).client (a ∷ accepted)) (sym sees)
+      subst (λ x. Sees (reads (rules m.game) x (text (update_message p (rules m.game).sheet (snap accepted) (snap (a ∷ accepted))))).client (a ∷ accepted)) (sym sees)
       (next_by p a accepted (view_plain rules room lawful stays m g (later ++ a ∷ []) accepted (one_later later a accepted e) (seat_of viewer))
       (view_plain rules room lawful stays m g later (a ∷ accepted) e (seat_of viewer)) back)
 
@@ -146,7 +148,7 @@ module _ {X G : Type 0} (rules : X → Rules G) (room : ℕ) (lawful : (game : X
 
   next_told : (later : List Accepted) (a : Accepted) (accepted : List Accepted) (rest : List Snap) → m.accepted ≡ later ++ a ∷ accepted → SeesTold (snap accepted ∷ rest) accepted → SeesTold (snap (a ∷ accepted) ∷ snap accepted ∷ rest) (a ∷ accepted)
   next_told later a accepted rest e before = λ back.
-      reads_last (rules m.game) fresh (lines_of (told_at (snap accepted ∷ rest))) (line (update_message protocol (rules m.game).sheet (snap accepted) (snap (a ∷ accepted))))
+      reads_last (rules m.game) fresh (lines_of (told_at (snap accepted ∷ rest))) (text (update_message protocol (rules m.game).sheet (snap accepted) (snap (a ∷ accepted))))
       ∙ update_step protocol later a accepted e back.0 (reads_all (rules m.game) fresh (lines_of (told_at (snap accepted ∷ rest)))) (before back.1)
 
   pub sees_told : (many : ℕ) (later accepted : List Accepted) → m.accepted ≡ later ++ accepted → SeesWhere (snaps many accepted) accepted
@@ -162,49 +164,49 @@ module _ {X G : Type 0} (rules : X → Rules G) (room : ℕ) (lawful : (game : X
 
   -- ---- the first of it
 
-  abbrev Begins : Message → List Message → List Message → Type 0
+  abbrev Begins : ServerMsg → List ServerMsg → List ServerMsg → Type 0
   Begins head rest told = told ≡ head ∷ rest
 
-  told_after : (s : Snap) (sight : List Snap) → (head : Message) × Begins head (told_at sight) (told_at (s ∷ sight))
+  told_after : (s : Snap) (sight : List Snap) → (head : ServerMsg) × Begins head (told_at sight) (told_at (s ∷ sight))
   told_after s [] = (Sync name (seat_of viewer) protocol (snapshot_data (rules m.game).sheet s), refl)
   told_after s (before ∷ sight) = (update_message protocol (rules m.game).sheet before s, refl)
 
   -- what was told at some number and before
-  pub record Older (whole : List Accepted) (told : List Message) : Type 0 where
+  pub record Older (whole : List Accepted) (told : List ServerMsg) : Type 0 where
     pub many : ℕ
     pub between : List Accepted
     pub accepted : List Accepted
     pub in_order : whole ≡ between ++ accepted
     pub is : told_at (snaps many accepted) ≡ told
 
-  nothing_after : (x : Message) (xs ys : List Message) → [] ≡ xs ++ x ∷ ys → ⊥
+  nothing_after : (x : ServerMsg) (xs ys : List ServerMsg) → [] ≡ xs ++ x ∷ ys → ⊥
   nothing_after x [] ys e = cc
   nothing_after x (z ∷ xs) ys e = cc
 
-  rest_of : (h k : Message) (xs ys : List Message) → h ∷ xs ≡ k ∷ ys → xs ≡ ys
+  rest_of : (h k : ServerMsg) (xs ys : List ServerMsg) → h ∷ xs ≡ k ∷ ys → xs ≡ ys
   rest_of h k xs ys e = cc
 
-  pub older_told : (many : ℕ) (accepted : List Accepted) (newer : List Message) (head : Message) (older : List Message) → told_at (snaps many accepted) ≡ newer ++ head ∷ older → Older accepted (head ∷ older)
+  pub older_told : (many : ℕ) (accepted : List Accepted) (newer : List ServerMsg) (head : ServerMsg) (older : List ServerMsg) → told_at (snaps many accepted) ≡ newer ++ head ∷ older → Older accepted (head ∷ older)
   older_told many accepted [] head older e = record { many = many; between = []; accepted = accepted; in_order = refl; is = e }
   older_told zero accepted (x ∷ newer) head older e = absurd (nothing_after head newer older (rest_of _ x [] (newer ++ head ∷ older) e))
   older_told (suc many) [] (x ∷ newer) head older e = absurd (nothing_after head (x ∷ newer) older e)
   older_told (suc many) (a ∷ accepted) (x ∷ newer) head older e =
-      let after : (h : Message) × Begins h (told_at (snaps many accepted)) (told_at (snap (a ∷ accepted) ∷ snaps many accepted)) = told_after (snap (a ∷ accepted)) (snaps many accepted) in
+      let after : (h : ServerMsg) × Begins h (told_at (snaps many accepted)) (told_at (snap (a ∷ accepted) ∷ snaps many accepted)) = told_after (snap (a ∷ accepted)) (snaps many accepted) in
       let o : Older accepted (head ∷ older) = older_told many accepted newer head older (rest_of after.0 x (told_at (snaps many accepted)) (newer ++ head ∷ older) (sym after.1 ∙ e)) in
       record { many = o.many; between = a ∷ o.between; accepted = o.accepted; in_order = ap (λ l. a ∷ l) o.in_order; is = o.is }
 
   -- a client that reads the first messages of what was told sees the match at some number
-  pub record SeesSome (told : List Message) : Type 0 where
+  pub record SeesSome (told : List ServerMsg) : Type 0 where
     pub later : List Accepted
     pub earlier : List Accepted
     pub in_order : m.accepted ≡ later ++ earlier
     pub sees : Sees (reads_all (rules m.game) fresh (lines_of told)) earlier
 
-  not_none : (sight : List Snap) (accepted : List Accepted) (head : Message) (older : List Message) → told_at sight ≡ head ∷ older → SeesWhere sight accepted → SeesTold sight accepted
+  not_none : (sight : List Snap) (accepted : List Accepted) (head : ServerMsg) (older : List ServerMsg) → told_at sight ≡ head ∷ older → SeesWhere sight accepted → SeesTold sight accepted
   not_none [] accepted head older e h = absurd (cc (e))
   not_none (s ∷ sight) accepted head older e h = h
 
-  pub sees_older : (many : ℕ) (later accepted : List Accepted) → m.accepted ≡ later ++ accepted → (newer : List Message) (head : Message) (older : List Message) → told_at (snaps many accepted) ≡ newer ++ head ∷ older
+  pub sees_older : (many : ℕ) (later accepted : List Accepted) → m.accepted ≡ later ++ accepted → (newer : List ServerMsg) (head : ServerMsg) (older : List ServerMsg) → told_at (snaps many accepted) ≡ newer ++ head ∷ older
       → AllRead (head ∷ older) → SeesSome (head ∷ older)
   sees_older many later accepted e newer head older told back =
       let o : Older accepted (head ∷ older) = older_told many accepted newer head older told in

@@ -3,15 +3,15 @@ use Rattle.std.proofs.Common.{◌≡◌, ◌⊎◌, inl, inr, ◌||◌, ℕ, Boo
 use Rattle.std.specs.Prelude.{Result}
 use Rattle.game_sheet.specs.declared.act.Bye.{Bye}
 use Rattle.room_history.specs.Course.{IsFirstPart}
-use Rattle.room_history.specs.Message.{Message, Sync, Update, Change, No, Farewell, line}
-use Rattle.room_history.specs.Message as room
-use Rattle.room_history.specs.News.{TellsSight, is_verdict, messages_of, news}
+use Rattle.wire_json.specs.declared.server.ServerMsg.{ServerMsg}
+use Rattle.wire_json.specs.declared.server.ServerMsg.TheVariants.{Bye as Farewell}
+use Rattle.wire_json.specs.ServerText.{text}
+use Rattle.room_history.specs.News.{TellsSight, is_answer, messages_of, news}
 use Rattle.room_history.specs.Piece.{Piece, Line, Mark, End, State, Open, Ended, Closed, all_lines, message_lines, message_lines_to_mark, state_after_take, state_of}
 use Rattle.room_history.specs.Session.{Session, stream_of}
 use Rattle.room_history.proofs.News.{tells_sight}
 use Rattle.wire_json.specs.Refusals.{Refusal}
 use Rattle.wire_json.specs.ServerReading.{server_read}
-use Rattle.wire_json.specs.declared.server.ServerMsg.{ServerMsg}
 use Rattle.wire_json.specs.declared.server.ServerMsg.TheVariants as to_client
 use Rattle.client_predict.specs.Following.{has_bye, has_sync, is_bye, is_sync, is_told, told_lines}
 use Rattle.convergence.specs.Lines.{AllLines, ReadsBack}
@@ -30,29 +30,39 @@ told_append (x ∷ xs) ys = by (is_told (server_read x)) (told_append xs ys)
 pub part_told : (part whole : List (List ℕ)) → IsFirstPart part whole → IsFirstPart (told_lines part) (told_lines whole)
 part_told part whole f = (told_lines f.0, ap told_lines f.1 ∙ told_append part f.0)
 
-one_told : (m : Message) → ReadsBack m → told_lines (line m ∷ []) ≡ (if is_verdict m then [] else line m ∷ [])
-one_told (Sync name seat protocol snapshot) back = rw back refl
-one_told (Update ctx entry g number) back = rw back refl
-one_told (Change ctx entry gone put number was) back = rw back refl
-one_told (room.Ok number ticket) back = rw back refl
-one_told (No number reason ticket) back = rw back refl
-one_told (Farewell why) back = rw back refl
+one_told : (m : ServerMsg) → ReadsBack m → told_lines (text m ∷ []) ≡ (if is_answer m then [] else text m ∷ [])
+one_told (to_client.Games names) back = rw back refl
+one_told (to_client.Matches rows) back = rw back refl
+one_told (to_client.Match row) back = rw back refl
+one_told (to_client.Created name) back = rw back refl
+one_told (to_client.Joined key name seat) back = rw back refl
+one_told (to_client.Renamed name seat) back = rw back refl
+one_told (to_client.Left name seat) back = rw back refl
+one_told (to_client.Asked name seat) back = rw back refl
+one_told (to_client.Sync name seat protocol snapshot) back = rw back refl
+one_told (to_client.Update ctx entry g number) back = rw back refl
+one_told (to_client.Change ctx entry gone put number) back = rw back refl
+one_told (to_client.Ok number ticket) back = rw back refl
+one_told (to_client.No number reason ticket) back = rw back refl
+one_told (to_client.Again ticket) back = rw back refl
+one_told (to_client.Refused refusal) back = rw back refl
+one_told (to_client.Bye why) back = rw back refl
 
-lines_if : (b : Bool) (m : Message) (ms : List Message) → lines_of (if b then ms else m ∷ ms) ≡ lines_of ms ++ (if b then [] else line m ∷ [])
+lines_if : (b : Bool) (m : ServerMsg) (ms : List ServerMsg) → lines_of (if b then ms else m ∷ ms) ≡ lines_of ms ++ (if b then [] else text m ∷ [])
 lines_if true m ms = sym (append-nil (lines_of ms))
 lines_if false m ms = refl
 
 pub stream_told : (ps : List Piece) → AllLines ReadsBack ps → told_lines (message_lines ps) ≡ lines_of (news ps)
 stream_told [] h = refl
 stream_told (Line m ∷ ps) h =
-    told_append (message_lines ps) (line m ∷ []) ∙ ap (λ l. l ++ told_lines (line m ∷ [])) (stream_told ps h.1)
-    ∙ ap (λ l. lines_of (news ps) ++ l) (one_told m h.0) ∙ sym (lines_if (is_verdict m) m (news ps))
+    told_append (message_lines ps) (text m ∷ []) ∙ ap (λ l. l ++ told_lines (text m ∷ [])) (stream_told ps h.1)
+    ∙ ap (λ l. lines_of (news ps) ++ l) (one_told m h.0) ∙ sym (lines_if (is_answer m) m (news ps))
 stream_told (Mark ∷ ps) h = stream_told ps h
 stream_told (End why ∷ ps) h = stream_told ps h
 
 pub news_read : (ps : List Piece) → AllLines ReadsBack ps → AllRead (news ps)
 news_read [] h = tt
-news_read (Line m ∷ ps) h = by (is_verdict m) (news_read ps h.1)
+news_read (Line m ∷ ps) h = by (is_answer m) (news_read ps h.1)
   where
     by : (b : Bool) → AllRead (news ps) → AllRead (if b then news ps else m ∷ news ps)
     by true later = later
@@ -77,7 +87,7 @@ to_mark (Mark ∷ ps) = record { newer = Mark ∷ []; older = ps; is = refl; lin
 to_mark (Line m ∷ ps) = one_more (Line m) ps refl (to_mark ps)
 to_mark (End why ∷ ps) = one_more (End why) ps refl (to_mark ps)
 
-pub older_lines : (Holds : Message → Type 0) (newer older : List Piece) → AllLines Holds (newer ++ older) → AllLines Holds older
+pub older_lines : (Holds : ServerMsg → Type 0) (newer older : List Piece) → AllLines Holds (newer ++ older) → AllLines Holds older
 older_lines Holds [] older h = h
 older_lines Holds (Line m ∷ newer) older h = older_lines Holds newer older h.1
 older_lines Holds (Mark ∷ newer) older h = older_lines Holds newer older h
@@ -85,7 +95,7 @@ older_lines Holds (End why ∷ newer) older h = older_lines Holds newer older h
 
 news_append : (newer older : List Piece) → news (newer ++ older) ≡ news newer ++ news older
 news_append [] older = refl
-news_append (Line m ∷ newer) older = by (is_verdict m) (news_append newer older)
+news_append (Line m ∷ newer) older = by (is_answer m) (news_append newer older)
   where
     by : (b : Bool) → news (newer ++ older) ≡ news newer ++ news older → (if b then news (newer ++ older) else m ∷ news (newer ++ older)) ≡ (if b then news newer else m ∷ news newer) ++ news older
     by true e = e
@@ -93,8 +103,8 @@ news_append (Line m ∷ newer) older = by (is_verdict m) (news_append newer olde
 news_append (Mark ∷ newer) older = news_append newer older
 news_append (End why ∷ newer) older = news_append newer older
 
-abbrev IsOlder : Session → List Message → Type 0
-IsOlder s older = (more : List Message) × (messages_of s ≡ more ++ older)
+abbrev IsOlder : Session → List ServerMsg → Type 0
+IsOlder s older = (more : List ServerMsg) × (messages_of s ≡ more ++ older)
 
 stream_older : (s : Session) → IsOlder s (news (stream_of s))
 stream_older s = by (state_of (stream_of s)) (tells_sight s)
@@ -121,7 +131,7 @@ ended_open why e = cc
 
 pub open_lines : (ps : List Piece) → state_of ps ≡ Open → all_lines ps ≡ message_lines ps
 open_lines [] e = refl
-open_lines (Line m ∷ ps) e = ap (λ l. l ++ line m ∷ []) (open_lines ps e)
+open_lines (Line m ∷ ps) e = ap (λ l. l ++ text m ∷ []) (open_lines ps e)
 open_lines (Mark ∷ ps) e = open_lines ps (taken_open (state_of ps) e)
 open_lines (End why ∷ ps) e = absurd (ended_open why e)
 
@@ -154,17 +164,17 @@ last_in (y ∷ xs) x (p ∷ part) rest e = by (last_in xs x part rest (same_tail
     by (inl whole) = inl (ap (λ l. p ∷ l) whole ∙ ap (λ z. z ∷ xs ++ x ∷ []) (sym first))
     by (inr f) = inr (f.0, ap (λ l. y ∷ l) f.1 ∙ ap (λ z. z ∷ part ++ f.0) first)
 
-pub record Parted (ms : List Message) (part : List (List ℕ)) : Type 0 where
-  pub newer : List Message
-  pub older : List Message
+pub record Parted (ms : List ServerMsg) (part : List (List ℕ)) : Type 0 where
+  pub newer : List ServerMsg
+  pub older : List ServerMsg
   pub is : ms ≡ newer ++ older
   pub lines : part ≡ lines_of older
 
-pub part_lines : (ms : List Message) (part : List (List ℕ)) → IsFirstPart part (lines_of ms) → Parted ms part
+pub part_lines : (ms : List ServerMsg) (part : List (List ℕ)) → IsFirstPart part (lines_of ms) → Parted ms part
 part_lines [] part f = record { newer = []; older = []; is = refl; lines = none_left part f.0 f.1 }
-part_lines (m ∷ ms) part f = by (last_in (lines_of ms) (line m) part f.0 f.1) (λ first. part_lines ms part first)
+part_lines (m ∷ ms) part f = by (last_in (lines_of ms) (text m) part f.0 f.1) (λ first. part_lines ms part first)
   where
-    by : (part ≡ lines_of ms ++ line m ∷ []) ⊎ IsFirstPart part (lines_of ms) → (IsFirstPart part (lines_of ms) → Parted ms part) → Parted (m ∷ ms) part
+    by : (part ≡ lines_of ms ++ text m ∷ []) ⊎ IsFirstPart part (lines_of ms) → (IsFirstPart part (lines_of ms) → Parted ms part) → Parted (m ∷ ms) part
     by (inl whole) later = record { newer = []; older = m ∷ ms; is = refl; lines = whole }
     by (inr first) later = record { newer = m ∷ (later first).newer; older = (later first).older; is = ap (λ l. m ∷ l) (later first).is; lines = (later first).lines }
 
@@ -233,9 +243,9 @@ bye_here : (b : Bool) → (b || true) ≡ true
 bye_here true = refl
 bye_here false = refl
 
-pub last_bye : (xs : List (List ℕ)) (why : Bye) → ReadsBack (Farewell why) → has_bye (xs ++ line (Farewell why) ∷ []) ≡ true
+pub last_bye : (xs : List (List ℕ)) (why : Bye) → ReadsBack (Farewell why) → has_bye (xs ++ text (Farewell why) ∷ []) ≡ true
 last_bye [] why back = rw back refl
 last_bye (x ∷ xs) why back = ap (λ t. is_bye (server_read x) || t) (last_bye xs why back) ∙ bye_here (is_bye (server_read x))
 
-pub one_bye : (why : Bye) → ReadsBack (Farewell why) → has_sync (line (Farewell why) ∷ []) ≡ false
+pub one_bye : (why : Bye) → ReadsBack (Farewell why) → has_sync (text (Farewell why) ∷ []) ≡ false
 one_bye why back = rw back refl

@@ -12,7 +12,7 @@ ghost use Rattle.player_sight.specs.declared.shown.Snapshot.{Snapshot as Shown};
 ghost use Rattle.reducer.specs.Accepted.{Accepted};
 ghost use Rattle.room_history.specs.Course.{IsFirstPart};
 ghost use Rattle.room_history.specs.Match.{Match};
-ghost use Rattle.room_history.specs.Message.{Farewell};
+ghost use Rattle.wire_json.specs.declared.server.ServerMsg.TheVariants.{Bye as Farewell};
 ghost use Rattle.room_history.specs.Piece.{Open};
 ghost use Rattle.room_history.specs.Room.{latest_session, match_of, session, standing};
 ghost use Rattle.room_history.specs.Session.{Session, handful, session_state, stream_of};

@@ -25,7 +25,9 @@ use Rattle.player_sight.specs.Change.{gone_part, put_part}
 use Rattle.game_sheet.specs.declared.act.Bye.{Bye}
 use Rattle.room_history.specs.Held.{attachment_state, new_attachment, state_by, update_for}
 use Rattle.room_history.specs.Match.{Match, number_of, table_of}
-use Rattle.room_history.specs.Message.{Change, Message, Ok as Accepts, Update, line}
+use Rattle.wire_json.specs.declared.server.ServerMsg.{ServerMsg}
+use Rattle.wire_json.specs.declared.server.ServerMsg.TheVariants.{Change, Ok as Accepts, Update}
+use Rattle.wire_json.specs.ServerText.{text}
 use Rattle.room_history.specs.Outbox.{Attachment}
 use Rattle.room_history.specs.Piece.{Closed, Ended, Open, State}
 use Rattle.room_history.specs.Reply.{Goes, attached_match, fate_by, lets_in, named_match, open_match, reply_by, submit_reply}
@@ -68,7 +70,7 @@ module _ {X G : Type 0} (rules : X → Rules G) where
     entry_is = i.entry_is ∙ ap (λ t. entry_of (table_of rules m) t (number_of m) coming.action) i.table_is
 
     -- what is told of the action is told by the snapshot after it
-    told_by : (seat : Option ℕ) (tell : Reached G → Data → ℕ → Message)
+    told_by : (seat : Option ℕ) (tell : Reached G → Data → ℕ → ServerMsg)
         → tell coming.table (entry_data (rules m.game).sheet (redact (rules m.game).sheet seat entry)) coming.number ≡ tell (table_of rules n) (newest_entry (rules m.game).sheet (snapshot rules n seat).log) (number_of n)
     told_by seat tell =
         let sheet : Sheet = (rules m.game).sheet in
@@ -84,7 +86,7 @@ module _ {X G : Type 0} (rules : X → Rules G) where
     message_is seat One = told_by seat (λ t d k. Update (ctx_data (rules m.game).sheet t.ctx) d (value_seen (rules m.game) t seat) k)
     message_is seat Two = told_by seat (λ t d k.
         Change (put_part (ctx_data (rules m.game).sheet (table_of rules m).ctx) (ctx_data (rules m.game).sheet t.ctx)) d
-        (gone_part (value_seen (rules m.game) (table_of rules m) seat) (value_seen (rules m.game) t seat)) (put_part (value_seen (rules m.game) (table_of rules m) seat) (value_seen (rules m.game) t seat)) k (number_of m))
+        (gone_part (value_seen (rules m.game) (table_of rules m) seat) (value_seen (rules m.game) t seat)) (put_part (value_seen (rules m.game) (table_of rules m) seat) (value_seen (rules m.game) t seat)) k)
 
     -- the state after an accepted action is that of one action more
     next_state : (r : Rules G) (first : Reached G) (accepted : List Accepted) (a : Accepted) → state_after r (standing_at r first accepted) a ≡ standing_at r first (a ∷ accepted)
@@ -98,10 +100,10 @@ module _ {X G : Type 0} (rules : X → Rules G) where
     accepted_held : (old : Held X G) (pass : ℕ) → with_accepted rules old (running_of rules m) pass coming entry s.ticket ≡ after_fate rules old pass s.ticket m (Goes (match_accepting rules m viewer s))
     accepted_held old pass =
         let holding : RunningMatch X G → List (ℕ × Attachment) → Held X G = λ k attachments. record old { running = Some k; attachments = attachments } in
-        ap (λ k. holding k (all_told pass (line (Accepts coming.number s.ticket)) (action_line (rules m.game) (running_of rules m).state coming entry) old.attachments)) grown_is
-        ∙ ap (λ j. holding (running_of rules n) (all_told pass (line (Accepts j s.ticket)) (action_line (rules m.game) (running_of rules m).state coming entry) old.attachments)) i.number_is
+        ap (λ k. holding k (all_told pass (text (Accepts coming.number s.ticket)) (action_line (rules m.game) (running_of rules m).state coming entry) old.attachments)) grown_is
+        ∙ ap (λ j. holding (running_of rules n) (all_told pass (text (Accepts j s.ticket)) (action_line (rules m.game) (running_of rules m).state coming entry) old.attachments)) i.number_is
         ∙ ap (holding (running_of rules n))
-        (told_same old.attachments pass (line (Accepts (number_of m + 1) s.ticket)) (action_line (rules m.game) (running_of rules m).state coming entry) (λ seat protocol. line (update_for rules m n seat protocol)) (λ seat protocol. ap line (message_is seat protocol)))
+        (told_same old.attachments pass (text (Accepts (number_of m + 1) s.ticket)) (action_line (rules m.game) (running_of rules m).state coming entry) (λ seat protocol. text (update_for rules m n seat protocol)) (λ seat protocol. ap text (message_is seat protocol)))
         ∙ ap (λ (x : Match X G). after_fate rules old pass s.ticket m (Goes x)) (sym i.match_is)
 
     reply_is : answer.Verdict (verdict.Ok coming.number) ≡ submit_reply (Goes (match_accepting rules m viewer s))

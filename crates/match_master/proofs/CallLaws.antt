@@ -17,7 +17,9 @@ use Rattle.wire_json.specs.declared.submission.Submission.{Submission}
 use Rattle.room_history.specs.Does.{is_left}
 use Rattle.room_history.specs.Held.{attachment_after, attachment_after_action, attachment_after_attach, attachment_after_clear, attachment_after_leave, attachment_after_submission, attachment_fate, attachment_state, attachment_take_reply, attachment_with, new_attachment, reply_held, update_for}
 use Rattle.room_history.specs.Match.{Match, number_of}
-use Rattle.room_history.specs.Message.{Message, No, Ok as Accepts, line}
+use Rattle.wire_json.specs.declared.server.ServerMsg.{ServerMsg}
+use Rattle.wire_json.specs.declared.server.ServerMsg.TheVariants.{No, Ok as Accepts}
+use Rattle.wire_json.specs.ServerText.{text}
 use Rattle.room_history.specs.Outbox.{Attachment, Outbox, line_or_lagging, outbox_with, unless_ended}
 use Rattle.room_history.specs.Piece.{End, Line, Mark, counted_size}
 use Rattle.room_history.specs.Reply.{Fate, Goes, Turned, Unheard, attached_match, created_match, fate_by, looked_match, match_row, named_match, reply_by, reseated_match, submit_reply}
@@ -245,32 +247,32 @@ module _ {X G : Type 0} (rules : X → Rules G) where
   -- ---- a submission
 
   -- a line whose bytes all count
-  same_count : (message : Message) (o : Outbox) → counted_size message ≡ length (line message)
-      → unless_ended o.end o (line_or_lagging (nat_lt most_waiting (o.count + counted_size message)) message o) ≡ with_line (line message) o
+  same_count : (message : ServerMsg) (o : Outbox) → counted_size message ≡ length (text message)
+      → unless_ended o.end o (line_or_lagging (nat_lt most_waiting (o.count + counted_size message)) message o) ≡ with_line (text message) o
   same_count message o c =
       ap (λ j. unless_ended o.end o (line_or_lagging (nat_lt most_waiting (o.count + j)) message o)) c
-      ∙ ap (unless_ended o.end o) (lagging (nat_lt most_waiting (o.count + length (line message))) c)
+      ∙ ap (unless_ended o.end o) (lagging (nat_lt most_waiting (o.count + length (text message))) c)
     where
-      lagging : (b : Bool) → counted_size message ≡ length (line message) → line_or_lagging b message o ≡ with_line_if b (line message) o
+      lagging : (b : Bool) → counted_size message ≡ length (text message) → line_or_lagging b message o ≡ with_line_if b (text message) o
       lagging true c = refl
-      lagging false c = ap (λ j. let x : Outbox = record { waiting = o.waiting ++ line message ∷ []; count = o.count + j; end = o.end } in x) c
+      lagging false c = ap (λ j. let x : Outbox = record { waiting = o.waiting ++ text message ∷ []; count = o.count + j; end = o.end } in x) c
 
-  counted_line : (message : Message) → counted_size message ≡ length (line message) → (o : Outbox) → outbox_with (Line message) o ≡ Some (with_line (line message) o)
+  counted_line : (message : ServerMsg) → counted_size message ≡ length (text message) → (o : Outbox) → outbox_with (Line message) o ≡ Some (with_line (text message) o)
   counted_line message h o = ap Some (same_count message o h)
 
-  update_counts : (protocol : Protocol) (sheet : Sheet) (before after : Snap) → counted_size (update_message protocol sheet before after) ≡ length (line (update_message protocol sheet before after))
+  update_counts : (protocol : Protocol) (sheet : Sheet) (before after : Snap) → counted_size (update_message protocol sheet before after) ≡ length (text (update_message protocol sheet before after))
   update_counts One sheet before after = refl
   update_counts Two sheet before after = refl
 
-  with_counted : (message : Message) → counted_size message ≡ length (line message) → (a : Attachment) → attachment_with (Line message) (Some a) ≡ Some (record a { outbox = with_line (line message) a.outbox })
+  with_counted : (message : ServerMsg) → counted_size message ≡ length (text message) → (a : Attachment) → attachment_with (Line message) (Some a) ≡ Some (record a { outbox = with_line (text message) a.outbox })
   with_counted message h a = ap (option_map (λ o. record a { outbox = o })) (counted_line message h a.outbox)
 
   module _ (m n : Match X G) (ticket : ℕ) where
     abbrev verdict : List ℕ
-    verdict = line (Accepts (number_of m + 1) ticket)
+    verdict = text (Accepts (number_of m + 1) ticket)
 
     abbrev lines : Lines
-    lines seat protocol = line (update_for rules m n seat protocol)
+    lines seat protocol = text (update_for rules m n seat protocol)
 
     told_one : (own : Bool) (o : Option Attachment)
         → option_map (λ (a : Attachment). record a { outbox = gained own verdict (lines (seat_of a.viewer) a.protocol) a.outbox }) o ≡ attachment_after_submission rules (Some m) (Goes n) own ticket o
@@ -292,14 +294,14 @@ module _ {X G : Type 0} (rules : X → Rules G) where
         ∙ ap (λ b. attachment_after_submission rules (Some m) (Goes n) b ticket (lookup (nat_eq q) es)) (same_key pass q)
 
   refused_at : (es : List (ℕ × Attachment)) (pass q number : ℕ) (reason : Reason) (ticket : ℕ) (o : Option Attachment) → lookup (nat_eq pass) es ≡ o
-      → lookup (nat_eq q) (told_at pass (line (No number reason ticket)) o es) ≡ (if nat_eq pass q then attachment_with (Line (No number reason ticket)) o else lookup (nat_eq q) es)
+      → lookup (nat_eq q) (told_at pass (text (No number reason ticket)) o es) ≡ (if nat_eq pass q then attachment_with (Line (No number reason ticket)) o else lookup (nat_eq q) es)
   refused_at es pass q number reason ticket None e = sym (found_at es pass q None e)
   refused_at es pass q number reason ticket (Some a) e =
-      lookup-put es pass q (record a { outbox = with_line (line (No number reason ticket)) a.outbox })
+      lookup-put es pass q (record a { outbox = with_line (text (No number reason ticket)) a.outbox })
       ∙ ap (λ x. if nat_eq pass q then x else lookup (nat_eq q) es) (sym (with_counted (No number reason ticket) refl a))
 
   refused_all : (es : List (ℕ × Attachment)) (pass q number : ℕ) (reason : Reason) (ticket : ℕ)
-      → lookup (nat_eq q) (own_told pass (line (No number reason ticket)) es) ≡ (if nat_eq pass q then attachment_with (Line (No number reason ticket)) (lookup (nat_eq q) es) else lookup (nat_eq q) es)
+      → lookup (nat_eq q) (own_told pass (text (No number reason ticket)) es) ≡ (if nat_eq pass q then attachment_with (Line (No number reason ticket)) (lookup (nat_eq q) es) else lookup (nat_eq q) es)
   refused_all es pass q number reason ticket =
       refused_at es pass q number reason ticket (lookup (nat_eq pass) es) refl ∙ made_at es pass q (attachment_with (Line (No number reason ticket)))
 

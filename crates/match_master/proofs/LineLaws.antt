@@ -1,4 +1,4 @@
--- The text that the wire has for a message is the line of a room's message, and that ends with its one newline: no JSON text has one.
+-- The text of a message ends with its one newline: no JSON text has one.
 use Rattle.std.proofs.Common.{◌≡◌, ◌-◌, Option, ◌<◌, ℕ, zero, suc, ◌+◌, ◌/◌, ◌%◌, ◌==◌, nat_lt, Bool, true, false, ◌||◌, cond, if◌then◌else◌, List, [], ◌∷◌, ◌++◌, length, flat_map, decimal, ℤ, pos, negsuc, refl, ap, subst, arith}
 use Rattle.std.proofs.lemmas.Bool.Decides.{nat_tests}
 use Rattle.std.specs.Char.{digit_char}
@@ -13,7 +13,8 @@ use Rattle.wire_json.specs.declared.protocol.Protocol.{Protocol}
 use Rattle.wire_json.specs.declared.protocol.Protocol.TheVariants.{One, Two}
 use Rattle.wire_json.specs.declared.reason.Reason.{Reason}
 use Rattle.wire_json.specs.declared.server.ServerMsg.TheVariants as wire
-use Rattle.room_history.specs.Message.{Message, Sync, Update, Change, Ok, No, line, members_of}
+use Rattle.wire_json.specs.declared.server.ServerMsg.{ServerMsg}
+use Rattle.wire_json.specs.ServerText.{text, server_members}
 
 -- no byte is a newline
 abbrev pub HasNone : List ℕ → Type 0
@@ -147,29 +148,6 @@ mutual
       none_in (comma_if later) (quoted k ++ 58 ∷ (compact_text d ++ members_text true ms)) (comma_none later)
       (none_in (quoted k) (58 ∷ (compact_text d ++ members_text true ms)) (quoted_none k) (refl, none_in (compact_text d) (members_text true ms) (data_none d) (members_none true ms)))
 
-pub line_is_line : (m : Message) → is_line (line m) ≡ true
-unfolding line
-line_is_line m = line_of_none (compact_text (object (members_of m))) (data_none (object (members_of m)))
-
--- ---- the texts of the wire
-
-pub sync_is : (name : Name) (seat : Option ℕ) (protocol : Protocol) (snapshot : Data) → text (wire.Sync name seat protocol snapshot) ≡ line (Sync name seat protocol snapshot)
-unfolding text line
-sync_is name seat One snapshot = refl
-sync_is name seat Two snapshot = refl
-
-pub update_is : (ctx entry g : Data) (n : ℕ) → text (wire.Update ctx entry g n) ≡ line (Update ctx entry g n)
-unfolding text line
-update_is ctx entry g n = refl
-
-pub change_is : (ctx entry gone put : Data) (n : ℕ) → text (wire.Change ctx entry gone put n) ≡ line (Change ctx entry gone put n (n - 1))
-unfolding text line
-change_is ctx entry gone put n = refl
-
-pub ok_is : (n ticket : ℕ) → text (wire.Ok n ticket) ≡ line (Ok n ticket)
-unfolding text line
-ok_is n ticket = refl
-
-pub no_is : (n : ℕ) (reason : Reason) (ticket : ℕ) → text (wire.No n reason ticket) ≡ line (No n reason ticket)
-unfolding text line
-no_is n reason ticket = refl
+pub line_is_line : (m : ServerMsg) → is_line (text m) ≡ true
+unfolding text
+line_is_line m = line_of_none (compact_text (object (server_members m))) (data_none (object (server_members m)))

@@ -18,7 +18,8 @@ use Rattle.wire_json.specs.declared.reason.Reason.{Reason}
 use Rattle.wire_json.specs.declared.submission.Submission.{Submission}
 use Rattle.room_history.specs.Held.{attachment_after, attachment_fate, new_attachment, reply_held, update_for}
 use Rattle.room_history.specs.Match.{Match, number_of}
-use Rattle.room_history.specs.Message.{No, Ok as Accepts, Sync, line}
+use Rattle.wire_json.specs.declared.server.ServerMsg.TheVariants.{No, Ok as Accepts, Sync}
+use Rattle.wire_json.specs.ServerText.{text}
 use Rattle.room_history.specs.Outbox.{Attachment}
 use Rattle.room_history.specs.Reply.{Fate, Unheard, Turned, Goes, created_match, fate_by, lets_in, named_match, reseated_match, submit_reply}
 use Rattle.room_history.specs.Verdict.{first_reason}
@@ -55,7 +56,7 @@ abbrev pub seen_at : {G : Type 0} → Rules G → Standing G → List Entry → 
 seen_at rules state log seat = snap_of rules (seen rules state.number state.table.ctx state.table.g log seat)
 
 abbrev pub with_refused : {X G : Type 0} → Held X G → ℕ → ℕ → Reason → ℕ → Held X G
-with_refused old pass number reason ticket = record old { attachments = own_told pass (line (No number reason ticket)) old.attachments }
+with_refused old pass number reason ticket = record old { attachments = own_told pass (text (No number reason ticket)) old.attachments }
 
 -- the match is removed, and all leave it
 abbrev pub without_match : {X G : Type 0} → Held X G → Held X G
@@ -82,7 +83,7 @@ module _ {X G : Type 0} (rules : X → Rules G) where
   abbrev pub with_accepted : Held X G → RunningMatch X G → ℕ → Coming G → Entry → ℕ → Held X G
   with_accepted old r pass coming entry ticket = record old {
     running = Some (grown r coming entry);
-    attachments = all_told pass (line (Accepts coming.number ticket)) (action_line (rules r.game) r.state coming entry) old.attachments;
+    attachments = all_told pass (text (Accepts coming.number ticket)) (action_line (rules r.game) r.state coming entry) old.attachments;
   }
 
   -- an attachment begins with the snapshot of the match, by what is held of it
@@ -90,7 +91,7 @@ module _ {X G : Type 0} (rules : X → Rules G) where
   sync_at room r viewer protocol = record {
     viewer = viewer;
     protocol = protocol;
-    outbox = with_sync (line (Sync (record { room = room; serial = r.serial }) (seat_of viewer) protocol (snapshot_data (rules r.game).sheet (seen_at (rules r.game) r.state r.log (seat_of viewer)))));
+    outbox = with_sync (text (Sync (record { room = room; serial = r.serial }) (seat_of viewer) protocol (snapshot_data (rules r.game).sheet (seen_at (rules r.game) r.state r.log (seat_of viewer)))));
   }
 
   -- what is held after each kind of call
@@ -121,7 +122,7 @@ module _ {X G : Type 0} (rules : X → Rules G) where
   after_fate old pass ticket m (Turned number reason) = with_refused old pass number reason ticket
   after_fate old pass ticket m (Goes n) = record old {
     running = Some (running_of rules n);
-    attachments = all_told pass (line (Accepts (number_of m + 1) ticket)) (λ seat protocol. line (update_for rules m n seat protocol)) old.attachments;
+    attachments = all_told pass (text (Accepts (number_of m + 1) ticket)) (λ seat protocol. text (update_for rules m n seat protocol)) old.attachments;
   }
 
   -- by who looks by the pass, if its attachment goes on, and the match that stands

@@ -12,7 +12,9 @@ use Rattle.serde_json.specs.Data.{Data}
 use Rattle.wire_json.specs.declared.protocol.Protocol.{Protocol}
 use Rattle.wire_json.specs.declared.protocol.Protocol.TheVariants.{One, Two}
 use Rattle.player_sight.specs.Change.{gone_part, put_part}
-use Rattle.room_history.specs.Message.{Change, Message, Update, line}
+use Rattle.wire_json.specs.declared.server.ServerMsg.{ServerMsg}
+use Rattle.wire_json.specs.declared.server.ServerMsg.TheVariants.{Change, Update}
+use Rattle.wire_json.specs.ServerText.{text}
 use Rattle.match_master.specs.Attached.{Lines}
 use Rattle.match_master.specs.declared.made_lines.MadeLine.{MadeLine}
 
@@ -20,15 +22,15 @@ use Rattle.match_master.specs.declared.made_lines.MadeLine.{MadeLine}
 abbrev pub value_seen : {G : Type 0} → Rules G → Reached G → Option ℕ → Data
 value_seen rules t seat = rules.value (rules.view t.g t.ctx seat)
 
-abbrev pub action_message : {G : Type 0} → Rules G → Standing G → Coming G → Entry → Option ℕ → Protocol → Message
+abbrev pub action_message : {G : Type 0} → Rules G → Standing G → Coming G → Entry → Option ℕ → Protocol → ServerMsg
 action_message rules before after entry seat One =
     Update (ctx_data rules.sheet after.table.ctx) (entry_data rules.sheet (redact rules.sheet seat entry)) (value_seen rules after.table seat) after.number
 action_message rules before after entry seat Two =
     Change (put_part (ctx_data rules.sheet before.table.ctx) (ctx_data rules.sheet after.table.ctx)) (entry_data rules.sheet (redact rules.sheet seat entry))
-    (gone_part (value_seen rules before.table seat) (value_seen rules after.table seat)) (put_part (value_seen rules before.table seat) (value_seen rules after.table seat)) after.number before.number
+    (gone_part (value_seen rules before.table seat) (value_seen rules after.table seat)) (put_part (value_seen rules before.table seat) (value_seen rules after.table seat)) after.number
 
 abbrev pub action_line : {G : Type 0} → Rules G → Standing G → Coming G → Entry → Lines
-action_line rules before after entry seat protocol = line (action_message rules before after entry seat protocol)
+action_line rules before after entry seat protocol = text (action_message rules before after entry seat protocol)
 
 -- each line that was made is that of its viewer and protocol
 abbrev pub AreMade : Lines → List MadeLine → Type 0

@@ -1,6 +1,6 @@
 //! An accepted action, as the lines that tell of it are made from it.
 
-ghost use Rattle.std.specs.Prelude.{◌≡◌, ◌+◌, Some};
+ghost use Rattle.std.specs.Prelude.{◌≡◌, Some};
 ghost use Rattle.serde_json.specs.Written.{compact_text};
 ghost use Rattle.move_log.specs.Redact.{redact};
 ghost use Rattle.player_sight.specs.CtxData.{ctx_data};
@@ -23,7 +23,6 @@ pub struct Action<'a, X: Game> {
     pub entry: &'a Entry,
     /// The texts in it that more than one viewer sees.
     pub texts: &'a SharedTexts,
-    ghost follows: { prepared.now.number ≡ state.now.number + 1 },
     ghost ctx: { texts.now.ctx.items ≡ compact_text (ctx_data (X.rules game.now).sheet prepared.now.table.ctx) },
     ghost own: { texts.now.entry.items ≡ compact_text (entry_data (X.rules game.now).sheet (redact (X.rules game.now).sheet (Some entry.now.seat) entry.now)) },
 }

@@ -9,7 +9,8 @@ ghost use Rattle.player_sight.specs.EntryData.{entry_data};
 ghost use Rattle.player_sight.specs.CtxData.{ctx_data};
 ghost use Rattle.player_sight.specs.SnapshotData.{snapshot_data};
 ghost use Rattle.player_sight.specs.Change.{put_part, gone_part};
-ghost use Rattle.room_history.specs.Message.{Change, No, Ok as Accepts, Sync, Update, line};
+ghost use Rattle.wire_json.specs.declared.server.ServerMsg.TheVariants.{Change, No, Ok as Accepts, Sync, Update};
+ghost use Rattle.wire_json.specs.ServerText.{text};
 ghost use Rattle.match_master.specs.Does.{seen_at};
 ghost use Rattle.match_master.specs.UpdateText.{action_line, value_seen};
 
@@ -39,7 +40,7 @@ pub fn sync<X: Game>(
     state: &State<X::G>,
     log: &[KeptEntry],
 ) -> Result<Vec<u8>, NoMemory>
-    ensures { IfOk result (λ l. l.items ≡ line (Sync name seat protocol (snapshot_data (X.rules game.now).sheet (seen_at (X.rules game.now) state.now log.now seat)))) }
+    ensures { IfOk result (λ l. l.items ≡ text (Sync name seat protocol (snapshot_data (X.rules game.now).sheet (seen_at (X.rules game.now) state.now log.now seat)))) }
 {
     let snapshot = snapshot_text(alloc, game, seat, state, log)?;
     sync_line(alloc, &name, seat, protocol, snapshot.as_slice())
@@ -70,7 +71,6 @@ fn snapshot_text<X: Game>(
     Ok(text)
 }
 
-#[tactic(auto, using(crate::proofs::LineLaws::sync_is))]
 fn sync_line(
     alloc: Global,
     name: &MatchName,
@@ -78,7 +78,7 @@ fn sync_line(
     protocol: Protocol,
     snapshot: &[u8],
 ) -> Result<Vec<u8>, NoMemory>
-    ensures { (s : Data) → snapshot.now ≡ compact_text s → IfOk result (λ l. l.items ≡ line (Sync name.now seat protocol s)) }
+    ensures { (s : Data) → snapshot.now ≡ compact_text s → IfOk result (λ l. l.items ≡ text (Sync name.now seat protocol s)) }
 {
     let mut line = Vec::with_capacity(alloc, FRAME.saturating_add(snapshot.len()))?;
     put_sync(alloc, &mut line, name, seat, protocol, snapshot)?;
@@ -150,7 +150,7 @@ fn whole<X: Game>(
     seat: Option<Seat>,
     entry: &[u8],
 ) -> Result<Vec<u8>, NoMemory>
-    ensures { (e : Data) → entry.now ≡ compact_text e → IfOk result (λ l. l.items ≡ line (Update (ctx_data (X.rules action.now.game.now).sheet action.now.prepared.now.table.ctx) e
+    ensures { (e : Data) → entry.now ≡ compact_text e → IfOk result (λ l. l.items ≡ text (Update (ctx_data (X.rules action.now.game.now).sheet action.now.prepared.now.table.ctx) e
         (value_seen (X.rules action.now.game.now) action.now.prepared.now.table seat) action.now.prepared.now.number)) }
 {
     let g = seen_text(
@@ -169,7 +169,6 @@ fn whole<X: Game>(
     )
 }
 
-#[tactic(auto, using(crate::proofs::LineLaws::update_is))]
 fn update_line(
     alloc: Global,
     ctx: &[u8],
@@ -178,7 +177,7 @@ fn update_line(
     number: Number,
 ) -> Result<Vec<u8>, NoMemory>
     ensures { (c e s : Data) → ctx.now ≡ compact_text c → entry.now ≡ compact_text e → g.now ≡ compact_text s
-        → IfOk result (λ l. l.items ≡ line (Update c e s number)) }
+        → IfOk result (λ l. l.items ≡ text (Update c e s number)) }
 {
     let room = FRAME.saturating_add(ctx.len()).saturating_add(entry.len());
     let mut line = Vec::with_capacity(alloc, room.saturating_add(g.len()))?;
@@ -193,11 +192,11 @@ fn change<X: Game>(
     seat: Option<Seat>,
     entry: &[u8],
 ) -> Result<Vec<u8>, NoMemory>
-    ensures { (e : Data) → entry.now ≡ compact_text e → IfOk result (λ l. l.items ≡ line (Change
+    ensures { (e : Data) → entry.now ≡ compact_text e → IfOk result (λ l. l.items ≡ text (Change
         (put_part (ctx_data (X.rules action.now.game.now).sheet action.now.state.now.table.ctx) (ctx_data (X.rules action.now.game.now).sheet action.now.prepared.now.table.ctx)) e
         (gone_part (value_seen (X.rules action.now.game.now) action.now.state.now.table seat) (value_seen (X.rules action.now.game.now) action.now.prepared.now.table seat))
         (put_part (value_seen (X.rules action.now.game.now) action.now.state.now.table seat) (value_seen (X.rules action.now.game.now) action.now.prepared.now.table seat))
-        action.now.prepared.now.number action.now.state.now.number)) }
+        action.now.prepared.now.number)) }
 {
     let ctx = changed_ctx(alloc, action)?;
     let g = changed_state(alloc, action, seat)?;
@@ -211,7 +210,6 @@ fn change<X: Game>(
     )
 }
 
-#[tactic(auto, using(crate::proofs::LineLaws::change_is))]
 fn change_line(
     alloc: Global,
     ctx: &[u8],
@@ -221,7 +219,7 @@ fn change_line(
     number: Number,
 ) -> Result<Vec<u8>, NoMemory>
     ensures { (c e n p : Data) → ctx.now ≡ compact_text c → entry.now ≡ compact_text e → gone.now ≡ compact_text n → put.now ≡ compact_text p
-        → IfOk result (λ l. l.items ≡ line (Change c e n p number (number - 1))) }
+        → IfOk result (λ l. l.items ≡ text (Change c e n p number)) }
 {
     let room = FRAME.saturating_add(ctx.len()).saturating_add(entry.len());
     let room = room.saturating_add(gone.len()).saturating_add(put.len());
@@ -355,9 +353,8 @@ fn entry_text(
 }
 
 /// The line that tells a session that its action was accepted.
-#[tactic(auto, using(crate::proofs::LineLaws::ok_is))]
 pub fn ok(alloc: Global, number: Number, ticket: u32) -> Result<Vec<u8>, NoMemory>
-    ensures { IfOk result (λ l. l.items ≡ line (Accepts number ticket)) }
+    ensures { IfOk result (λ l. l.items ≡ text (Accepts number ticket)) }
 {
     let mut line = Vec::with_capacity(alloc, FRAME)?;
     put_ok(&mut line, number, ticket)?;
@@ -365,9 +362,8 @@ pub fn ok(alloc: Global, number: Number, ticket: u32) -> Result<Vec<u8>, NoMemor
 }
 
 /// The line that tells a session that its action was refused, and why.
-#[tactic(auto, using(crate::proofs::LineLaws::no_is))]
 pub fn no(alloc: Global, number: Number, reason: Reason, ticket: u32) -> Result<Vec<u8>, NoMemory>
-    ensures { IfOk result (λ l. l.items ≡ line (No number reason ticket)) }
+    ensures { IfOk result (λ l. l.items ≡ text (No number reason ticket)) }
 {
     let mut line = Vec::with_capacity(alloc, FRAME)?;
     put_no(&mut line, number, reason, ticket)?;

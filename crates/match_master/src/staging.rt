@@ -1,6 +1,6 @@
 //! The lines that tell everybody of an action, staged at each attachment.
 
-ghost use Rattle.std.specs.Prelude.{◌≡◌, ◌+◌, ◌<◌, length, true, OnOk};
+ghost use Rattle.std.specs.Prelude.{◌≡◌, ◌<◌, length, true, OnOk};
 ghost use Rattle.game_sheet.specs.Lines.{is_line};
 ghost use Rattle.match_master.specs.Attached.{all_held, all_ready, all_told, staged};
 ghost use Rattle.match_master.specs.Places.{at_place};
@@ -29,8 +29,7 @@ pub fn stage<X: Game>(
     pass: u32,
     verdict: &Arc<Vec<u8>>,
 ) -> Result<(), NoMemory>
-    requires follows { prepared.now.number ≡ running.now.state.number + 1 }
-    requires verdict { is_line verdict.now.value.items ≡ true }
+    requires { is_line verdict.now.value.items ≡ true }
     ensures same { all_held attachments.new.entries ≡ all_held attachments.old.entries }
     ensures staged { OnOk result (all_ready attachments.new.entries
         ≡ all_told pass verdict.now.value.items (action_line (X.rules running.now.game) running.now.state prepared.now entry.now) (all_held attachments.old.entries)) }

@@ -5,7 +5,8 @@ ghost use Rattle.std.specs.Map.{lookup};
 ghost use Rattle.reducer.specs.Prepared.{IsReady};
 ghost use Rattle.wire_json.specs.declared.verdict.Verdict.TheVariants as verdict;
 ghost use Rattle.room_history.specs.Match.{Match};
-ghost use Rattle.room_history.specs.Message.{Ok as Accepts, line};
+ghost use Rattle.wire_json.specs.declared.server.ServerMsg.TheVariants.{Ok as Accepts};
+ghost use Rattle.wire_json.specs.ServerText.{text};
 ghost use Rattle.room_history.specs.declared.reply.RoomReply.TheVariants as answer;
 ghost use Rattle.match_master.specs.Attached.{open_viewer};
 ghost use Rattle.match_master.specs.Does.{Does, SubmitDoes, with_accepted, with_refused};
@@ -113,7 +114,7 @@ impl<X: Game + Drop> Book<X> {
 
 /// The line that tells a session that its action was accepted, as outboxes hold it.
 fn accepted_line(alloc: Global, number: Number, ticket: u32) -> Result<Arc<Vec<u8>>, NoMemory>
-    ensures { IfOk result (λ told. told.value.items ≡ line (Accepts number ticket)) }
+    ensures { IfOk result (λ told. told.value.items ≡ text (Accepts number ticket)) }
 {
     let line = line::ok(alloc, number, ticket)?;
     Ok(Arc::new(alloc, line)?)

@@ -1,7 +1,7 @@
 -- Two first parts of one list, and lists of pieces that are the same but for the marks.
 use Rattle.std.proofs.Common.{◌≡◌, ◌⊎◌, inl, inr, List, [], ◌∷◌, ◌++◌, refl, sym, ap, ◌∙◌}
 use Rattle.room_history.specs.Course.{IsFirstPart}
-use Rattle.room_history.specs.Message.{line}
+use Rattle.wire_json.specs.ServerText.{text}
 use Rattle.room_history.specs.Piece.{End, Line, Mark, Piece, message_lines, without_marks}
 
 head_same : {A : Type 0} → (x y : A) (xs ys : List A) → (x ∷ xs) ≡ (y ∷ ys) → x ≡ y
@@ -27,6 +27,6 @@ one_is_first a b whole f g = parts_of_one a b f.0 g.0 (sym f.1 ∙ g.1)
 
 pub told_unmarked : (ps : List Piece) → message_lines (without_marks ps) ≡ message_lines ps
 told_unmarked [] = refl
-told_unmarked (Line m ∷ ps) = ap (λ x. x ++ line m ∷ []) (told_unmarked ps)
+told_unmarked (Line m ∷ ps) = ap (λ x. x ++ text m ∷ []) (told_unmarked ps)
 told_unmarked (Mark ∷ ps) = told_unmarked ps
 told_unmarked (End why ∷ ps) = told_unmarked ps

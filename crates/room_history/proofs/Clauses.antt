@@ -5,7 +5,8 @@ use Rattle.game_trait.specs.Rules.{Rules}
 use Rattle.room_object.specs.Entry.{Entry}
 use Rattle.room_history.specs.Alike.{AreAlike, AreAlikeButForTakes, AreToldAlike}
 use Rattle.room_history.specs.Course.{GoesOn, Grows, IsFirstPart, SameView}
-use Rattle.room_history.specs.Message.{Farewell, line}
+use Rattle.wire_json.specs.declared.server.ServerMsg.TheVariants.{Bye as Farewell}
+use Rattle.wire_json.specs.ServerText.{text}
 use Rattle.room_history.specs.Piece.{End, Line, Mark, Piece, all_lines, lines_to_mark}
 use Rattle.room_history.specs.Room.{room_of, session, session_in}
 use Rattle.room_history.specs.Sent.{IsToldOf}
@@ -49,9 +50,9 @@ other_length j n h = grind (arith, nat_tests)
 -- what was handed out grows with the stream
 lines_grow : (more ps : List Piece) → IsFirstPart (all_lines ps) (all_lines (more ++ ps))
 lines_grow [] ps = ([], sym (append-nil (all_lines ps)))
-lines_grow (Line m ∷ more) ps = ((lines_grow more ps).0 ++ line m ∷ [], ap (λ x. x ++ line m ∷ []) (lines_grow more ps).1 ∙ append_assoc (all_lines ps) (lines_grow more ps).0 (line m ∷ []))
+lines_grow (Line m ∷ more) ps = ((lines_grow more ps).0 ++ text m ∷ [], ap (λ x. x ++ text m ∷ []) (lines_grow more ps).1 ∙ append_assoc (all_lines ps) (lines_grow more ps).0 (text m ∷ []))
 lines_grow (Mark ∷ more) ps = lines_grow more ps
-lines_grow (End why ∷ more) ps = ((lines_grow more ps).0 ++ line (Farewell why) ∷ [], ap (λ x. x ++ line (Farewell why) ∷ []) (lines_grow more ps).1 ∙ append_assoc (all_lines ps) (lines_grow more ps).0 (line (Farewell why) ∷ []))
+lines_grow (End why ∷ more) ps = ((lines_grow more ps).0 ++ text (Farewell why) ∷ [], ap (λ x. x ++ text (Farewell why) ∷ []) (lines_grow more ps).1 ∙ append_assoc (all_lines ps) (lines_grow more ps).0 (text (Farewell why) ∷ []))
 
 handed_grows : (more ps : List Piece) → IsFirstPart (lines_to_mark ps) (lines_to_mark (more ++ ps))
 handed_grows [] ps = ([], sym (append-nil (lines_to_mark ps)))

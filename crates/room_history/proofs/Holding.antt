@@ -11,7 +11,8 @@ use Rattle.room_history.specs.Held.{update_for}
 use Rattle.room_history.specs.Item.{Accepted, Detached, GameAnswer, Item, Left, Refused, Starved, Submitted, Took, Unasked, number_after}
 use Rattle.room_history.specs.Judgment.{present_snapshot}
 use Rattle.room_history.specs.Match.{Match, number_of}
-use Rattle.room_history.specs.Message.{Message, No, Ok as Yes}
+use Rattle.wire_json.specs.declared.server.ServerMsg.{ServerMsg}
+use Rattle.wire_json.specs.declared.server.ServerMsg.TheVariants.{No, Ok as Yes}
 use Rattle.room_history.specs.Outbox.{outbox_in, outbox_of, with_piece_in, with_pieces_in}
 use Rattle.room_history.specs.Piece.{Closed, End, Ended, Line, Mark, Open, Piece, State, state_of}
 use Rattle.room_history.specs.Reply.{answer_unless}
@@ -47,7 +48,7 @@ kept_more s t more c e = by (is_detached s.own) refl
     by false d = rw (c, d) (ap (λ ps. outbox_in (state_of (cut ps)) (cut ps)) e ∙ kept_all more (pieces_of s))
 
 -- who isn't open gains no line
-ended_gains : (st : State) (ps : List Piece) (m : Message) → (IsOpen st → ⊥) → with_piece_in (Line m) (outbox_in st ps) ≡ outbox_in st ps
+ended_gains : (st : State) (ps : List Piece) (m : ServerMsg) → (IsOpen st → ⊥) → with_piece_in (Line m) (outbox_in st ps) ≡ outbox_in st ps
 ended_gains Open ps m h = absurd (h tt)
 ended_gains (Ended why) ps m h = refl
 ended_gains Closed ps m h = refl

@@ -7,8 +7,8 @@ use Rattle.wire_json.specs.declared.protocol.Protocol.{Protocol}
 use Rattle.wire_json.specs.declared.protocol.Protocol.TheVariants.{One, Two}
 use Rattle.wire_json.specs.declared.reason.Reason.{Reason}
 use Rattle.room_history.specs.Item.{Accepted, Detached, GameAnswer, Item, Left, Refused, Starved, Submitted, Took, Unasked, number_after}
-use Rattle.room_history.specs.Message.{Message}
-use Rattle.room_history.specs.News.{TellsSight, is_verdict, messages, messages_of, news}
+use Rattle.wire_json.specs.declared.server.ServerMsg.{ServerMsg}
+use Rattle.room_history.specs.News.{TellsSight, is_answer, messages, messages_of, news}
 use Rattle.room_history.specs.Piece.{Closed, End, Ended, Line, Mark, Open, Piece, State, counted_size, state_after_take, state_of, waiting_size}
 use Rattle.room_history.specs.Session.{Session, stream_of}
 use Rattle.room_history.specs.Showing.{Showing, showings, showings_above, showings_up_to, snapshot_of_number, update_message}
@@ -19,11 +19,11 @@ use Rattle.room_history.proofs.Sessions.{pieces_of}
 
 abbrev AllNews : List Showing → Type 0
 AllNews [] = Unit {0}
-AllNews (t ∷ shown) = (is_verdict t.message ≡ false) × AllNews shown
+AllNews (t ∷ shown) = (is_answer t.message ≡ false) × AllNews shown
 
 news_append : (a b : List Piece) → news (a ++ b) ≡ news a ++ news b
 news_append [] b = refl
-news_append (Line m ∷ a) b = by (is_verdict m) (news_append a b)
+news_append (Line m ∷ a) b = by (is_answer m) (news_append a b)
   where
     by : (v : Bool) → news (a ++ b) ≡ news a ++ news b → (if v then news (a ++ b) else m ∷ news (a ++ b)) ≡ (if v then news a else m ∷ news a) ++ news b
     by true h = h
@@ -77,38 +77,38 @@ module _ (name : Name) (sheet : Sheet) (viewer : Viewer) (protocol : Protocol) w
   all_news (s ∷ []) = (refl, tt)
   all_news (s ∷ before ∷ sight) = (by protocol, all_news (before ∷ sight))
     where
-      by : (p : Protocol) → is_verdict (update_message p sheet before s) ≡ false
+      by : (p : Protocol) → is_answer (update_message p sheet before s) ≡ false
       by One = refl
       by Two = refl
 
 -- what the cut leaves is the older part
 abbrev Older : List Piece → List Piece → Type 0
-Older ps whole = (more : List Message) × (news whole ≡ more ++ news ps)
+Older ps whole = (more : List ServerMsg) × (news whole ≡ more ++ news ps)
 
 abbrev IsNews : State → List Piece → List Piece → Type 0
 IsNews Open ps whole = news ps ≡ news whole
 IsNews (Ended why) ps whole = Older ps whole
 IsNews Closed ps whole = Older ps whole
 
-older_told : (b : Bool) (m : Message) (ps whole : List Piece) → is_verdict m ≡ b → Older ps whole → Older ps (Line m ∷ whole)
+older_told : (b : Bool) (m : ServerMsg) (ps whole : List Piece) → is_answer m ≡ b → Older ps whole → Older ps (Line m ∷ whole)
 older_told true m ps whole e o = (o.0, rw e o.1)
 older_told false m ps whole e o = (m ∷ o.0, rw e (ap (λ x. m ∷ x) o.1))
 
 same_older : (ps whole : List Piece) → news ps ≡ news whole → Older ps whole
 same_older ps whole h = ([], sym h)
 
-news_told : (b : Bool) (m : Message) (ps whole : List Piece) → state_of ps ≡ Open → news ps ≡ news whole → IsNews (state_of (line_or_end b m ps)) (line_or_end b m ps) (Line m ∷ whole)
-news_told true m ps whole e h = older_told (is_verdict m) m ps whole refl (same_older ps whole h)
-news_told false m ps whole e h = subst (λ st. IsNews st (Line m ∷ ps) (Line m ∷ whole)) (sym e) (ap (λ x. if is_verdict m then x else m ∷ x) h)
+news_told : (b : Bool) (m : ServerMsg) (ps whole : List Piece) → state_of ps ≡ Open → news ps ≡ news whole → IsNews (state_of (line_or_end b m ps)) (line_or_end b m ps) (Line m ∷ whole)
+news_told true m ps whole e h = older_told (is_answer m) m ps whole refl (same_older ps whole h)
+news_told false m ps whole e h = subst (λ st. IsNews st (Line m ∷ ps) (Line m ∷ whole)) (sym e) (ap (λ x. if is_answer m then x else m ∷ x) h)
 
 news_put : (st : State) (p : Piece) (ps whole : List Piece) → state_of ps ≡ st → IsNews st ps whole → IsNews (state_of (with_piece st p ps)) (with_piece st p ps) (p ∷ whole)
 news_put Open (Line m) ps whole e h = news_told (nat_lt most_waiting (waiting_size ps + counted_size m)) m ps whole e h
 news_put Open Mark ps whole e h = subst (λ st. IsNews (state_after_take st) (Mark ∷ ps) (Mark ∷ whole)) (sym e) h
 news_put Open (End why) ps whole e h = same_older ps whole h
-news_put (Ended by) (Line m) ps whole e h = subst (λ st. IsNews st ps (Line m ∷ whole)) (sym e) (older_told (is_verdict m) m ps whole refl h)
+news_put (Ended by) (Line m) ps whole e h = subst (λ st. IsNews st ps (Line m ∷ whole)) (sym e) (older_told (is_answer m) m ps whole refl h)
 news_put (Ended by) Mark ps whole e h = subst (λ st. IsNews (state_after_take st) (Mark ∷ ps) (Mark ∷ whole)) (sym e) h
 news_put (Ended by) (End why) ps whole e h = subst (λ st. IsNews st ps (End why ∷ whole)) (sym e) h
-news_put Closed (Line m) ps whole e h = subst (λ st. IsNews st ps (Line m ∷ whole)) (sym e) (older_told (is_verdict m) m ps whole refl h)
+news_put Closed (Line m) ps whole e h = subst (λ st. IsNews st ps (Line m ∷ whole)) (sym e) (older_told (is_answer m) m ps whole refl h)
 news_put Closed Mark ps whole e h = subst (λ st. IsNews (state_after_take st) (Mark ∷ ps) (Mark ∷ whole)) (sym e) h
 news_put Closed (End why) ps whole e h = subst (λ st. IsNews st ps (End why ∷ whole)) (sym e) h
 

@@ -9,7 +9,7 @@ use Rattle.room_history.specs.Does.{Room, room_after_want, with_one, with_fate, 
 use Rattle.room_history.specs.Held.{attachment_with, attachment_after_submission}
 use Rattle.room_history.specs.Item.{Submitted, Starved}
 use Rattle.room_history.specs.Match.{Match}
-use Rattle.room_history.specs.Message.{No}
+use Rattle.wire_json.specs.declared.server.ServerMsg.TheVariants.{No}
 use Rattle.room_history.specs.Others.{KeepsMatches, KeepsOthers, KeepsAll, TellsRefusal}
 use Rattle.room_history.specs.Outbox.{attachment_of, outbox_of, with_outbox}
 use Rattle.room_history.specs.Piece.{Line}

@@ -5,7 +5,7 @@ use Rattle.reducer.specs.Accepted.{Accepted as Deed}
 use Rattle.room_history.specs.Does.{after_action}
 use Rattle.room_history.specs.Held.{update_for}
 use Rattle.room_history.specs.Match.{Match}
-use Rattle.room_history.specs.Message.{Message}
+use Rattle.wire_json.specs.declared.server.ServerMsg.{ServerMsg}
 use Rattle.room_history.specs.Outbox.{line_or_lagging, outbox_in, with_piece_in}
 use Rattle.room_history.specs.Piece.{Closed, End, Ended, Line, Mark, Open, Piece, State, counted_size, state_after_take, state_of, waiting_lines, waiting_size}
 use Rattle.room_history.specs.Session.{Session, is_looking, stream_of}
@@ -17,7 +17,7 @@ use Rattle.room_history.proofs.Growth.{grown}
 use Rattle.room_history.proofs.Keeps.{Fits}
 use Rattle.room_history.proofs.Sessions.{Good, pieces_of, snap_pieces}
 
-kept_told : (b : Bool) (m : Message) (ps : List Piece) → state_of ps ≡ Open
+kept_told : (b : Bool) (m : ServerMsg) (ps : List Piece) → state_of ps ≡ Open
     → outbox_in (state_of (line_or_end b m ps)) (line_or_end b m ps) ≡ Some (line_or_lagging b m (record { waiting = waiting_lines ps; count = waiting_size ps; end = None }))
 kept_told true m ps e = refl
 kept_told false m ps e = rw e refl

@@ -12,7 +12,8 @@ use Rattle.room_history.specs.Held.{attachment_state, attachment_after, attachme
 use Rattle.room_history.specs.Session.{detach_reply}
 use Rattle.std.specs.List.{concat}
 use Rattle.room_history.specs.Match.{Match, number_of}
-use Rattle.room_history.specs.Message.{Message, Ok as Accepts, No}
+use Rattle.wire_json.specs.declared.server.ServerMsg.{ServerMsg}
+use Rattle.wire_json.specs.declared.server.ServerMsg.TheVariants.{Ok as Accepts, No}
 use Rattle.room_history.specs.Outbox.{Attachment, attachment_of, outbox_after_take}
 use Rattle.room_history.specs.Piece.{Line, Mark, End, State, Open, Ended, Closed}
 use Rattle.room_history.specs.Presence.{after_attach, after_end, after_release, attached_after, is_attached}
@@ -26,7 +27,7 @@ use Rattle.room_history.proofs.Attachments.{attachment_step, reply_by_held}
 use Rattle.room_history.proofs.Keeps.{same_pass}
 use Rattle.room_history.proofs.Others.{want_keeps_all}
 
-line_some : (m : Message) (a : Option Attachment) → is_some (attachment_with (Line m) a) ≡ is_some a
+line_some : (m : ServerMsg) (a : Option Attachment) → is_some (attachment_with (Line m) a) ≡ is_some a
 line_some m None = refl
 line_some m (Some a) = refl
 

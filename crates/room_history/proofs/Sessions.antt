@@ -9,7 +9,7 @@ use Rattle.wire_json.specs.declared.protocol.Protocol.{Protocol}
 use Rattle.wire_json.specs.declared.reason.Reason.{Reason}
 use Rattle.room_history.specs.Course.{Grows, IsOpen, SameView}
 use Rattle.room_history.specs.Item.{Starved, Unasked, Refused, Accepted, Detached, GameAnswer, Item, Left, Submitted, Took, number_after}
-use Rattle.room_history.specs.Message.{Message}
+use Rattle.wire_json.specs.declared.server.ServerMsg.{ServerMsg}
 use Rattle.room_history.specs.Piece.{Closed, End, Ended, Line, Mark, Open, Piece, State, counted_size, lines_to_mark, state_of, waiting_size}
 use Rattle.room_history.specs.Session.{Session, after_take, is_detached, is_looking, lines_handed_out, number_in, session_state, stream_of, with_item}
 use Rattle.room_history.specs.Showing.{Showing, showings, snapshot_of_number, update_message}
@@ -26,11 +26,11 @@ AreQuiet (Line m ∷ ps) = AreQuiet ps
 AreQuiet (Mark ∷ ps) = ⊥
 AreQuiet (End why ∷ ps) = AreQuiet ps
 
-handed_told : (b : Bool) (m : Message) (ps : List Piece) → lines_to_mark (line_or_end b m ps) ≡ lines_to_mark ps
+handed_told : (b : Bool) (m : ServerMsg) (ps : List Piece) → lines_to_mark (line_or_end b m ps) ≡ lines_to_mark ps
 handed_told true m ps = refl
 handed_told false m ps = refl
 
-handed_tells : (st : State) (m : Message) (ps : List Piece) → lines_to_mark (with_piece st (Line m) ps) ≡ lines_to_mark ps
+handed_tells : (st : State) (m : ServerMsg) (ps : List Piece) → lines_to_mark (with_piece st (Line m) ps) ≡ lines_to_mark ps
 handed_tells Open m ps = handed_told (nat_lt most_waiting (waiting_size ps + counted_size m)) m ps
 handed_tells (Ended why) m ps = refl
 handed_tells Closed m ps = refl

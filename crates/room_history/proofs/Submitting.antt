@@ -8,7 +8,7 @@ use Rattle.room_history.specs.Does.{after_action, after_submission}
 use Rattle.room_history.specs.Held.{attachment_after_action, attachment_after_submission, attachment_with, update_for}
 use Rattle.room_history.specs.Item.{Accepted, Item, Submitted, Unasked}
 use Rattle.room_history.specs.Match.{Match, number_of}
-use Rattle.room_history.specs.Message.{No, Ok as Yes}
+use Rattle.wire_json.specs.declared.server.ServerMsg.TheVariants.{No, Ok as Yes}
 use Rattle.room_history.specs.Outbox.{Outbox, attachment_of, outbox_of, outbox_with, with_outbox, with_piece_in}
 use Rattle.room_history.specs.Piece.{Closed, Ended, Line, Open, Piece, State}
 use Rattle.room_history.specs.Reply.{Fate, Goes, Turned, Unheard, answer_unless, fate, fate_by, fate_in, game_answer}

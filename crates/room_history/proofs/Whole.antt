@@ -5,7 +5,9 @@ use Rattle.game_sheet.specs.declared.act.Bye.TheVariants as bye
 use Rattle.room_history.specs.Alike.{AreAlikeButForTakes, NotLagging, SeeAlike}
 use Rattle.room_history.specs.Item.{without_takes}
 use Rattle.room_history.specs.Item.{Item}
-use Rattle.room_history.specs.Message.{Farewell, Message, line}
+use Rattle.wire_json.specs.declared.server.ServerMsg.{ServerMsg}
+use Rattle.wire_json.specs.declared.server.ServerMsg.TheVariants.{Bye as Farewell}
+use Rattle.wire_json.specs.ServerText.{text}
 use Rattle.room_history.specs.Piece.{Closed, End, Ended, Line, Mark, Open, Piece, State, all_lines, counted_size, state_after_take, state_of, waiting_size, without_marks}
 use Rattle.room_history.specs.Session.{Session, stream_of}
 use Rattle.room_history.specs.Showing.{showings}
@@ -39,7 +41,7 @@ over_taken Closed = refl
 same_mark : (st : State) (ps whole : List Piece) → state_of ps ≡ st → Same st ps whole → Same (state_of (Mark ∷ ps)) (Mark ∷ ps) (Mark ∷ whole)
 same_mark st ps whole e s = record { is = s.is; over = s.over ∙ sym (over_taken st) ∙ ap (λ x. over_in (state_after_take x)) (sym e) }
 
-same_told : (b : Bool) (m : Message) (ps whole : List Piece) → state_of ps ≡ Open → NotLagging (line_or_end b m ps) → Same Open ps whole → Same (state_of (line_or_end b m ps)) (line_or_end b m ps) (Line m ∷ whole)
+same_told : (b : Bool) (m : ServerMsg) (ps whole : List Piece) → state_of ps ≡ Open → NotLagging (line_or_end b m ps) → Same Open ps whole → Same (state_of (line_or_end b m ps)) (line_or_end b m ps) (Line m ∷ whole)
 same_told true m ps whole e n s = absurd n
 same_told false m ps whole e n s = record { is = rw s.over (ap (λ x. Line m ∷ x) s.is); over = rw (s.over, e) s.over }
 
@@ -57,7 +59,7 @@ same_put Closed (Line m) ps whole e n s = same_ended Closed (Line m) ps whole (L
 same_put Closed Mark ps whole e n s = same_mark Closed ps whole e s
 same_put Closed (End why) ps whole e n s = same_ended Closed (End why) ps whole (End why ∷ whole) refl refl e s
 
-lag_told : (b : Bool) (m : Message) (ps : List Piece) → NotLagging (line_or_end b m ps) → NotLagging ps
+lag_told : (b : Bool) (m : ServerMsg) (ps : List Piece) → NotLagging (line_or_end b m ps) → NotLagging ps
 lag_told true m ps n = absurd n
 lag_told false m ps n = n
 
@@ -82,9 +84,9 @@ same_cut (p ∷ ps) n = same_put (state_of (cut ps)) p (cut ps) ps refl n (same_
 
 pub lines_unmarked : (ps : List Piece) → all_lines (without_marks ps) ≡ all_lines ps
 lines_unmarked [] = refl
-lines_unmarked (Line m ∷ ps) = ap (λ x. x ++ line m ∷ []) (lines_unmarked ps)
+lines_unmarked (Line m ∷ ps) = ap (λ x. x ++ text m ∷ []) (lines_unmarked ps)
 lines_unmarked (Mark ∷ ps) = lines_unmarked ps
-lines_unmarked (End why ∷ ps) = ap (λ x. x ++ line (Farewell why) ∷ []) (lines_unmarked ps)
+lines_unmarked (End why ∷ ps) = ap (λ x. x ++ text (Farewell why) ∷ []) (lines_unmarked ps)
 
 without : (s : Session) → Good s → without_marks (pieces_of s) ≡ without_marks (long_list s.name s.sheet s.viewer (showings s.name s.sheet s.viewer s.protocol s.sight) (without_takes s.own))
 without s g = same_unmarked s.name s.sheet s.viewer s.own (showings s.name s.sheet s.viewer s.protocol s.sight) g.order

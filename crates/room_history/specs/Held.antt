@@ -12,7 +12,9 @@ use Rattle.seat_roster.specs.Roster.{is_empty, join, rename, leave}
 use Rattle.wire_json.specs.declared.protocol.Protocol.{Protocol}
 use Rattle.room_history.specs.Does.{is_left}
 use Rattle.room_history.specs.Match.{Match, number_of}
-use Rattle.room_history.specs.Message.{Message, Sync, Ok as Accepts, No, line}
+use Rattle.wire_json.specs.declared.server.ServerMsg.{ServerMsg}
+use Rattle.wire_json.specs.declared.server.ServerMsg.TheVariants.{Sync, Ok as Accepts, No}
+use Rattle.wire_json.specs.ServerText.{text}
 use Rattle.room_history.specs.Outbox.{Attachment, outbox_with, attachment_of}
 use Rattle.room_history.specs.Piece.{Piece, Line, Mark, End, State, Open, Ended, Closed}
 use Rattle.room_history.specs.Reply.{Fate, Unheard, Goes, Turned, reply_by, created_match, named_match, looked_match, reseated_match, attached_match, fate_in, submit_reply, match_row}
@@ -57,7 +59,7 @@ attachment_after_clear (Ok m) a = attachment_with (End bye.Left) a
 
 module _ {X G : Type 0} (rules : X → Rules G) where
   -- the message of the action that led from one match to the next, the same for all who look from one seat in one protocol
-  abbrev pub update_for : Match X G → Match X G → Option ℕ → Protocol → Message
+  abbrev pub update_for : Match X G → Match X G → Option ℕ → Protocol → ServerMsg
   update_for m n seat protocol = update_message protocol (rules m.game).sheet (snapshot rules m seat) (snapshot rules n seat)
 
   abbrev pub attachment_after_action : Match X G → Match X G → Option Attachment → Option Attachment
@@ -79,7 +81,7 @@ module _ {X G : Type 0} (rules : X → Rules G) (room : ℕ) where
     viewer = viewer;
     protocol = protocol;
     outbox = record {
-      waiting = line (Sync (record { room = room; serial = m.serial }) (seat_of viewer) protocol (snapshot_data (rules m.game).sheet (snapshot rules m (seat_of viewer)))) ∷ [];
+      waiting = text (Sync (record { room = room; serial = m.serial }) (seat_of viewer) protocol (snapshot_data (rules m.game).sheet (snapshot rules m (seat_of viewer)))) ∷ [];
       count = 0;
       end = None;
     };

@@ -5,7 +5,6 @@ pub mod Held
 pub mod Item
 pub mod Judgment
 pub mod Match
-pub mod Message
 pub mod News
 pub mod Others
 pub mod Outbox

@@ -5,7 +5,7 @@ use Rattle.room_object.specs.Entry.{Entry, entry}
 use Rattle.wire_json.specs.declared.reason.Reason.{Reason}
 use Rattle.room_history.specs.Does.{Room}
 use Rattle.room_history.specs.Held.{attachment_with}
-use Rattle.room_history.specs.Message.{No}
+use Rattle.wire_json.specs.declared.server.ServerMsg.TheVariants.{No}
 use Rattle.room_history.specs.Outbox.{attachment_of}
 use Rattle.room_history.specs.Piece.{Line}
 use Rattle.room_history.specs.Room.{room_of}

@@ -3,7 +3,8 @@ use Rattle.std.specs.Prelude.{ℕ, ◌+◌, List, [], ◌∷◌, ◌++◌, Bool,
 use Rattle.game_sheet.specs.declared.act.Bye.{Bye}
 use Rattle.game_sheet.specs.declared.act.Bye.TheVariants as bye
 use Rattle.wire_json.specs.declared.protocol.Protocol.{Protocol}
-use Rattle.room_history.specs.Message.{Message, line}
+use Rattle.wire_json.specs.declared.server.ServerMsg.{ServerMsg}
+use Rattle.wire_json.specs.ServerText.{text}
 use Rattle.room_history.specs.Piece.{Piece, Line, Mark, End, State, Open, Ended, Closed, waiting_lines, waiting_size, counted_size}
 use Rattle.room_history.specs.Session.{Session, stream_of, session_state}
 use Rattle.room_history.specs.Stream.{most_waiting}
@@ -24,9 +25,9 @@ abbrev pub outbox_of : Session → Option Outbox
 outbox_of s = outbox_in (session_state s) (stream_of s)
 
 -- a line joins those that wait, unless there would be too much, which ends the outbox
-abbrev pub line_or_lagging : Bool → Message → Outbox → Outbox
+abbrev pub line_or_lagging : Bool → ServerMsg → Outbox → Outbox
 line_or_lagging true message o = record o { end = Some bye.Lagging }
-line_or_lagging false message o = record o { waiting = o.waiting ++ line message ∷ []; count = o.count + counted_size message }
+line_or_lagging false message o = record o { waiting = o.waiting ++ text message ∷ []; count = o.count + counted_size message }
 
 -- an outbox that has ended changes no more
 abbrev pub unless_ended : Option Bye → Outbox → Outbox → Outbox

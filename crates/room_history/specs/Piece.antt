@@ -1,11 +1,13 @@
 -- The pieces that a stream is made of, the latest first, and what can be read off them: how the stream stands, and its lines.
 use Rattle.std.specs.Prelude.{ℕ, ◌+◌, List, [], ◌∷◌, ◌++◌, length}
 use Rattle.game_sheet.specs.declared.act.Bye.{Bye}
-use Rattle.room_history.specs.Message.{Message, Sync, Farewell, line}
+use Rattle.wire_json.specs.declared.server.ServerMsg.{ServerMsg}
+use Rattle.wire_json.specs.declared.server.ServerMsg.TheVariants.{Sync, Bye as Farewell}
+use Rattle.wire_json.specs.ServerText.{text}
 
 -- a message, the place at which a Take handed out what was there, or the end
 pub data Piece : Type 0 where
-  Line : Message → Piece
+  Line : ServerMsg → Piece
   Mark : Piece
   End : Bye → Piece
 
@@ -28,9 +30,9 @@ state_of (Mark ∷ pieces) = state_after_take (state_of pieces)
 state_of (End why ∷ pieces) = Ended why
 
 -- how many bytes of a message's line count as waiting: none of the sync line's
-abbrev pub counted_size : Message → ℕ
+abbrev pub counted_size : ServerMsg → ℕ
 counted_size (Sync name seat protocol snapshot) = 0
-counted_size message = length (line message)
+counted_size message = length (text message)
 
 -- how many bytes wait since the last mark
 abbrev pub waiting_size : List Piece → ℕ
@@ -42,16 +44,16 @@ waiting_size (End why ∷ pieces) = waiting_size pieces
 -- the lines since the last mark, in order
 abbrev pub waiting_lines : List Piece → List (List ℕ)
 waiting_lines [] = []
-waiting_lines (Line message ∷ pieces) = waiting_lines pieces ++ line message ∷ []
+waiting_lines (Line message ∷ pieces) = waiting_lines pieces ++ text message ∷ []
 waiting_lines (Mark ∷ pieces) = []
 waiting_lines (End why ∷ pieces) = waiting_lines pieces
 
 -- all lines, in order, and at an end the bye line
 abbrev pub all_lines : List Piece → List (List ℕ)
 all_lines [] = []
-all_lines (Line message ∷ pieces) = all_lines pieces ++ line message ∷ []
+all_lines (Line message ∷ pieces) = all_lines pieces ++ text message ∷ []
 all_lines (Mark ∷ pieces) = all_lines pieces
-all_lines (End why ∷ pieces) = all_lines pieces ++ line (Farewell why) ∷ []
+all_lines (End why ∷ pieces) = all_lines pieces ++ text (Farewell why) ∷ []
 
 -- those up to the last mark
 abbrev pub lines_to_mark : List Piece → List (List ℕ)
@@ -63,7 +65,7 @@ lines_to_mark (End why ∷ pieces) = lines_to_mark pieces
 -- the lines without the bye line, all of them and those up to the last mark
 abbrev pub message_lines : List Piece → List (List ℕ)
 message_lines [] = []
-message_lines (Line message ∷ pieces) = message_lines pieces ++ line message ∷ []
+message_lines (Line message ∷ pieces) = message_lines pieces ++ text message ∷ []
 message_lines (Mark ∷ pieces) = message_lines pieces
 message_lines (End why ∷ pieces) = message_lines pieces
 

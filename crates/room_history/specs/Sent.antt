@@ -4,7 +4,8 @@ use Rattle.std.specs.List.{concat}
 use Rattle.game_trait.specs.Rules.{Rules}
 use Rattle.game_sheet.specs.declared.act.Bye.{Bye}
 use Rattle.room_object.specs.Entry.{Entry}
-use Rattle.room_history.specs.Message.{line, Farewell}
+use Rattle.wire_json.specs.declared.server.ServerMsg.TheVariants.{Bye as Farewell}
+use Rattle.wire_json.specs.ServerText.{text}
 use Rattle.room_history.specs.Piece.{all_lines, lines_to_mark, message_lines_to_mark}
 use Rattle.room_history.specs.Room.{room_of, reply}
 use Rattle.room_history.specs.Session.{Session, stream_of, is_detached, handful, bytes_handed_out}
@@ -13,7 +14,7 @@ use Rattle.room_history.specs.declared.call.RoomCall.TheVariants.{Take}
 
 -- the lines of its stream up to the last mark, with the bye line at most at the end
 abbrev pub IsInOrder : Session → Type 0
-IsInOrder s = (s.sent ≡ message_lines_to_mark (stream_of s)) ⊎ ((why : Bye) × (s.sent ≡ message_lines_to_mark (stream_of s) ++ line (Farewell why) ∷ []))
+IsInOrder s = (s.sent ≡ message_lines_to_mark (stream_of s)) ⊎ ((why : Bye) × (s.sent ≡ message_lines_to_mark (stream_of s) ++ text (Farewell why) ∷ []))
 
 -- a session was sent the lines of its stream up to the last mark, and the other ones wait for the next Take, unless a Detach lost them
 pub record IsToldOf (s : Session) : Type 0 where

@@ -7,7 +7,8 @@ use Rattle.game_sheet.specs.declared.sheet.Sheet.{Sheet}
 use Rattle.player_sight.specs.SnapshotData.{Snap}
 use Rattle.wire_json.specs.declared.protocol.Protocol.{Protocol}
 use Rattle.room_history.specs.Item.{Item, Took, Left, Detached}
-use Rattle.room_history.specs.Message.{Farewell, line}
+use Rattle.wire_json.specs.declared.server.ServerMsg.TheVariants.{Bye as Farewell}
+use Rattle.wire_json.specs.ServerText.{text}
 use Rattle.room_history.specs.Piece.{Piece, State, Open, Ended, Closed, state_of, waiting_lines}
 use Rattle.room_history.specs.Stream.{stream}
 use Rattle.game_sheet.specs.Viewer.{Viewer}
@@ -56,7 +57,7 @@ with_item item s = if is_detached s.own then s else record s { own = item ∷ s.
 
 abbrev pub bye_lines : Option Bye → List (List ℕ)
 bye_lines None = []
-bye_lines (Some why) = line (Farewell why) ∷ []
+bye_lines (Some why) = text (Farewell why) ∷ []
 
 -- what a Take hands out of a stream in a state: the lines that wait, and at an end the bye line
 abbrev pub lines_handed_out : State → List Piece → List (List ℕ)

@@ -10,7 +10,8 @@ use Rattle.player_sight.specs.SnapshotData.{Snap, snapshot_data}
 use Rattle.wire_json.specs.declared.protocol.Protocol.{Protocol}
 use Rattle.wire_json.specs.declared.protocol.Protocol.TheVariants.{One, Two}
 use Rattle.player_sight.specs.Change.{put_part, gone_part}
-use Rattle.room_history.specs.Message.{Message, Sync, Update, Change}
+use Rattle.wire_json.specs.declared.server.ServerMsg.{ServerMsg}
+use Rattle.wire_json.specs.declared.server.ServerMsg.TheVariants.{Sync, Update, Change}
 use Rattle.game_sheet.specs.Viewer.{Viewer, seat_of}
 
 -- the last entry of a log
@@ -20,15 +21,15 @@ newest_entry sheet (entry ∷ []) = entry_data sheet entry
 newest_entry sheet (entry ∷ next ∷ log) = newest_entry sheet (next ∷ log)
 
 -- the message of the action that led from one snapshot to the next
-abbrev pub update_message : Protocol → Sheet → Snap → Snap → Message
+abbrev pub update_message : Protocol → Sheet → Snap → Snap → ServerMsg
 update_message One sheet before s = Update (ctx_data sheet s.ctx) (newest_entry sheet s.log) s.g s.number
 update_message Two sheet before s =
-    Change (put_part (ctx_data sheet before.ctx) (ctx_data sheet s.ctx)) (newest_entry sheet s.log) (gone_part before.g s.g) (put_part before.g s.g) s.number before.number
+    Change (put_part (ctx_data sheet before.ctx) (ctx_data sheet s.ctx)) (newest_entry sheet s.log) (gone_part before.g s.g) (put_part before.g s.g) s.number
 
 -- a snapshot that was shown, and the message that tells of it
 pub record Showing : Type 0 where
   pub snapshot : Snap
-  pub message : Message
+  pub message : ServerMsg
 
 module _ (name : Name) (sheet : Sheet) (viewer : Viewer) (protocol : Protocol) where
   -- of the snapshots that a session was shown, the latest first

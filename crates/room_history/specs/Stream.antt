@@ -8,7 +8,8 @@ use Rattle.player_sight.specs.SnapshotData.{Snap}
 use Rattle.wire_json.specs.declared.protocol.Protocol.{Protocol}
 use Rattle.wire_json.specs.declared.reason.Reason.{Reason}
 use Rattle.room_history.specs.Item.{GameAnswer, Starved, Accepted, Refused, Item, Submitted, Took, Left, Detached, number_after}
-use Rattle.room_history.specs.Message.{Message, Ok, No}
+use Rattle.wire_json.specs.declared.server.ServerMsg.{ServerMsg}
+use Rattle.wire_json.specs.declared.server.ServerMsg.TheVariants.{Ok, No}
 use Rattle.room_history.specs.Piece.{Piece, Line, Mark, End, State, Open, state_of, counted_size, waiting_size}
 use Rattle.room_history.specs.Rule.{public, has_key}
 use Rattle.room_history.specs.Showing.{Showing, showings, showings_above, showings_up_to, snapshot_of_number}
@@ -59,7 +60,7 @@ abbrev pub most_waiting : ℕ
 most_waiting = 4194304
 
 -- a line that would wait beyond the limit is left out, and ends the stream
-abbrev pub line_or_end : Bool → Message → List Piece → List Piece
+abbrev pub line_or_end : Bool → ServerMsg → List Piece → List Piece
 line_or_end true message pieces = End bye.Lagging ∷ pieces
 line_or_end false message pieces = Line message ∷ pieces
 

@@ -7,7 +7,8 @@ use Rattle.game_trait.specs.Rules.{Rules}
 use Rattle.board_links.specs.Answers.{AreLines}
 use Rattle.room_history.proofs.Attachments.{reply_by_held}
 use Rattle.room_history.specs.Held.{attachment_state, attachment_take_reply, state_by}
-use Rattle.room_history.specs.Message.{Message, line, members_of}
+use Rattle.wire_json.specs.declared.server.ServerMsg.{ServerMsg}
+use Rattle.wire_json.specs.ServerText.{text, server_members}
 use Rattle.room_history.specs.Outbox.{Attachment, attachment_of, outbox_in, with_outbox}
 use Rattle.room_history.specs.Piece.{End, Line, Mark, Piece, State, Open, Ended, Closed, waiting_lines}
 use Rattle.room_history.specs.Presence.{after_release, is_attached}
@@ -19,16 +20,15 @@ use Rattle.room_object.specs.Entry.{Entry, entry}
 use Rattle.serde_json.specs.Data.{object}
 use Rattle.serde_json.specs.Written.{compact_text}
 use Rattle.wire_json.specs.ServerText.{server_members, text}
-use Rattle.wire_json.specs.declared.server.ServerMsg.{ServerMsg}
 use Rattle.session_pool.specs.Lines.{AreWhole, EachIsLine}
 use Rattle.session_pool.specs.Taken.{IsTaken}
 use Rattle.session_pool.proofs.Lines.{concat_whole, lines_whole, one_more_line}
 
 -- ---- lines
 
-message_is_line : (m : Message) → AreLines (line m)
-unfolding line
-message_is_line m = (compact_text (object (members_of m)), refl)
+message_is_line : (m : ServerMsg) → AreLines (text m)
+unfolding text
+message_is_line m = (compact_text (object (server_members m)), refl)
 
 text_is_line : (m : ServerMsg) → AreLines (text m)
 unfolding text
@@ -41,7 +41,7 @@ answer_whole (Some a) = lines_whole (line_of a) (text_is_line (message_of a))
 
 waiting_are_lines : (pieces : List Piece) → EachIsLine (waiting_lines pieces)
 waiting_are_lines [] = tt
-waiting_are_lines (Line m ∷ pieces) = one_more_line (waiting_lines pieces) (line m) (waiting_are_lines pieces) (message_is_line m)
+waiting_are_lines (Line m ∷ pieces) = one_more_line (waiting_lines pieces) (text m) (waiting_are_lines pieces) (message_is_line m)
 waiting_are_lines (Mark ∷ pieces) = tt
 waiting_are_lines (End why ∷ pieces) = waiting_are_lines pieces
 

@@ -11,7 +11,6 @@ use Rattle.board_links.specs.declared.link.SessionEnd.{SessionEnd}
 use Rattle.board_links.specs.declared.link.SessionEnd.TheVariants as end
 use Rattle.game_sheet.specs.declared.act.Bye.{Bye}
 use Rattle.game_sheet.specs.declared.act.Bye.TheVariants as bye
-use Rattle.room_history.specs.Message.{Farewell, line}
 use Rattle.room_history.specs.Session.{bye_lines}
 use Rattle.serde_json.specs.Data.{object}
 use Rattle.serde_json.specs.Written.{compact_text}
@@ -24,12 +23,8 @@ use Rattle.session_pool.proofs.Lines.{first_part}
 
 -- ---- the bye line, which rooms, the wire and links each know
 
-farewell_is : (why : Bye) → line (Farewell why) ≡ text (message.Bye why)
-unfolding line text
-farewell_is why = refl
-
 pub handed_bye : (why : Bye) → concat (bye_lines (Some why)) ≡ text (message.Bye why)
-handed_bye why = append-nil (line (Farewell why)) ∙ farewell_is why
+handed_bye why = append-nil (text (message.Bye why))
 
 pub bye_known : (why : Bye) → text (message.Bye why) ≡ bye_line why
 bye_known bye.Left = sym left_text

@@ -7,7 +7,9 @@ use Rattle.game_sheet.specs.declared.act.Bye.{Bye}
 use Rattle.game_sheet.specs.declared.sheet.Sheet.{Sheet}
 use Rattle.player_sight.specs.SnapshotData.{Snap}
 use Rattle.room_history.specs.Item.{GameAnswer, Item, Submitted, Took, Left, Detached, Starved, Unasked, Accepted, Refused, number_after}
-use Rattle.room_history.specs.Message.{Message, Farewell, line}
+use Rattle.wire_json.specs.declared.server.ServerMsg.{ServerMsg}
+use Rattle.wire_json.specs.declared.server.ServerMsg.TheVariants.{Bye as Farewell}
+use Rattle.wire_json.specs.ServerText.{text}
 use Rattle.room_history.specs.Piece.{Piece, Line, Mark, End, State, Open, Ended, Closed, all_lines, counted_size, lines_to_mark, message_lines, message_lines_to_mark, state_of, waiting_size}
 use Rattle.room_history.specs.Session.{Session, stream_of}
 use Rattle.room_history.specs.Showing.{Showing, showings, showings_above, showings_up_to, snapshot_of_number, update_message}
@@ -17,11 +19,10 @@ use Rattle.wire_json.specs.ServerReading.{server_read}
 use Rattle.wire_json.specs.declared.protocol.Protocol.{Protocol}
 use Rattle.wire_json.specs.declared.protocol.Protocol.TheVariants.{One, Two}
 use Rattle.wire_json.specs.declared.reason.Reason.{Reason}
-use Rattle.wire_json.specs.declared.server.ServerMsg.{ServerMsg}
 use Rattle.wire_json.specs.declared.server.ServerMsg.TheVariants as to_client
 use Rattle.convergence.specs.Doing.{ticket_in}
 use Rattle.client_predict.specs.Following.{is_bye, is_sync}
-use Rattle.convergence.specs.Lines.{AllLines, ReadsBack, as_read}
+use Rattle.convergence.specs.Lines.{AllLines, ReadsBack}
 use Rattle.convergence.proofs.Messages.{bye_reads}
 use Rattle.world_convergence.proofs.Entries.{one_if, submitted}
 
@@ -45,28 +46,28 @@ count_append is (x ∷ xs) ys = omega (arith, count_append is xs ys)
 
 abbrev pub tally : (Result ServerMsg Refusal → Bool) → List Piece → ℕ
 tally is [] = 0
-tally is (Line m ∷ pieces) = one_if (is (Ok (as_read m))) + tally is pieces
+tally is (Line m ∷ pieces) = one_if (is (Ok m)) + tally is pieces
 tally is (Mark ∷ pieces) = tally is pieces
 tally is (End why ∷ pieces) = tally is pieces
 
 abbrev pub in_showings : (Result ServerMsg Refusal → Bool) → List Showing → ℕ
 in_showings is [] = 0
-in_showings is (t ∷ shown) = one_if (is (Ok (as_read t.message))) + in_showings is shown
+in_showings is (t ∷ shown) = one_if (is (Ok t.message)) + in_showings is shown
 
 module _ (is : Result ServerMsg Refusal → Bool) where
   last_counts : (xs : List (List ℕ)) (x : List ℕ) (b : Bool) → is (server_read x) ≡ b → count is (xs ++ x ∷ []) ≡ one_if b + count is xs
   last_counts xs x b e = count_append is xs (x ∷ []) ∙ omega (arith, ap one_if e)
 
-  read_as : (m : Message) → ReadsBack m → is (server_read (line m)) ≡ is (Ok (as_read m))
+  read_as : (m : ServerMsg) → ReadsBack m → is (server_read (text m)) ≡ is (Ok m)
   read_as m back = ap is back
 
   module _ (no_bye : (why : Bye) → is (Ok (to_client.Bye why)) ≡ false) where
     all_counted : (ps : List Piece) → AllLines ReadsBack ps → count is (all_lines ps) ≤ tally is ps
     all_counted [] h = omega arith
-    all_counted (Line m ∷ ps) h = omega (arith, last_counts (all_lines ps) (line m) (is (Ok (as_read m))) (read_as m h.0), all_counted ps h.1)
+    all_counted (Line m ∷ ps) h = omega (arith, last_counts (all_lines ps) (text m) (is (Ok m)) (read_as m h.0), all_counted ps h.1)
     all_counted (Mark ∷ ps) h = all_counted ps h
     all_counted (End why ∷ ps) h =
-        omega (arith, last_counts (all_lines ps) (line (Farewell why)) false (ap is (bye_reads why) ∙ no_bye why), all_counted ps h)
+        omega (arith, last_counts (all_lines ps) (text (Farewell why)) false (ap is (bye_reads why) ∙ no_bye why), all_counted ps h)
 
     pub mark_counted : (ps : List Piece) → AllLines ReadsBack ps → count is (lines_to_mark ps) ≤ tally is ps
     mark_counted [] h = omega arith
@@ -76,7 +77,7 @@ module _ (is : Result ServerMsg Refusal → Bool) where
 
   messages_counted : (ps : List Piece) → AllLines ReadsBack ps → count is (message_lines ps) ≤ tally is ps
   messages_counted [] h = omega arith
-  messages_counted (Line m ∷ ps) h = omega (arith, last_counts (message_lines ps) (line m) (is (Ok (as_read m))) (read_as m h.0), messages_counted ps h.1)
+  messages_counted (Line m ∷ ps) h = omega (arith, last_counts (message_lines ps) (text m) (is (Ok m)) (read_as m h.0), messages_counted ps h.1)
   messages_counted (Mark ∷ ps) h = messages_counted ps h
   messages_counted (End why ∷ ps) h = messages_counted ps h
 
@@ -93,7 +94,7 @@ module _ (is : Result ServerMsg Refusal → Bool) where
   put_counted Closed (End why) ps = omega arith
   put_counted Open (Line m) ps = by (nat_lt most_waiting (waiting_size ps + counted_size m))
     where
-      by : (b : Bool) → tally is (line_or_end b m ps) ≤ one_if (is (Ok (as_read m))) + tally is ps
+      by : (b : Bool) → tally is (line_or_end b m ps) ≤ one_if (is (Ok m)) + tally is ps
       by true = omega arith
       by false = omega arith
   put_counted (Ended by) (Line m) ps = omega arith
@@ -116,14 +117,14 @@ module _ (is : Result ServerMsg Refusal → Bool) where
 
   shown_counted : (shown : List Showing) → tally is (lines_of_showings shown) ≡ in_showings is shown
   shown_counted [] = refl
-  shown_counted (t ∷ shown) = ap (λ n. one_if (is (Ok (as_read t.message))) + n) (shown_counted shown)
+  shown_counted (t ∷ shown) = ap (λ n. one_if (is (Ok t.message)) + n) (shown_counted shown)
 
   parted_counted : (n : ℕ) (shown : List Showing) → in_showings is (showings_above n shown) + in_showings is (showings_up_to n shown) ≡ in_showings is shown
   parted_counted n [] = refl
   parted_counted n (t ∷ shown) = by (nat_lt n t.snapshot.number) (parted_counted n shown)
     where
       by : (b : Bool) → in_showings is (showings_above n shown) + in_showings is (showings_up_to n shown) ≡ in_showings is shown
-          → in_showings is (if b then t ∷ showings_above n shown else []) + in_showings is (if b then showings_up_to n shown else t ∷ shown) ≡ one_if (is (Ok (as_read t.message))) + in_showings is shown
+          → in_showings is (if b then t ∷ showings_above n shown else []) + in_showings is (if b then showings_up_to n shown else t ∷ shown) ≡ one_if (is (Ok t.message)) + in_showings is shown
       by true e = omega (arith, e)
       by false e = omega arith
 
@@ -175,7 +176,7 @@ item_counted ticket name sheet viewer (Took n) shown own = omega arith
 item_counted ticket name sheet viewer (Left n) shown own = omega arith
 item_counted ticket name sheet viewer (Detached n) shown own = omega arith
 
-update_no_answer : (ticket : ℕ) (protocol : Protocol) (sheet : Sheet) (before s : Snap) → answers ticket (Ok (as_read (update_message protocol sheet before s))) ≡ false
+update_no_answer : (ticket : ℕ) (protocol : Protocol) (sheet : Sheet) (before s : Snap) → answers ticket (Ok (update_message protocol sheet before s)) ≡ false
 update_no_answer ticket One sheet before s = refl
 update_no_answer ticket Two sheet before s = refl
 
@@ -218,7 +219,7 @@ item_no_sync name sheet viewer (Took n) shown own = omega arith
 item_no_sync name sheet viewer (Left n) shown own = omega arith
 item_no_sync name sheet viewer (Detached n) shown own = omega arith
 
-update_no_sync : (protocol : Protocol) (sheet : Sheet) (before s : Snap) → is_sync (Ok (as_read (update_message protocol sheet before s))) ≡ false
+update_no_sync : (protocol : Protocol) (sheet : Sheet) (before s : Snap) → is_sync (Ok (update_message protocol sheet before s)) ≡ false
 update_no_sync One sheet before s = refl
 update_no_sync Two sheet before s = refl
 
@@ -255,7 +256,7 @@ item_no_bye name sheet viewer (Took n) shown own = omega arith
 item_no_bye name sheet viewer (Left n) shown own = omega arith
 item_no_bye name sheet viewer (Detached n) shown own = omega arith
 
-update_no_bye : (protocol : Protocol) (sheet : Sheet) (before s : Snap) → is_bye (Ok (as_read (update_message protocol sheet before s))) ≡ false
+update_no_bye : (protocol : Protocol) (sheet : Sheet) (before s : Snap) → is_bye (Ok (update_message protocol sheet before s)) ≡ false
 update_no_bye One sheet before s = refl
 update_no_bye Two sheet before s = refl
 

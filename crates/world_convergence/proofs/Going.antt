@@ -7,7 +7,8 @@ use Rattle.game_trait.specs.Lawful.{Lawful}
 use Rattle.game_trait.specs.Rules.{Rules}
 use Rattle.room_history.specs.Course.{IsFirstPart}
 use Rattle.room_history.specs.Match.{Match}
-use Rattle.room_history.specs.Message.{Farewell, line}
+use Rattle.wire_json.specs.declared.server.ServerMsg.TheVariants.{Bye as Farewell}
+use Rattle.wire_json.specs.ServerText.{text as server_text}
 use Rattle.room_history.specs.Piece.{message_lines_to_mark}
 use Rattle.room_history.specs.Room.{match_of}
 use Rattle.room_history.specs.Sent.{IsInOrder}
@@ -64,7 +65,7 @@ no_longer xs ys y e = let more : length xs ≡ length (xs ++ y ∷ ys) = ap leng
     longer [] = omega arith
     longer (z ∷ zs) = omega (arith, longer zs)
 
-bye_line : (why : Bye) → told_lines (line (Farewell why) ∷ []) ≡ line (Farewell why) ∷ []
+bye_line : (why : Bye) → told_lines (server_text (Farewell why) ∷ []) ≡ server_text (Farewell why) ∷ []
 bye_line why = rw (bye_reads why) refl
 
 -- where another line follows, none of the lines before it is a bye
@@ -80,15 +81,15 @@ before_others s order none read text rest e = by order
 
     by : IsInOrder s → has_bye read ≡ false
     by (inl f) = bye_told read ∙ part_no_bye (told_lines read) (told_lines s.sent) (text ∷ rest, e) (ap (λ l. has_bye (told_lines l)) f ∙ clear)
-    by (inr f) = parted (last_in (told_lines (message_lines_to_mark (stream_of s))) (line (Farewell f.0)) (told_lines read) (text ∷ rest) (whole ∙ e))
+    by (inr f) = parted (last_in (told_lines (message_lines_to_mark (stream_of s))) (server_text (Farewell f.0)) (told_lines read) (text ∷ rest) (whole ∙ e))
       where
-        whole : told_lines (message_lines_to_mark (stream_of s)) ++ line (Farewell f.0) ∷ [] ≡ told_lines s.sent
+        whole : told_lines (message_lines_to_mark (stream_of s)) ++ server_text (Farewell f.0) ∷ [] ≡ told_lines s.sent
         whole =
             ap (λ l. told_lines (message_lines_to_mark (stream_of s)) ++ l) (sym (bye_line f.0))
-            ∙ sym (told_append (message_lines_to_mark (stream_of s)) (line (Farewell f.0) ∷ []))
+            ∙ sym (told_append (message_lines_to_mark (stream_of s)) (server_text (Farewell f.0) ∷ []))
             ∙ ap told_lines (sym f.1)
 
-        parted : (told_lines read ≡ told_lines (message_lines_to_mark (stream_of s)) ++ line (Farewell f.0) ∷ []) ⊎ IsFirstPart (told_lines read) (told_lines (message_lines_to_mark (stream_of s))) → has_bye read ≡ false
+        parted : (told_lines read ≡ told_lines (message_lines_to_mark (stream_of s)) ++ server_text (Farewell f.0) ∷ []) ⊎ IsFirstPart (told_lines read) (told_lines (message_lines_to_mark (stream_of s))) → has_bye read ≡ false
         parted (inl all) = absurd (no_longer (told_lines read) rest text (all ∙ whole ∙ e))
         parted (inr part) = bye_told read ∙ part_no_bye (told_lines read) (told_lines (message_lines_to_mark (stream_of s))) part clear
 

@@ -5,7 +5,9 @@ use Rattle.std.proofs.lemmas.List.Folds.{concat-append}
 use Rattle.game_sheet.specs.Lines.{is_line, lines}
 use Rattle.game_sheet.proofs.Cut.{lines_of}
 use Rattle.match_master.proofs.LineLaws.{data_none, line_of_none}
-use Rattle.room_history.specs.Message.{Message, Farewell, line, members_of}
+use Rattle.wire_json.specs.declared.server.ServerMsg.{ServerMsg}
+use Rattle.wire_json.specs.declared.server.ServerMsg.TheVariants.{Bye as Farewell}
+use Rattle.wire_json.specs.ServerText.{text, server_members}
 use Rattle.room_history.specs.Piece.{Piece, Line, Mark, End, State, Open, Ended, Closed, waiting_lines}
 use Rattle.room_history.specs.Session.{Session, bye_lines, bytes_handed_out, handful, lines_handed_out, session_state, stream_of, take_reply, take_reply_in}
 use Rattle.serde_json.specs.Data.{object}
@@ -31,19 +33,19 @@ same_lines (x ∷ xs) = ap (λ l. x ∷ l) (same_lines xs)
 pub lines_back : (xs : List (List ℕ)) → AreLines xs → lines (concat xs) ≡ xs
 lines_back xs h = ap (λ l. lines (concat l)) (sym (same_lines xs)) ∙ lines_of (λ x. x) xs (all_true xs h) ∙ same_lines xs
 
-message_line : (m : Message) → is_line (line m) ≡ true
-unfolding line
-message_line m = line_of_none (compact_text (object (members_of m))) (data_none (object (members_of m)))
+message_line : (m : ServerMsg) → is_line (text m) ≡ true
+unfolding text
+message_line m = line_of_none (compact_text (object (server_members m))) (data_none (object (server_members m)))
 
 waiting_are : (ps : List Piece) → AreLines (waiting_lines ps)
 waiting_are [] = tt
-waiting_are (Line m ∷ ps) = both_lines (waiting_lines ps) (line m ∷ []) (waiting_are ps) (message_line m, tt)
+waiting_are (Line m ∷ ps) = both_lines (waiting_lines ps) (text m ∷ []) (waiting_are ps) (message_line m, tt)
 waiting_are (Mark ∷ ps) = tt
 waiting_are (End why ∷ ps) = waiting_are ps
 
 handed_are : (st : State) (ps : List Piece) → AreLines (lines_handed_out st ps)
 handed_are Open ps = waiting_are ps
-handed_are (Ended why) ps = both_lines (waiting_lines ps) (line (Farewell why) ∷ []) (waiting_are ps) (message_line (Farewell why), tt)
+handed_are (Ended why) ps = both_lines (waiting_lines ps) (text (Farewell why) ∷ []) (waiting_are ps) (message_line (Farewell why), tt)
 handed_are Closed ps = tt
 
 handed_bytes : (st : State) (ps : List Piece) → bytes_handed_out (take_reply_in st ps) ≡ concat (lines_handed_out st ps)

@@ -40,7 +40,6 @@ use Rattle.wire_json.specs.declared.server.ServerMsg.TheVariants as message
 use Rattle.convergence.specs.Doing.{face}
 use Rattle.client_predict.specs.Following.{is_told, reads_all, told_lines}
 use Rattle.convergence.specs.Grounded.{IsGrounded}
-use Rattle.convergence.specs.Lines.{as_read}
 use Rattle.convergence.specs.Shallow.{StatesAreShallow}
 use Rattle.convergence.proofs.Grounding.{grounded}
 use Rattle.convergence.proofs.Grounds.{StaysSound, view_plain}
@@ -108,7 +107,7 @@ module _ {G : Type 0} (rules : Rules G) where
   AllUnread [] = Unit {0}
   AllUnread (s ∷ sight) = (rules.read s.g ≡ None) × AllUnread sight
 
-  update_none : (protocol : Protocol) (sheet : Sheet) (before s : Snap) → readable (Ok (as_read (update_message protocol sheet before s))) ≡ false
+  update_none : (protocol : Protocol) (sheet : Sheet) (before s : Snap) → readable (Ok (update_message protocol sheet before s)) ≡ false
   update_none One sheet before s = refl
   update_none Two sheet before s = refl
 

@@ -13,7 +13,6 @@ use Rattle.game_sheet.specs.MatchName.{Name}
 use Rattle.game_sheet.specs.declared.act.Bye.{Bye}
 use Rattle.game_sheet.proofs.Cut.{lines_of}
 use Rattle.match_master.proofs.LineLaws.{data_none, line_is_line, line_of_none}
-use Rattle.room_history.specs.Message.{Farewell, line}
 use Rattle.room_history.specs.Piece.{Piece, Line, Mark, End, State, Open, Ended, Closed, waiting_lines}
 use Rattle.room_history.specs.Room as room
 use Rattle.room_history.specs.Room.{room_of}
@@ -46,18 +45,10 @@ use Rattle.world_script.specs.ScriptDoing.{script_doing}
 one_line : (l : List ℕ) → is_line l ≡ true → lines l ≡ l ∷ []
 one_line l h = ap lines (sym (append-nil l)) ∙ lines_of (λ x. x) (l ∷ []) (ap (λ b. b && true) h)
 
-text_is_line : (m : ServerMsg) → is_line (text m) ≡ true
-unfolding text
-text_is_line m = line_of_none (compact_text (object (server_members m))) (data_none (object (server_members m)))
-
-bye_is : (why : Bye) → line (Farewell why) ≡ text (message.Bye why)
-unfolding line text
-bye_is why = refl
-
 -- a direct answer is printed as one line
 pub answered_is : (pass : ℕ) (said : Option Answer) → all_to_session pass (text_said said) ≡ answered_text pass said
 answered_is pass None = refl
-answered_is pass (Some a) = ap (flat_map (to_session pass)) (one_line (line_of a) (text_is_line (message_of a))) ∙ append-nil (to_session pass (line_of a))
+answered_is pass (Some a) = ap (flat_map (to_session pass)) (one_line (line_of a) (line_is_line (message_of a))) ∙ append-nil (to_session pass (line_of a))
 
 -- and the match that was opened
 made_is : (said : Option Answer) → made_text (made_by said) ≡ opened_text said
@@ -85,7 +76,7 @@ all_true f (y ∷ xs) x h k = by (f y) (λ g. all_true f xs x g k) h
 -- the lines that wait are lines
 waiting_are_lines : (pieces : List Piece) → list_all is_line (waiting_lines pieces) ≡ true
 waiting_are_lines [] = refl
-waiting_are_lines (Line m ∷ pieces) = all_true is_line (waiting_lines pieces) (line m) (waiting_are_lines pieces) (line_is_line m)
+waiting_are_lines (Line m ∷ pieces) = all_true is_line (waiting_lines pieces) (text m) (waiting_are_lines pieces) (line_is_line m)
 waiting_are_lines (Mark ∷ pieces) = refl
 waiting_are_lines (End why ∷ pieces) = waiting_are_lines pieces
 
@@ -105,12 +96,11 @@ taken_is : (pass : ℕ) (ls : List (List ℕ)) (end : Option Bye) → list_all i
     → all_to_session pass (concat ls) ++ end_text pass end ≡ all_to_session pass (concat ls ++ concat (bye_lines end))
 taken_is pass ls None h = append-nil (all_to_session pass (concat ls)) ∙ ap (all_to_session pass) (sym (append-nil (concat ls)))
 taken_is pass ls (Some why) h =
-    let bye = line (Farewell why) in
+    let bye = text (message.Bye why) in
     ap (λ l. flat_map (to_session pass) l ++ to_session pass (text (message.Bye why))) (lines_in ls h)
-    ∙ ap (λ t. flat_map (to_session pass) ls ++ to_session pass t) (sym (bye_is why))
     ∙ ap (λ t. flat_map (to_session pass) ls ++ t) (sym (append-nil (to_session pass bye)))
     ∙ sym (flat_map-append (to_session pass) ls (bye ∷ []))
-    ∙ ap (flat_map (to_session pass)) (sym (lines_in (ls ++ bye ∷ []) (all_true is_line ls bye h (line_is_line (Farewell why)))))
+    ∙ ap (flat_map (to_session pass)) (sym (lines_in (ls ++ bye ∷ []) (all_true is_line ls bye h (line_is_line (message.Bye why)))))
     ∙ ap (all_to_session pass) (sym (concat_more ls bye))
 
 -- a Take hands out lines
