@@ -1,0 +1,28 @@
+// The log of a match in words, the newest entry first.
+import { dot, element, setText } from "./elements.js";
+import { entryWords, eventWords, trail } from "./words.js";
+
+export class Log {
+  #list = element("ol", { class: "log", reversed: true });
+  #items = [];
+  element = this.#list;
+
+  /** Shows a log. Entries that are undone are struck through. */
+  show(log, game, name) {
+    const { undone, about } = trail(log);
+    const say = (act) => act.kind === "move" ? game.say(act) : eventWords(act, name);
+    while (this.#items.length > log.length) this.#items.pop().remove();
+    log.forEach((entry, at) => {
+      const item = this.#items[at] ?? this.#add(entry);
+      setText(item.querySelector("bdi"), entryWords(entry, log[about[at]].act, say, name));
+      item.classList.toggle("undone", undone.includes(at));
+    });
+  }
+
+  #add({ seat }) {
+    const item = element("li", {}, dot(seat), element("bdi"));
+    this.#items.push(item);
+    this.#list.prepend(item);
+    return item;
+  }
+}
