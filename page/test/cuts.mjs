@@ -1,0 +1,117 @@
+// Connections that break, a server that is out of memory, a page that lags, and a game that the page doesn't know.
+import { done, log, makeMatch, pageAt, same, says, sit } from "./people.mjs";
+import { startRelay } from "./relay.mjs";
+
+const ofType = (type) => (line) => JSON.parse(line).type === type;
+
+export async function cuts(scene) {
+  const { browser, files, server } = scene;
+  const relay = await startRelay(server);
+  const ann = await browser.page("ann");
+  const { match } = await makeMatch(ann, pageAt(files, relay.address), "countdown", 2);
+  await sit(ann, 0, "ann");
+
+  // The connection breaks, and is refused for a while.
+  relay.open = false;
+  relay.cut();
+  await ann.until(`/^The connection broke. Trying again in \\d+ s.$/.test(document.getElementById("link-words").innerText)`, true);
+  await ann.until(`Number(/in (\\d+) s/.exec(document.getElementById("link-words").innerText)?.[1]) >= 2`, true, "the pauses grow");
+  relay.open = true;
+  await ann.click("Try now");
+  await ann.sees("#link-words", "Connected");
+  await ann.click("Take 2");
+  await ann.sees(".big", "19 are left");
+
+  // An act is lost on its way: it has not counted.
+  relay.onAsked = (line, { pass }) => ofType("act")(line) ? relay.cut() : pass(line);
+  await ann.click("Undo");
+  await says(ann, "The connection broke before what you did had counted. Choose anew.");
+  await ann.sees(".big", "19 are left");
+
+  // An act counts, and its verdict is lost.
+  relay.onAsked = (line, { pass }) => pass(line);
+  relay.onTold = (line) => { if (["update", "ok"].some((type) => ofType(type)(line))) relay.cut(); return line; };
+  await ann.click("Undo");
+  await says(ann, "The connection broke, but what you did has counted.");
+  relay.onTold = (line) => line;
+  await ann.sees(".big", "21 are left");
+  same(await log(ann), ["ann took back: took 2", "ann took 2"], "the log after two cuts");
+
+  // The server is out of memory three times: the same line is sent once more each time.
+  let refused = 0;
+  relay.asked.length = 0;
+  relay.onAsked = (line, { pass, answer }) => ofType("act")(line) && refused++ < 3 ? answer(`{"ticket":${JSON.parse(line).ticket},"type":"again"}`) : pass(line);
+  await ann.click("Take 1");
+  await ann.sees(".big", "20 are left");
+  const acts = relay.asked.filter(ofType("act"));
+  same([acts.length, new Set(acts).size], [4, 1], "one line was sent four times");
+  relay.onAsked = (line, { pass }) => pass(line);
+
+  // Lagging is said, and the page connects anew.
+  const connections = relay.connections;
+  relay.say('{"type":"bye","why":"lagging"}');
+  await says(ann, "This page fell too far behind, and the server ended its session.");
+  relay.cut();
+  await ann.until(async () => relay.connections > connections, true, "a new connection after lagging");
+  await ann.sees(".big", "20 are left");
+  await ann.sees("#link-words", "Connected");
+
+  // An update is missing: the page begins the stream anew.
+  const before = relay.connections;
+  relay.onTold = (line) => ofType("update")(line) ? line.replace(/"number":(\d+),"type":"update"/, (all, number) => all.replace(number, Number(number) + 1)) : line;
+  await ann.click("Take 1");
+  await ann.until(async () => relay.connections > before, true, "a new connection after a gap");
+  relay.onTold = (line) => line;
+  await ann.sees(".big", "19 are left");
+
+  // A verdict of another server, with a reason that the page doesn't know.
+  relay.onAsked = (line, { pass, answer }) => ofType("act")(line) ? answer(`{"number":0,"reason":"on-strike","ticket":1,"type":"no"}`) : pass(line);
+  await ann.click("Take 1");
+  await says(ann, "The server refused that: on-strike.");
+  relay.onAsked = (line, { pass }) => pass(line);
+
+  // The server falls silent: the page says so, and tries anew.
+  same((await scene.session.ask({ match, type: "look" })).row.players[0].name, "ann", "the seat was kept all along");
+  await done(ann);
+  relay.close();
+}
+
+/** Every reason has words of its own. */
+export async function reasons(scene) {
+  const ann = await scene.browser.page("ann");
+  await ann.goto(scene.address);
+  const words = await ann.value(`import("./lines.js").then(({ inWords }) => {
+    const no = ${JSON.stringify("no-match unauthorized game-over match-full cannot-undo-now not-active unknown-move wrong-number nothing-to-undo nothing-to-redo not-yours not-undoable invalid-move too-early too-many-words too-many-events".split(" "))};
+    const refused = ${JSON.stringify("bad-message no-game full bad-seats no-start no-match no-seat seat-taken bad-name unauthorized already-attached not-attached not-a-bot".split(" "))};
+    return [...no.map((reason) => inWords({ type: "no", reason })), ...refused.map((reason) => inWords({ type: "refused", reason, field: null })),
+      ...["left", "lagging"].map((why) => inWords({ type: "bye", why })), inWords({ type: "again", ticket: null })];
+  })`);
+  same(words.length, 32, "reasons");
+  same(new Set(words).size, 32, "no two reasons have the same words");
+  same(words.filter((one) => /server refused that|ended the session:|answered/.test(one)), [], "each reason is known");
+  await done(ann);
+}
+
+/** A game that the page doesn't know is shown plainly, and can be played by the names of its moves. */
+export async function unknownGame(scene) {
+  const { browser, files, server } = scene;
+  const relay = await startRelay(server);
+  relay.onTold = (line) => line.replaceAll('"game":"countdown"', '"game":"mystery"');
+  const ann = await browser.page("ann");
+  await makeMatch(ann, pageAt(files, relay.address), "countdown", 2);
+  await ann.sees("h1", "mystery");
+  await sit(ann, 0, "ann");
+  same((await ann.text(".state")).replace(/\s/g, ""), '{"heap":21,"last":null}', "the state as it is");
+  await ann.type("#move-name", "take");
+  await ann.type("#move-arguments", "4");
+  await ann.click("Move");
+  await says(ann, "The rules of the game do not allow that.");
+  await ann.type("#move-arguments", "2");
+  await ann.click("Move");
+  await ann.until((page) => page.text(".state").then((text) => text.replace(/\s/g, "")), '{"heap":19,"last":0}', "the state after a move");
+  same(await log(ann), ["ann take 2"], "the log of an unknown game");
+  await ann.click("Undo");
+  await ann.until((page) => page.text(".state").then((text) => text.replace(/\s/g, "")), '{"heap":21,"last":null}', "the state after an undo");
+  await done(ann);
+  relay.close();
+}
