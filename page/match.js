@@ -31,7 +31,7 @@ export class Match {
     this.#connection = new Connection(place.address, {
       opened: () => this.#guard(() => this.#begin()),
       heard: (line, text) => this.#heard(line, text),
-      told: place.told,
+      told: (state, seconds) => this.#told(state, seconds),
     });
     this.#timer = setInterval(() => { if (!document.hidden) this.#guard(() => this.#look()); }, LOOK);
   }
@@ -54,6 +54,13 @@ export class Match {
     } catch (why) {
       if (!(why instanceof Cut)) throw why;
     }
+  }
+
+  /** Without a connection there is no view: what is shown may be old, and nothing can be asked for. */
+  #told(state, seconds) {
+    if (state !== "open") this.#view = null;
+    this.#place.told(state, seconds);
+    this.#draw();
   }
 
   /** A new connection: finds the match, and begins its stream from the kept seat, or as a spectator. */
@@ -117,7 +124,9 @@ export class Match {
   // ---- what the player does
 
   #act(asked) {
-    const line = this.#acting ? null : this.#view?.act(asked);
+    if (this.#acting) return;
+    if (!this.#view?.shown) return this.#say("There is no connection yet, and what you see may be old. Wait a moment.");
+    const line = this.#view.act(asked);
     if (!line) return;
     this.#acting = { asked, number: this.#shown.number };
     this.#say("");
@@ -221,7 +230,7 @@ export class Match {
     setText(p.details, [`Turn ${ctx.turn}`, ctx.phase && `phase ${ctx.phase}`, stage && `stage ${stage}`,
       `${number} ${number === 1 ? "action" : "actions"} so far`, this.#seat === null && "you look on"].filter(Boolean).join(" · "));
     this.#board.show(table);
-    p.board.classList.toggle("waits", this.#acting !== null);
+    p.board.classList.toggle("waits", this.#acting !== null || !this.#view?.shown);
     this.#drawBack(may);
     this.#seats.show({ players: this.#row.players, active, seat: this.#seat, over: end !== null });
     this.#log.show(log, this.#game, name);

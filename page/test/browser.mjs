@@ -21,9 +21,11 @@ export async function openBrowser() {
   return {
     page: (name, size) => openPage(tools, name, size),
     async close() {
-      process.kill();
+      tools.call("Browser.close");
+      await Promise.race([ended, later(5_000)]);
+      process.kill("SIGKILL");
       await ended;
-      rmSync(profile, { recursive: true, force: true, maxRetries: 5 });
+      rmSync(profile, { recursive: true, force: true, maxRetries: 20 });
     },
   };
 }

@@ -17,8 +17,11 @@ export async function cuts(scene) {
   await ann.until(`/^The connection broke. Trying again in \\d+ s.$/.test(document.getElementById("link-words").innerText)`, true);
   await ann.until(`Number(/in (\\d+) s/.exec(document.getElementById("link-words").innerText)?.[1]) >= 2`, true, "the pauses grow");
   relay.open = true;
+  await ann.click("Take 3");
+  await says(ann, "There is no connection yet, and what you see may be old. Wait a moment.");
   await ann.click("Try now");
   await ann.sees("#link-words", "Connected");
+  await ann.until(`document.querySelector(".board.waits")`, null, "the stream has begun anew");
   await ann.click("Take 2");
   await ann.sees(".big", "19 are left");
 

@@ -39,7 +39,7 @@ export async function phone(scene) {
   bob.close();
   for (const game of ["countdown", "pig", "high-hand", "blind-bid", "captions"]) {
     const made = await makeMatch(ann, address, game, 2);
-    await sit(ann, 0, "a name of thirty-two bytes, so ..");
+    await sit(ann, 0, "a name of thirty-two bytes, so .");
     await isForPhones(ann, game);
     const seat = JSON.parse(await ann.value(`localStorage.getItem(Object.keys(localStorage).find((one) => one.startsWith("seat ${made.match} ")))`));
     await session.ask({ key: seat.key, match: made.match, seat: 0, type: "leave" });
