@@ -17,7 +17,7 @@ export class Lobby {
     this.#alert = element("p", { class: "alert", role: "alert" });
     this.#list = element("div", { class: "games" });
     const intro = element("p", { class: "quiet" }, "Make a match and send its link to a friend, or take a free seat in one that is there.");
-    place.main.replaceChildren(element("h1", {}, "Matches"), intro, this.#alert, this.#list);
+    place.main.replaceChildren(element("h1", { tabIndex: -1 }, "Matches"), intro, this.#alert, this.#list);
     document.title = "Sarpuntxe";
     // A connection takes one of the server's few places, so a lobby that nobody sees gives its place back.
     this.#onVisible = () => document.hidden ? this.#rest() : this.connect();

@@ -11,6 +11,7 @@ let shown = null;
 function go(match) {
   history.pushState(null, "", linkTo(match));
   show();
+  by("main").querySelector("h1").focus();
 }
 
 function show() {

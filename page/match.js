@@ -187,7 +187,7 @@ export class Match {
     const link = part("input", { class: "address", readOnly: true, value: linkTo(this.#match), "aria-label": "Link to this match" });
     const copy = button("Copy the link", () => this.#copy(link, copy));
     this.#parts = {
-      title: part("h1", {}, "Match"),
+      title: part("h1", { tabIndex: -1 }, "Match"),
       rules: part("p", { class: "quiet" }),
       turn: part("p", { class: "turn", role: "status" }),
       details: part("p", { class: "quiet details" }),
@@ -203,7 +203,10 @@ export class Match {
       part("section", {}, part("h2", {}, "Invite"), part("p", { class: "quiet" }, "Whoever has this link can take a free seat, or look on."),
         part("div", { class: "choices" }, link, copy)),
       part("section", {}, part("h2", {}, "What was done"), this.#log.element));
-    this.#place.main.replaceChildren(p.title, p.rules, part("div", { class: "match" }, table, beside));
+    // Nothing is shown before the first state, so that nothing moves under a finger.
+    p.all = part("div", { class: "match", hidden: true }, table, beside);
+    p.early = part("p", { class: "quiet" }, `Match ${this.#match} is being fetched …`);
+    this.#place.main.replaceChildren(p.title, p.rules, p.early, p.all);
   }
 
   #layGame(name) {
@@ -222,6 +225,7 @@ export class Match {
     const may = active.some((one) => one.seat === this.#seat);
     const table = { ...this.#shown, before: this.#before, seat: this.#seat, may, seats: ctx.numPlayers, name };
     const p = this.#parts;
+    [p.early.hidden, p.all.hidden] = [true, false];
     const end = ending(ctx.gameover, this.#seat, name);
     setText(p.turn, end ?? [turnWords(ctx, this.#seat, name), may ? this.#game.hint(table) : ""].join(" ").trim());
     p.turn.classList.toggle("own", may);
@@ -252,15 +256,16 @@ export class Match {
     this.#place.told("rests");
     const home = element("a", { href: linkTo(null) }, "See the matches that there are");
     home.addEventListener("click", (event) => { event.preventDefault(); this.#place.go(null); });
-    this.#place.main.replaceChildren(element("h1", {}, `Match ${this.#match}`), element("p", { class: "alert", role: "alert" }, words),
+    this.#place.main.replaceChildren(element("h1", { tabIndex: -1 }, `Match ${this.#match}`), element("p", { class: "alert", role: "alert" }, words),
       element("p", {}, "It may have been removed with its last player, or the server was started anew."), element("p", {}, home));
     document.title = "No such match";
   }
 
   async #copy(link, copy) {
     link.select();
-    try { await navigator.clipboard.writeText(link.value); } catch { document.execCommand("copy"); }
-    setText(copy, "Copied");
+    const written = navigator.clipboard?.writeText(link.value) ?? Promise.reject();
+    const copied = await written.then(() => true, () => document.execCommand("copy"));
+    setText(copy, copied ? "Copied" : "Copy it by hand");
     setTimeout(() => setText(copy, "Copy the link"), 2_000);
   }
 }

@@ -3,7 +3,7 @@ import { spawn } from "node:child_process";
 import { mkdtempSync, rmSync, writeFileSync } from "node:fs";
 import { tmpdir } from "node:os";
 
-const PATIENCE = 30_000;
+const PATIENCE = 40_000;
 const STEP = 25;
 const later = (pause) => new Promise((done) => setTimeout(done, pause));
 
@@ -200,6 +200,7 @@ class Page {
   /** Types a text into a field, in place of what it holds. */
   async type(what, text) {
     await this.click(what);
+    await this.until(`document.activeElement === (${FIND})(${JSON.stringify(what)})`, true, `${what} has the focus`);
     await this.value("document.activeElement.select()");
     await this.call("Input.insertText", { text });
   }
@@ -213,7 +214,11 @@ class Page {
     })()`);
   }
 
-  async picture(file) {
+  /** A picture of the top of the page, at a size. */
+  async picture(file, size) {
+    await this.look(size);
+    await this.value("document.activeElement.blur(), scrollTo(0, 0)");
+    await later(300);
     const { data } = await this.call("Page.captureScreenshot", { format: "png" });
     writeFileSync(file, Buffer.from(data, "base64"));
   }

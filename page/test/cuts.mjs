@@ -2,6 +2,7 @@
 import { done, log, makeMatch, pageAt, same, says, sit } from "./people.mjs";
 import { startRelay } from "./relay.mjs";
 
+const ready = (page) => page.until(`document.querySelectorAll(".board:not(.waits)").length`, 1, "the stream has begun");
 const ofType = (type) => (line) => JSON.parse(line).type === type;
 
 export async function cuts(scene) {
@@ -21,7 +22,7 @@ export async function cuts(scene) {
   await says(ann, "There is no connection yet, and what you see may be old. Wait a moment.");
   await ann.click("Try now");
   await ann.sees("#link-words", "Connected");
-  await ann.until(`document.querySelector(".board.waits")`, null, "the stream has begun anew");
+  await ready(ann);
   await ann.click("Take 2");
   await ann.sees(".big", "19 are left");
 
@@ -29,6 +30,7 @@ export async function cuts(scene) {
   relay.onAsked = (line, { pass }) => ofType("act")(line) ? relay.cut() : pass(line);
   await ann.click("Undo");
   await says(ann, "The connection broke before what you did had counted. Choose anew.");
+  await ready(ann);
   await ann.sees(".big", "19 are left");
 
   // An act counts, and its verdict is lost.
@@ -37,6 +39,7 @@ export async function cuts(scene) {
   await ann.click("Undo");
   await says(ann, "The connection broke, but what you did has counted.");
   relay.onTold = (line) => line;
+  await ready(ann);
   await ann.sees(".big", "21 are left");
   same(await log(ann), ["ann took back: took 2", "ann took 2"], "the log after two cuts");
 
@@ -56,6 +59,7 @@ export async function cuts(scene) {
   await says(ann, "This page fell too far behind, and the server ended its session.");
   relay.cut();
   await ann.until(async () => relay.connections > connections, true, "a new connection after lagging");
+  await ready(ann);
   await ann.sees(".big", "20 are left");
   await ann.sees("#link-words", "Connected");
 
@@ -66,6 +70,7 @@ export async function cuts(scene) {
   await ann.until(async () => relay.connections > before, true, "a new connection after a gap");
   relay.onTold = (line) => line;
   await ann.sees(".big", "19 are left");
+  await ready(ann);
 
   // A verdict of another server, with a reason that the page doesn't know.
   relay.onAsked = (line, { pass, answer }) => ofType("act")(line) ? answer(`{"number":0,"reason":"on-strike","ticket":1,"type":"no"}`) : pass(line);
@@ -73,7 +78,29 @@ export async function cuts(scene) {
   await says(ann, "The server refused that: on-strike.");
   relay.onAsked = (line, { pass }) => pass(line);
 
-  // The server falls silent: the page says so, and tries anew.
+  // The server answers nothing any more: the page notices by itself, and connects anew.
+  const answered = relay.connections;
+  relay.onAsked = () => {};
+  await ann.until(async () => relay.connections > answered, true, "a new connection after a long silence");
+  relay.onAsked = (line, { pass }) => pass(line);
+  await ann.sees("#link-words", "Connected");
+
+  // A server whose places are all taken hears a new connection only later.
+  relay.silent = true;
+  await ann.goto(pageAt(files, relay.address));
+  await ann.sees("#link-words", "The server does not answer yet: all its places may be taken.");
+  relay.silent = false;
+  await ann.reload();
+  await ann.sees("#link-words", "Connected");
+
+  // A lobby that nobody sees gives its place back.
+  await ann.until(async () => relay.standing(), 1, "one connection");
+  const hide = (hidden) => ann.value(`Object.defineProperty(document, "hidden", { value: ${hidden}, configurable: true }),
+    document.dispatchEvent(new Event("visibilitychange"))`);
+  await hide(true);
+  await ann.until(async () => relay.standing(), 0, "no connection of a hidden lobby");
+  await hide(false);
+  await ann.until(async () => relay.standing(), 1, "one connection again");
   same((await scene.session.ask({ match, type: "look" })).row.players[0].name, "ann", "the seat was kept all along");
   await done(ann);
   relay.close();

@@ -65,7 +65,7 @@ export async function highHand(scene) {
   await bob.sees(".turn", "Your turn. Lay a card of your hand.");
   await bob.click(held[1][0]);
   await shows(9);
-  if (scene.pictures) await bob.picture(`${scene.pictures}/page-high-hand.png`);
+  if (scene.pictures) await bob.picture(`${scene.pictures}/page-high-hand.png`, { width: 1000, height: 780 });
   await bob.click("End the turn");
   await shows(10);
   for (const [number, page, what] of [[11, ann, held[0][0]], [12, ann, "End the turn"], [13, bob, held[1][1]], [14, bob, "End the turn"]]) {

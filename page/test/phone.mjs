@@ -31,8 +31,7 @@ export async function phone(scene) {
   await isForPhones(ann, "tic-tac-toe");
   await ann.until((page) => page.text(".seats li:last-child bdi"), "bob", "the other's name");
   if (scene.pictures) {
-    await ann.value("scrollTo(0, 0)");
-    await ann.picture(`${scene.pictures}/page-phone.png`);
+    await ann.picture(`${scene.pictures}/page-phone.png`, { ...PHONE, dark: true });
   }
   await ann.tap("bottom left: free");
   await ann.sees(".turn", "You have won!");
@@ -47,5 +46,6 @@ export async function phone(scene) {
   await ann.goto(address);
   await ann.until((page) => page.texts(".game").then((all) => all.length), 6, "games");
   await isForPhones(ann, "the lobby");
+  if (scene.pictures) await ann.picture(`${scene.pictures}/page-lobby.png`, { width: 1000, height: 780 });
   await done(ann);
 }

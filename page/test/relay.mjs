@@ -36,8 +36,11 @@ export async function startRelay(server) {
     onAsked: (line, { pass }) => pass(line),
     /** What becomes of a line from the server. */
     onTold: (line) => line,
+    /** Whether connections are taken at all, and whether those that are taken hear anything. */
     open: true,
+    silent: false,
     connections: 0,
+    standing: () => sockets.size,
     asked: [],
     cut() { sockets.forEach((socket) => socket.destroy()); },
     say(line) { sockets.forEach((socket) => socket.write(frame(line))); },
@@ -47,6 +50,7 @@ export async function startRelay(server) {
   const http = createServer((request, response) => response.writeHead(404).end());
   http.on("upgrade", (request, socket) => {
     if (!relay.open) return socket.destroy();
+    if (relay.silent) return;
     relay.connections++;
     sockets.add(socket);
     const accept = createHash("sha1").update(request.headers["sec-websocket-key"] + MAGIC).digest("base64");
@@ -68,6 +72,7 @@ export async function startRelay(server) {
       });
     });
     const over = () => { sockets.delete(socket); upstream.close(); };
+    socket.on("end", () => socket.end());
     socket.on("close", over);
     socket.on("error", over);
   });

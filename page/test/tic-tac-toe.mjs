@@ -13,6 +13,8 @@ export async function ticTacToe(scene) {
   same(await eve.texts(".details"), ["Turn 1 · 0 actions so far · you look on"], "the spectator's details");
   same(await eve.texts("#take-0, #take-1"), [], "a full match offers no seat");
 
+  await ann.click("Copy the link");
+  await ann.until((page) => page.texts(".address + button"), ["Copied"], "the link is copied");
   await bob.click("middle: free");
   await says(bob, "It is not your turn.");
   await ann.click("middle: free");
