@@ -45,5 +45,8 @@ by("home").onclick = (event) => {
   go(null);
 };
 addEventListener("popstate", show);
+// A page that the browser keeps for going back gives its connection back, and begins anew when it is shown again.
+addEventListener("pagehide", () => shown.close());
+addEventListener("pageshow", (event) => { if (event.persisted) show(); });
 addEventListener("online", () => shown.connect());
 show();

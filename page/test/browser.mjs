@@ -122,6 +122,13 @@ class Page {
     await loaded;
   }
 
+  /** Goes back, as by the browser's own button. */
+  async goBack() {
+    const { currentIndex, entries } = await this.call("Page.getNavigationHistory");
+    await this.call("Page.navigateToHistoryEntry", { entryId: entries[currentIndex - 1].id });
+    await later(500);
+  }
+
   async value(expression) {
     const { result, exceptionDetails } = await this.call("Runtime.evaluate", { expression, returnByValue: true, awaitPromise: true });
     if (exceptionDetails) throw new Failure(`${this.name}: ${expression}: ${exceptionDetails.exception?.description}`);

@@ -101,7 +101,16 @@ export async function cuts(scene) {
   await ann.until(async () => relay.standing(), 0, "no connection of a hidden lobby");
   await hide(false);
   await ann.until(async () => relay.standing(), 1, "one connection again");
-  same((await scene.session.ask({ match, type: "look" })).row.players[0].name, "ann", "the seat was kept all along");
+
+  // So does a page that is left, also if the browser keeps it for going back; then it begins anew, at the same seat.
+  await ann.goto(`${pageAt(files, relay.address)}&match=${match}`);
+  await ready(ann);
+  await ann.goto(`${files}icon.svg`);
+  await ann.until(async () => relay.standing(), 0, "no connection of a page that was left");
+  await ann.goBack();
+  await ready(ann);
+  await ann.until((page) => page.texts(".seats .notes"), ["you", "may act"], "the seat after going back");
+  await ann.until(async () => relay.standing(), 1, "one connection after going back");
   await done(ann);
   relay.close();
 }
