@@ -4,8 +4,9 @@ const MATCH = /^\d{1,2}-[1-9]\d{0,19}$/;
 
 /** The server: `?server=ws://HOST:PORT/`, or where the page itself came from. */
 export function serverAddress({ search, protocol, host, pathname } = location) {
-  const said = new URLSearchParams(search).get("server");
-  return said ?? `${protocol === "https:" ? "wss:" : "ws:"}//${host}${pathname}`;
+  const said = new URLSearchParams(search).get("server") ?? `${protocol === "https:" ? "wss:" : "ws:"}//${host}${pathname}`;
+  // Two ways to write one address are one server, whose keys are kept once.
+  try { return new URL(said).href; } catch { return said; }
 }
 
 /** The match that the address names, or null. */

@@ -10,7 +10,7 @@ import { listed, plain } from "./words.js";
 const REFRESH = 4_000;
 
 export class Lobby {
-  #place; #connection = null; #games = new Map(); #list; #alert; #timer; #onVisible;
+  #place; #connection = null; #games = new Map(); #list; #alert; #timer; #onVisible; #asking = false;
 
   constructor(place) {
     this.#place = place;
@@ -65,10 +65,15 @@ export class Lobby {
     this.#refresh();
   }
 
-  #refresh() {
-    for (const [name, { matches, none }] of this.#games) {
-      this.#ask(lines.matches(name)).then((answer) => { if (answer) this.#showMatches(matches, none, answer.matches); });
-    }
+  /** Asks for the matches of each game, unless it still waits for those that it has asked for. */
+  async #refresh() {
+    if (this.#asking) return;
+    this.#asking = true;
+    await Promise.all([...this.#games].map(async ([name, { matches, none }]) => {
+      const answer = await this.#ask(lines.matches(name));
+      if (answer) this.#showMatches(matches, none, answer.matches);
+    }));
+    this.#asking = false;
   }
 
   /** The part of a game: its rules, a form for a new match, and its matches. */

@@ -10,12 +10,13 @@ export class Log {
   /** Shows a log. Entries that are undone are struck through. */
   show(log, game, name) {
     const { undone, about } = trail(log);
+    const struck = new Set(undone);
     const say = (act) => act.kind === "move" ? game.say(act) : eventWords(act, name);
     while (this.#items.length > log.length) this.#items.pop().remove();
     log.forEach((entry, at) => {
       const item = this.#items[at] ?? this.#add(entry);
       setText(item.querySelector("bdi"), entryWords(entry, log[about[at]].act, say, name));
-      item.classList.toggle("undone", undone.includes(at));
+      item.classList.toggle("undone", struck.has(at));
     });
   }
 

@@ -11,7 +11,7 @@ import { View } from "./view.js";
 import { activeSeats, backAndForth, ending, plain, turnWords } from "./words.js";
 
 const LOOK = 4_000;
-const PAUSE_AFTER_AGAIN = 5_000;
+const PAUSE_AFTER_REFUSAL = 5_000;
 const STREAM = ["sync", "update", "change", "ok", "no", "again", "bye"];
 
 export class Match {
@@ -65,17 +65,20 @@ export class Match {
 
   /** A new connection: finds the match, and begins its stream from the kept seat, or as a spectator. */
   async #begin() {
-    if (!await this.#look()) return;
-    const kept = seatIn(this.#place.address, this.#match);
-    let answer = await this.#sync(kept?.seat ?? null, kept?.key ?? null);
-    if (kept && answer.reason === "unauthorized") {
-      forgetSeat(this.#place.address, this.#match);
-      this.#say("The seat that you had here is no longer yours. You look on.");
-      answer = await this.#sync(null, null);
-    }
+    const found = await this.#look();
+    const answer = found.type === "match" ? await this.#syncFromKept() : found;
     if (answer.type === "sync") return this.#settle();
     this.#say(lines.inWords(answer));
-    setTimeout(() => this.connect(), PAUSE_AFTER_AGAIN);
+    setTimeout(() => this.connect(), PAUSE_AFTER_REFUSAL);
+  }
+
+  async #syncFromKept() {
+    const kept = seatIn(this.#place.address, this.#match);
+    const answer = await this.#sync(kept?.seat ?? null, kept?.key ?? null);
+    if (!kept || answer.reason !== "unauthorized") return answer;
+    forgetSeat(this.#place.address, this.#match);
+    this.#say("The seat that you had here is no longer yours. You look on.");
+    return this.#sync(null, null);
   }
 
   #sync(seat, key) {
@@ -84,15 +87,15 @@ export class Match {
     return this.#connection.ask(this.#view.begin());
   }
 
-  /** Asks who sits where, since nobody is told. Answers whether the match is there. */
+  /** Asks who sits where, since nobody is told. */
   async #look() {
     const answer = await this.#connection.ask(lines.look(this.#match));
     if (answer.reason === "no-match") this.#gone(lines.inWords(answer));
-    if (answer.type !== "match") return false;
+    if (answer.type !== "match") return answer;
     this.#row = answer.row;
     if (!this.#game) this.#layGame(answer.row.game);
     this.#draw();
-    return true;
+    return answer;
   }
 
   #heard(line, text) {
@@ -173,7 +176,7 @@ export class Match {
   // ---- what is shown
 
   #say(words) {
-    setText(this.#parts.alert, words);
+    setText(this.#parts.all.hidden ? this.#parts.early : this.#parts.alert, words);
   }
 
   #name(seat) {

@@ -8,7 +8,7 @@ export default {
   rules: "Draw two cards each. Then lay one a turn: the highest on the table scores. Most points win.",
   undoable: ["lay"],
   say: ({ move: name, args }) => name === "draw" ? "drew a card" : `laid card ${args[0] + 1} of the hand`,
-  hint: ({ ctx }) => ctx.phase === "draw" ? "Draw a card." : ctx.numMoves ? "End the turn." : "Lay a card of your hand.",
+  hint: ({ ctx }) => ctx.phase === "draw" ? "Draw a card." : ctx.numMoves ? "End the turn, or take the card back." : "Lay a card of your hand.",
 
   make(act) {
     const left = element("p", { class: "quiet" });

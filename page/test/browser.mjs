@@ -3,7 +3,8 @@ import { spawn } from "node:child_process";
 import { mkdtempSync, rmSync, writeFileSync } from "node:fs";
 import { tmpdir } from "node:os";
 
-const PATIENCE = 40_000;
+// How long a page may take to show what is wanted, in milliseconds.
+const PATIENCE = Number(process.env.PATIENCE ?? 40_000);
 const STEP = 25;
 const later = (pause) => new Promise((done) => setTimeout(done, pause));
 
@@ -13,27 +14,27 @@ export class Failure extends Error {}
 export async function openBrowser() {
   const profile = mkdtempSync(`${tmpdir()}/page-test-`);
   const words = ["--headless", "--no-sandbox", "--disable-gpu", "--remote-debugging-port=0", "--remote-allow-origins=*", `--user-data-dir=${profile}`];
-  const process = spawn(globalThis.process.env.CHROMIUM ?? "chromium", [...words, "about:blank"], { stdio: ["ignore", "ignore", "pipe"] });
-  const ended = new Promise((done) => process.on("exit", done));
-  process.on("error", (why) => { console.error(`Chromium cannot be started: ${why.message}`); globalThis.process.exit(1); });
-  const tools = new Tools(await addressOf(process));
+  const chromium = spawn(process.env.CHROMIUM ?? "chromium", [...words, "about:blank"], { stdio: ["ignore", "ignore", "pipe"] });
+  const ended = new Promise((done) => chromium.on("exit", done));
+  chromium.on("error", (why) => { console.error(`Chromium cannot be started: ${why.message}`); process.exit(1); });
+  const tools = new Tools(await addressOf(chromium));
   await tools.open();
   return {
     page: (name, size) => openPage(tools, name, size),
     async close() {
       tools.call("Browser.close");
       await Promise.race([ended, later(5_000)]);
-      process.kill("SIGKILL");
+      chromium.kill("SIGKILL");
       await ended;
       rmSync(profile, { recursive: true, force: true, maxRetries: 20 });
     },
   };
 }
 
-function addressOf(process) {
+function addressOf(chromium) {
   return new Promise((found) => {
     let said = "";
-    process.stderr.on("data", (data) => {
+    chromium.stderr.on("data", (data) => {
       said += data;
       const address = /DevTools listening on (ws:\S+)/.exec(said);
       if (address) found(address[1]);

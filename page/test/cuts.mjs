@@ -1,4 +1,5 @@
 // Connections that break, a server that is out of memory, a page that lags, and a game that the page doesn't know.
+import { readFile } from "node:fs/promises";
 import { done, log, makeMatch, pageAt, same, says, sit } from "./people.mjs";
 import { startRelay } from "./relay.mjs";
 
@@ -46,7 +47,8 @@ export async function cuts(scene) {
   // The server is out of memory three times: the same line is sent once more each time.
   let refused = 0;
   relay.asked.length = 0;
-  relay.onAsked = (line, { pass, answer }) => ofType("act")(line) && refused++ < 3 ? answer(`{"ticket":${JSON.parse(line).ticket},"type":"again"}`) : pass(line);
+  relay.onAsked = (line, { pass, answer }) =>
+    ofType("act")(line) && refused++ < 3 ? answer(`{"ticket":${JSON.parse(line).ticket},"type":"again"}`) : pass(line);
   await ann.click("Take 1");
   await ann.sees(".big", "20 are left");
   const acts = relay.asked.filter(ofType("act"));
@@ -65,7 +67,8 @@ export async function cuts(scene) {
 
   // An update is missing: the page begins the stream anew.
   const before = relay.connections;
-  relay.onTold = (line) => ofType("update")(line) ? line.replace(/"number":(\d+),"type":"update"/, (all, number) => all.replace(number, Number(number) + 1)) : line;
+  const skipped = (line) => line.replace(/"number":(\d+),"type":"update"/, (all, number) => all.replace(number, Number(number) + 1));
+  relay.onTold = (line) => ofType("update")(line) ? skipped(line) : line;
   await ann.click("Take 1");
   await ann.until(async () => relay.connections > before, true, "a new connection after a gap");
   relay.onTold = (line) => line;
@@ -73,7 +76,8 @@ export async function cuts(scene) {
   await ready(ann);
 
   // A verdict of another server, with a reason that the page doesn't know.
-  relay.onAsked = (line, { pass, answer }) => ofType("act")(line) ? answer(`{"number":0,"reason":"on-strike","ticket":1,"type":"no"}`) : pass(line);
+  const strike = `{"number":0,"reason":"on-strike","ticket":1,"type":"no"}`;
+  relay.onAsked = (line, { pass, answer }) => ofType("act")(line) ? answer(strike) : pass(line);
   await ann.click("Take 1");
   await says(ann, "The server refused that: on-strike.");
   relay.onAsked = (line, { pass }) => pass(line);
@@ -111,22 +115,27 @@ export async function cuts(scene) {
   await ready(ann);
   await ann.until((page) => page.texts(".seats .notes"), ["you", "may act"], "the seat after going back");
   await ann.until(async () => relay.standing(), 1, "one connection after going back");
+
+  // An address that is none is said.
+  await ann.goto(pageAt(files, "ws://:0:0/"));
+  await ann.sees("#link-words", "This address cannot be connected to.");
   await done(ann);
   relay.close();
 }
 
-/** Every reason has words of its own. */
+/** Every reason that docs/PROTOCOL.md names has words of its own. */
 export async function reasons(scene) {
+  const protocol = await readFile(new URL("../../docs/PROTOCOL.md", import.meta.url), "utf8");
+  const quoted = (text, pattern) => [...text.matchAll(pattern)].map((found) => found[1]);
+  const no = quoted(protocol.split("\n## Reasons\n")[1].split("\n## ")[0], /^\| `([\w-]+)` \|/gm);
+  const refused = quoted(/\nW is one of ([^.]*)\./.exec(protocol)[1], /`([\w-]+)`/g);
+  same([no.length, refused.length], [16, 13], "the reasons of the protocol");
+  const lines = [...no.map((reason) => ({ type: "no", reason })), ...refused.map((reason) => ({ type: "refused", reason, field: null })),
+    ...["left", "lagging"].map((why) => ({ type: "bye", why })), { type: "again", ticket: null }];
   const ann = await scene.browser.page("ann");
   await ann.goto(scene.address);
-  const words = await ann.value(`import("./lines.js").then(({ inWords }) => {
-    const no = ${JSON.stringify("no-match unauthorized game-over match-full cannot-undo-now not-active unknown-move wrong-number nothing-to-undo nothing-to-redo not-yours not-undoable invalid-move too-early too-many-words too-many-events".split(" "))};
-    const refused = ${JSON.stringify("bad-message no-game full bad-seats no-start no-match no-seat seat-taken bad-name unauthorized already-attached not-attached not-a-bot".split(" "))};
-    return [...no.map((reason) => inWords({ type: "no", reason })), ...refused.map((reason) => inWords({ type: "refused", reason, field: null })),
-      ...["left", "lagging"].map((why) => inWords({ type: "bye", why })), inWords({ type: "again", ticket: null })];
-  })`);
-  same(words.length, 32, "reasons");
-  same(new Set(words).size, 32, "no two reasons have the same words");
+  const words = await ann.value(`import("./lines.js").then(({ inWords }) => ${JSON.stringify(lines)}.map(inWords))`);
+  same(new Set(words).size, lines.length, "no two reasons have the same words");
   same(words.filter((one) => /server refused that|ended the session:|answered/.test(one)), [], "each reason is known");
   await done(ann);
 }

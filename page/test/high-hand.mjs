@@ -19,7 +19,8 @@ export async function highHand(scene) {
     const { g: { common } } = await raw.at(number);
     for (const page of all) {
       await page.until(table, common.table.map((card) => card === null ? null : named(card)), "the table");
-      await page.until(scores, common.scores.map((score, at) => `${score} ${score === 1 ? "point" : "points"}, ${common.hands[at]} in hand`), "scores and hands");
+      const words = common.scores.map((score, at) => `${score} ${score === 1 ? "point" : "points"}, ${common.hands[at]} in hand`);
+      await page.until(scores, words, "scores and hands");
       await page.until((one) => one.texts(".board > div > .quiet"), [`${common.left} cards in the deck`], "the deck");
     }
   };
@@ -49,7 +50,7 @@ export async function highHand(scene) {
 
   await ann.click(held[0][1]);
   await shows(5);
-  await turns(all, ["Your turn. End the turn.", "ann's turn.", "ann's turn."]);
+  await turns(all, ["Your turn. End the turn, or take the card back.", "ann's turn.", "ann's turn."]);
   same(await hand(ann), [held[0][0]], "a laid card has left the hand");
   await ann.click(held[0][0]);
   await says(ann, "The rules of the game do not allow that.");
@@ -58,7 +59,8 @@ export async function highHand(scene) {
   await ann.until(hand, held[0], "the card is back in the hand");
   await ann.click("Redo");
   await shows(7);
-  same((await log(eve)).slice(0, 3), ["ann did again: laid card 2 of the hand", "ann took back: laid card 2 of the hand", "ann laid card 2 of the hand"], "the log");
+  const laid = "laid card 2 of the hand";
+  same((await log(eve)).slice(0, 3), [`ann did again: ${laid}`, `ann took back: ${laid}`, `ann ${laid}`], "the log");
   await bob.reload();
   await bob.until(hand, held[1], "bob's hand after a reload");
   await ann.click("End the turn");

@@ -1,7 +1,8 @@
 // node --experimental-websocket page/test/play.mjs [--pictures FOLDER] [NAME ..]
 //
 // Plays on the page in headless Chromium: every game by clicking, two players and a spectator each, and whatever can go wrong.
-// SARPUNTXE_PROGRAM names the program that serves, SARPUNTXE_SERVER a server that runs already, and CHROMIUM the browser.
+// SARPUNTXE_PROGRAM names the program that serves, SARPUNTXE_SERVER a server that runs already, CHROMIUM the browser,
+// and PATIENCE how many milliseconds a page may take to show what is wanted.
 import { fileURLToPath } from "node:url";
 import { openBrowser } from "./browser.mjs";
 import { serveFiles } from "./files.mjs";

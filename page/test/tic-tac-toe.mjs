@@ -29,12 +29,12 @@ export async function ticTacToe(scene) {
 
   // By keyboard: one cell is reached by Tab, the arrows go on from there.
   await bob.value(`document.querySelector(".cell[tabindex='0']").focus()`);
-  await bob.key("Home");
-  await bob.key("ArrowRight");
-  await bob.key("ArrowDown");
-  await bob.key("ArrowUp");
-  await bob.key("ArrowLeft");
-  same(await bob.value("document.activeElement.getAttribute('aria-label')"), "top left: free", "the focus follows the arrows");
+  for (const [key, cell] of [["End", "bottom right: free"], ["ArrowLeft", "bottom: free"], ["ArrowUp", "middle: cross"], ["ArrowRight", "right: free"],
+    ["ArrowDown", "bottom right: free"], ["Home", "top left: free"], ["ArrowLeft", "top left: free"]]) {
+    await bob.key(key);
+    same(await bob.value("document.activeElement.getAttribute('aria-label')"), cell, `the focus after ${key}`);
+  }
+  same(await bob.value(`document.querySelectorAll(".cell[tabindex='0']").length`), 1, "one cell is reached by Tab");
   await bob.key("Enter");
   await shows("◯...✕....");
   same(await alert(bob), null, "an accepted act clears what was refused");
@@ -53,7 +53,8 @@ export async function ticTacToe(scene) {
   await ann.click("bottom left: free");
   await shows("◯.✕.✕.✕.◯");
   await turns(all, ["You have won!", "<b>ann</b> has won.", "<b>ann</b> has won."]);
-  for (const page of all) same(await page.value(`[...document.querySelectorAll(".cell")].map((one, at) => one.classList.contains("wins") ? at : "").join("")`), "246", "the winning cells");
+  const winning = `[...document.querySelectorAll(".cell")].map((one, at) => one.classList.contains("wins") ? at : "").join("")`;
+  for (const page of all) same(await page.value(winning), "246", "the winning cells");
   await bob.click("top: free");
   await says(bob, "The match is over.");
   await eve.click("top: free");
