@@ -46,10 +46,12 @@ export class Connection {
 
   /** Sends a line. The answer is the server's line; a line that is answered `again` is sent again some times. */
   async ask(line) {
+    const socket = this.#socket;
     for (let times = 1; ; times++) {
       const answer = await this.#send(line);
       if (answer.type !== "again" || times === AGAIN_TIMES) return answer;
       await later(AGAIN_PAUSE * times);
+      if (this.#socket !== socket) throw new Cut();
     }
   }
 

@@ -28,6 +28,7 @@ export class Lobby {
 
   connect() {
     this.#rest();
+    if (document.hidden) return;
     this.#connection = new Connection(this.#place.address, { opened: () => this.#begin(), heard: () => {}, told: this.#place.told });
   }
 

@@ -14,14 +14,16 @@ export class Log {
     const say = (act) => act.kind === "move" ? game.say(act) : eventWords(act, name);
     while (this.#items.length > log.length) this.#items.pop().remove();
     log.forEach((entry, at) => {
-      const item = this.#items[at] ?? this.#add(entry);
+      const item = this.#items[at] ?? this.#add();
+      if (item.dataset.seat !== String(entry.seat)) item.firstChild.replaceWith(dot(entry.seat));
+      item.dataset.seat = entry.seat;
       setText(item.querySelector("bdi"), entryWords(entry, log[about[at]].act, say, name));
       item.classList.toggle("undone", struck.has(at));
     });
   }
 
-  #add({ seat }) {
-    const item = element("li", {}, dot(seat), element("bdi"));
+  #add() {
+    const item = element("li", {}, element("span"), element("bdi"));
     this.#items.push(item);
     this.#list.prepend(item);
     return item;

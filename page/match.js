@@ -16,7 +16,7 @@ const STREAM = ["sync", "update", "change", "ok", "no", "again", "bye"];
 
 export class Match {
   #place; #match; #connection; #timer;
-  #row = null; #game = null; #board = null; #view = null; #seat = null; #key = null;
+  #row = null; #gameName = null; #game = null; #board = null; #view = null; #seat = null; #key = null;
   #shown = null; #before = null; #acting = null;
   #parts = {}; #log = new Log(); #seats;
 
@@ -93,7 +93,7 @@ export class Match {
     if (answer.reason === "no-match") this.#gone(lines.inWords(answer));
     if (answer.type !== "match") return answer;
     this.#row = answer.row;
-    if (!this.#game) this.#layGame(answer.row.game);
+    if (this.#gameName !== answer.row.game) this.#layGame(answer.row.game);
     this.#draw();
     return answer;
   }
@@ -166,7 +166,10 @@ export class Match {
   #request(line, granted) {
     this.#say("");
     this.#guard(async () => {
-      const answer = await this.#connection.ask(line);
+      const answer = await this.#connection.ask(line).catch((why) => {
+        this.#say("The connection broke before that was answered.");
+        throw why;
+      });
       if (!["refused", "again"].includes(answer.type)) return granted(answer);
       this.#say(lines.inWords(answer));
       await this.#look();
@@ -213,7 +216,8 @@ export class Match {
   }
 
   #layGame(name) {
-    this.#game = gameNamed(name);
+    // A server that was started anew may have another match of this name.
+    [this.#gameName, this.#game, this.#shown, this.#before] = [name, gameNamed(name), null, null];
     this.#board = this.#game.make((asked) => this.#act(asked));
     setText(this.#parts.title, this.#game.title);
     setText(this.#parts.rules, `Match ${this.#match}. ${this.#game.rules}`);

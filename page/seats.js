@@ -24,6 +24,7 @@ export class Seats {
   }
 
   show({ players, active, seat, over }) {
+    while (this.#items.length > players.length) this.#items.pop().remove();
     players.forEach((player, at) => this.#showSeat(this.#items[at] ?? this.#add(at), player, { active, seat, over }));
     this.#sitting.hidden = seat !== null || players.every(({ name }) => name !== null);
     this.#name.parentElement.hidden = this.#sitting.hidden && seat === null;

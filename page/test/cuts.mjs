@@ -11,6 +11,13 @@ export async function cuts(scene) {
   const relay = await startRelay(server);
   const ann = await browser.page("ann");
   const { match } = await makeMatch(ann, pageAt(files, relay.address), "countdown", 2);
+  // A seat is asked for, and the connection breaks before the answer.
+  relay.onAsked = (line, { pass }) => ofType("join")(line) ? relay.cut() : pass(line);
+  await ann.type("#player-name", "ann");
+  await ann.click("#take-0");
+  await says(ann, "The connection broke before that was answered.");
+  relay.onAsked = (line, { pass }) => pass(line);
+  await ready(ann);
   await sit(ann, 0, "ann");
 
   // The connection breaks, and is refused for a while.
@@ -160,6 +167,13 @@ export async function unknownGame(scene) {
   same(await log(ann), ["ann take 2"], "the log of an unknown game");
   await ann.click("Undo");
   await ann.until((page) => page.text(".state").then((text) => text.replace(/\s/g, "")), '{"heap":21,"last":null}', "the state after an undo");
+
+  // A server that was started anew may have another match of this name: the page lays out that one's board.
+  relay.onTold = (line) => line;
+  relay.cut();
+  await ann.sees("h1", "Countdown");
+  await ann.sees(".big", "21 are left");
+  same(await ann.texts(".state"), [], "the other board is gone");
   await done(ann);
   relay.close();
 }

@@ -1,5 +1,5 @@
 // Whole matches of Blind Bid and Captions: what is sealed stays hidden until the end.
-import { done, log, same, says, seated, turns } from "./people.mjs";
+import { done, log, makeMatch, same, says, seated, sit, turns } from "./people.mjs";
 
 const rows = (page) => page.texts(".scores li");
 const shows = async (pages, wanted) => { for (const [at, page] of pages.entries()) await page.until(rows, wanted[at], "the rows"); };
@@ -44,6 +44,20 @@ export async function blindBid(scene) {
   await turns(all, ["You have won!", "ann has won.", "ann has won."]);
   for (const page of all) same(await page.texts(".scores .wins"), [told[0]], "the winner's row");
   same((await log(eve))[0], "bob sealed a bid", "a bid stays hidden in the log");
+
+  // Two like bids are a draw.
+  const { match } = await makeMatch(ann, scene.address, "blind-bid", 2);
+  await sit(ann, 0, "ann");
+  const { key } = await scene.session.ask({ match, name: "carl", seat: 1, type: "join" });
+  const carl = await scene.open();
+  await carl.follow(match, 1, key);
+  await carl.act(match, key, { args: [7], kind: "move", move: "bid" });
+  await ann.until(rows, ["1 ann has yet to choose boasts nothing", "2 carl sealed boasts nothing"], "the rows");
+  await ann.type("#bid", "7");
+  await ann.click("Seal the bid");
+  await ann.sees(".turn", "It is a draw.");
+  same(await ann.texts(".scores .wins"), [], "nobody's row is the winner's");
+  carl.close();
   await done(...all);
 }
 
