@@ -205,12 +205,12 @@ export class Match {
     const p = this.#parts;
     p.back = part("div", { class: "choices", hidden: true }, p.undo, p.redo);
     const table = part("section", { class: "table" }, p.turn, p.details, p.alert, p.board, p.back);
-    const beside = part("div", { class: "beside" }, this.#seats.element,
+    const beside = part("div", { class: "beside" },
       part("section", {}, part("h2", {}, "Invite"), part("p", { class: "quiet" }, "Whoever has this link can take a free seat, or look on."),
         part("div", { class: "choices" }, link, copy)),
       part("section", {}, part("h2", {}, "What was done"), this.#log.element));
     // Nothing is shown before the first state, so that nothing moves under a finger.
-    p.all = part("div", { class: "match", hidden: true }, table, beside);
+    p.all = part("div", { class: "match", hidden: true }, table, this.#seats.element, beside);
     p.early = part("p", { class: "quiet" }, `Match ${this.#match} is being fetched …`);
     this.#place.main.replaceChildren(p.title, p.rules, p.early, p.all);
   }
@@ -243,7 +243,9 @@ export class Match {
     this.#board.show(table);
     p.board.classList.toggle("waits", this.#acting !== null || !this.#view?.shown);
     this.#drawBack(may);
-    this.#seats.show({ players: this.#row.players, active, seat: this.#seat, over: end !== null });
+    const joins = this.#seat === null && end === null && this.#row.players.some((player) => player.name === null);
+    p.all.classList.toggle("joins", joins);
+    this.#seats.show({ players: this.#row.players, active, seat: this.#seat, joins });
     this.#log.show(log, this.#game, name);
     document.title = `${end ?? (may ? "Your turn" : "Waiting")} · ${this.#game.title}`;
   }

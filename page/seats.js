@@ -19,24 +19,25 @@ export class Seats {
       button("Yes, give it up", () => { stay(); leave(); }, { id: "give-up-really" }), button("No", stay));
     this.#seated = element("div", { class: "choices" },
       button("Rename me", () => rename(this.#typed()), { id: "rename" }), giveUp, this.#really);
-    this.element = element("section", {}, element("h2", {}, "Seats"), this.#list, this.#sitting,
+    this.element = element("section", { class: "sits" }, element("h2", {}, "Seats"), this.#list, this.#sitting,
       element("div", { class: "choices" }, label, this.#name), this.#seated);
   }
 
-  show({ players, active, seat, over }) {
+  /** `joins` tells whether a seat can be taken. */
+  show({ players, active, seat, joins }) {
     while (this.#items.length > players.length) this.#items.pop().remove();
-    players.forEach((player, at) => this.#showSeat(this.#items[at] ?? this.#add(at), player, { active, seat, over }));
-    this.#sitting.hidden = seat !== null || players.every(({ name }) => name !== null);
-    this.#name.parentElement.hidden = this.#sitting.hidden && seat === null;
+    players.forEach((player, at) => this.#showSeat(this.#items[at] ?? this.#add(at), player, { active, seat, joins }));
+    this.#sitting.hidden = !joins;
+    this.#name.parentElement.hidden = !joins && seat === null;
     this.#seated.hidden = seat === null;
   }
 
-  #showSeat(item, { name, seat: at }, { active, seat, over }) {
+  #showSeat(item, { name, seat: at }, { active, seat, joins }) {
     const acts = active.find((one) => one.seat === at);
     setText(item.querySelector("bdi"), name === null ? "free" : plain(name));
     setText(item.querySelector(".notes"), [at === seat && "you", acts && (acts.stage ? `may act: ${acts.stage}` : "may act")].filter(Boolean).join(", "));
     item.classList.toggle("acts", Boolean(acts));
-    item.querySelector("button").hidden = seat !== null || name !== null || over;
+    item.querySelector("button").hidden = !joins || name !== null;
   }
 
   #add(at) {

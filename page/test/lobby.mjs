@@ -82,3 +82,21 @@ export async function gone(scene) {
   await other.sees("main .alert", "There is no such match on this server.");
   await done(last, other);
 }
+
+/** What the page's address says. */
+export async function addresses(scene) {
+  const ann = await scene.browser.page("ann");
+  await ann.goto(scene.address);
+  const says = (expression) => ann.value(`import("./address.js").then(({ serverAddress, matchNamed, linkTo }) => ${expression})`);
+  const at = (rest) => JSON.stringify({ search: "", protocol: "https:", host: "games.example:8443", pathname: "/r/07", ...rest });
+  same(await says(`serverAddress(${at({})})`), "wss://games.example:8443/r/07", "the page's own host");
+  same(await says(`serverAddress(${at({ protocol: "http:", pathname: "/" })})`), "ws://games.example:8443/", "a host without TLS");
+  same(await says(`serverAddress(${at({ search: "?match=0-1&server=ws://10.0.0.1:7000" })})`), "ws://10.0.0.1:7000/", "a server that is said");
+  for (const [search, match] of [["?match=63-1", "63-1"], ["", null], ["?match=0-0", null], ["?match=0-1%22", null], ["?match=x", null]]) {
+    same(await says(`matchNamed({ search: ${JSON.stringify(search)} })`), match, `the match of ${search}`);
+  }
+  const href = "https://games.example/r/07?server=wss%3A%2F%2Fa%2F&match=0-1&key=secret#there";
+  same(await says(`linkTo("2-3", { href: ${JSON.stringify(href)} })`), "https://games.example/r/07?server=wss%3A%2F%2Fa%2F&match=2-3", "a link");
+  same(await says(`linkTo(null, { href: "https://games.example/r/07?match=0-1" })`), "https://games.example/r/07", "the lobby");
+  await done(ann);
+}

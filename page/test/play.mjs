@@ -8,7 +8,7 @@ import { openBrowser } from "./browser.mjs";
 import { serveFiles } from "./files.mjs";
 import { Session, startServer } from "./server.mjs";
 import { pageAt } from "./people.mjs";
-import { gone, lobby } from "./lobby.mjs";
+import { addresses, gone, lobby } from "./lobby.mjs";
 import { ticTacToe } from "./tic-tac-toe.mjs";
 import { countdown } from "./countdown.mjs";
 import { pig } from "./pig.mjs";
@@ -17,7 +17,7 @@ import { blindBid, captions } from "./sealed.mjs";
 import { cuts, reasons, unknownGame } from "./cuts.mjs";
 import { phone } from "./phone.mjs";
 
-const PLAYS = { lobby, gone, reasons, ticTacToe, countdown, pig, highHand, blindBid, captions, cuts, unknownGame, phone };
+const PLAYS = { addresses, lobby, gone, reasons, ticTacToe, countdown, pig, highHand, blindBid, captions, cuts, unknownGame, phone };
 const here = (path) => fileURLToPath(new URL(path, import.meta.url));
 
 const words = process.argv.slice(2);
