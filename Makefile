@@ -1,4 +1,4 @@
-.PHONY: program demo serve served test bench
+.PHONY: program demo serve served page-test test bench
 
 SHELL := bash
 .SHELLFLAGS := -o pipefail -c
@@ -31,3 +31,7 @@ bench: program
 # Plays many actions against a served port, and compares what each player was sent with a script's run.
 served: program
 	@bench/served.py same crates/board_server/out/board_server 20000
+
+# Plays on the page in headless Chromium, against the program, or against SARPUNTXE_PROGRAM or SARPUNTXE_SERVER. It wants node and chromium.
+page-test: $(if $(SARPUNTXE_PROGRAM)$(SARPUNTXE_SERVER),,program)
+	@node --experimental-websocket --no-warnings page/test/play.mjs $(PLAYS)

@@ -1,0 +1,30 @@
+// The games that the page draws, by the server's names. A game that it doesn't know is shown plainly.
+//
+// A game here is an object:
+//   title, glyph, rules    for people
+//   least, most            how many seats it takes
+//   undoable               the moves that the game lets be undone, or null if the page doesn't know
+//   say(act)               a move in words, behind the player's name
+//   hint(table)            what the player may do now, in words
+//   make(act)              its board, as { element, show(table) }; `act(asked)` asks the server for an action
+//
+// A table is what there is to show: { g, ctx, log, number } of the snapshot, `before`, the snapshot before this one if it was seen,
+// `seat`, one's own or null, `may`, whether that seat may act, `seats`, how many there are, and `name(seat)`.
+import ticTacToe from "./tic-tac-toe.js";
+import countdown from "./countdown.js";
+import pig from "./pig.js";
+import highHand from "./high-hand.js";
+import blindBid from "./blind-bid.js";
+import captions from "./captions.js";
+import { unknown } from "./unknown.js";
+
+const known = {
+  "tic-tac-toe": ticTacToe,
+  "countdown": countdown,
+  "pig": pig,
+  "high-hand": highHand,
+  "blind-bid": blindBid,
+  "captions": captions,
+};
+
+export const gameNamed = (name) => Object.hasOwn(known, name) ? known[name] : unknown(name);

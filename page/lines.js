@@ -1,0 +1,78 @@
+// The messages of the protocol: the lines that the page sends, what answers them, and what each refusal means in words.
+
+export const games = () => JSON.stringify({ type: "games" });
+export const matches = (game) => JSON.stringify({ game, type: "matches" });
+export const look = (match) => JSON.stringify({ match, type: "look" });
+export const create = (game, seats) => JSON.stringify({ game, seats, type: "create" });
+export const join = (match, seat, name) => JSON.stringify({ match, name, seat, type: "join" });
+export const rename = (match, seat, key, name) => JSON.stringify({ key, match, name, seat, type: "rename" });
+export const leave = (match, seat, key) => JSON.stringify({ key, match, seat, type: "leave" });
+export const sync = (match, seat, key) => JSON.stringify({ key, match, seat, type: "sync" });
+export const act = (match, key, number, ticket, asked) =>
+  JSON.stringify({ act: asked, key, match, number, ticket, type: "act" });
+
+// What a player may ask for in a match. Members stand in the order in which the server writes them in the log.
+export const move = (name, ...args) => ({ args, kind: "move", move: name });
+export const endTurn = (to = null) => ({ event: "endTurn", kind: "event", to });
+export const undo = () => ({ kind: "undo" });
+export const redo = () => ({ kind: "redo" });
+
+/** Whether a line answers the oldest line that has no answer yet. The others are the stream's own. */
+export const isAnswer = (line) => !["update", "change", "bye"].includes(line.type);
+
+/** How many bytes a text takes on a line, which is what names and captions are measured in. */
+export const bytes = (text) => new TextEncoder().encode(text).length;
+
+const refusals = {
+  "bad-message": "The server did not understand that.",
+  "no-game": "The server does not play that game.",
+  "full": "The server has no room for another match. Try again when one has ended.",
+  "bad-seats": "The game is not played by so many.",
+  "no-start": "The game could not begin.",
+  "no-match": "There is no such match on this server.",
+  "no-seat": "The match has no such seat, or nobody sits there.",
+  "seat-taken": "Somebody else has just taken that seat.",
+  "bad-name": "A name has 1 to 32 bytes, and no control characters.",
+  "unauthorized": "That seat is not yours: its key is another one.",
+  "already-attached": "This connection follows a match already.",
+  "not-attached": "This connection follows no match. It is made anew.",
+  "not-a-bot": "The server plays no seat itself.",
+};
+
+const verdicts = {
+  "no-match": "That was meant for another match.",
+  "unauthorized": "You may not act here: this is not your seat.",
+  "game-over": "The match is over.",
+  "match-full": "This match has had as many actions as a match can have. It cannot go on.",
+  "cannot-undo-now": "Nothing can be taken back or done again now: others may act too, or it is not your turn.",
+  "not-active": "It is not your turn.",
+  "unknown-move": "That is not possible at this point of the game.",
+  "wrong-number": "The match had moved on before that arrived. Look again, and choose anew.",
+  "nothing-to-undo": "There is nothing to take back in this turn.",
+  "nothing-to-redo": "There is nothing to do again.",
+  "not-yours": "That was another player's action.",
+  "not-undoable": "This game does not let that be taken back.",
+  "invalid-move": "The rules of the game do not allow that.",
+  "too-early": "The turn cannot end yet: make a move first.",
+  "too-many-words": "That would draw more random numbers than one action may.",
+  "too-many-events": "That would lead to more events than one action may.",
+};
+
+export const again = "The server is out of memory at the moment, and did nothing. Try again.";
+
+const byes = {
+  left: "The seat was given up, or the match was removed.",
+  lagging: "This page fell too far behind, and the server ended its session.",
+};
+
+const fields = { name: "A name has 1 to 32 bytes, and no control characters.", act: "A text has at most 64 bytes, and a number has to be whole." };
+
+/** What a line that is no success means in words: a refusal, a verdict `no`, an `again` or a `bye`. */
+export function inWords(line) {
+  if (line.type === "no") return verdicts[line.reason] ?? `The server refused that: ${line.reason}.`;
+  if (line.type === "again") return again;
+  if (line.type === "bye") return byes[line.why] ?? `The server ended the session: ${line.why}.`;
+  if (line.type !== "refused") return `The server answered ${line.type}.`;
+  if (line.reason === "bad-message" && fields[line.field]) return fields[line.field];
+  return refusals[line.reason] ?? `The server refused that: ${line.reason}.`;
+}

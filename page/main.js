@@ -1,0 +1,52 @@
+// The page: the lobby, or the match that the address names.
+import { linkTo, matchNamed, serverAddress } from "./address.js";
+import { setText } from "./elements.js";
+import { Lobby } from "./lobby.js";
+import { Match } from "./match.js";
+
+const by = (id) => document.getElementById(id);
+let shown = null;
+
+/** Goes to a match, or to the lobby if it is null. */
+function go(match) {
+  history.pushState(null, "", linkTo(match));
+  show();
+  by("main").querySelector("h1").focus();
+}
+
+function show() {
+  shown?.close();
+  const match = matchNamed();
+  const place = { address: serverAddress(), main: by("main"), told, go };
+  by("home").href = linkTo(null);
+  shown = match === null ? new Lobby(place) : new Match(place, match);
+  scrollTo(0, 0);
+}
+
+/** Says how the connection is. */
+function told(state, seconds) {
+  const words = {
+    connecting: "Connecting …",
+    silent: "The server does not answer yet: all its places may be taken.",
+    open: "Connected",
+    broken: `The connection broke. Trying again in ${seconds} s.`,
+    wrong: "This address cannot be connected to.",
+    rests: "",
+  };
+  setText(by("link-words"), words[state]);
+  by("link").className = `link ${state}`;
+  by("link-now").hidden = state !== "broken";
+}
+
+by("link-now").onclick = () => shown.connect();
+by("home").onclick = (event) => {
+  if (event.button || event.ctrlKey || event.metaKey || event.shiftKey) return;
+  event.preventDefault();
+  go(null);
+};
+addEventListener("popstate", show);
+// A page that the browser keeps for going back gives its connection back, and begins anew when it is shown again.
+addEventListener("pagehide", () => shown.close());
+addEventListener("pageshow", (event) => { if (event.persisted) show(); });
+addEventListener("online", () => shown.connect());
+show();

@@ -1,0 +1,84 @@
+// A whole match of High Hand. Nobody sees another's hand, and the table is compared with the server's states.
+import { done, log, same, says, seated, turns } from "./people.mjs";
+import { Session } from "./server.mjs";
+
+const RANKS = "two three four five six seven eight nine ten jack queen king ace".split(" ");
+const SUITS = "clubs diamonds hearts spades".split(" ");
+const named = (card) => `${RANKS[Math.floor(card / 4)]} of ${SUITS[card % 4]}`;
+
+const labels = (selector) => (page) => page.value(`[...document.querySelectorAll("${selector}")].map((one) => one.getAttribute("aria-label"))`);
+const table = labels(".places .card");
+const hand = labels(".hand .card");
+const scores = (page) => page.texts(".places .quiet");
+
+export async function highHand(scene) {
+  const { ann, bob, eve, all, match, link } = await seated(scene, "high-hand");
+  const raw = await Session.open(scene.server);
+  await raw.follow(match);
+  const shows = async (number) => {
+    const { g: { common } } = await raw.at(number);
+    for (const page of all) {
+      await page.until(table, common.table.map((card) => card === null ? null : named(card)), "the table");
+      const words = common.scores.map((score, at) => `${score} ${score === 1 ? "point" : "points"}, ${common.hands[at]} in hand`);
+      await page.until(scores, words, "scores and hands");
+      await page.until((one) => one.texts(".board > div > .quiet"), [`${common.left} cards in the deck`], "the deck");
+    }
+  };
+  await shows(0);
+  await turns(all, ["Your turn. Draw a card.", "ann's turn.", "ann's turn."]);
+  same(await ann.text(".details"), "Turn 1 · phase draw · 0 actions so far", "the phase");
+  for (const [number, page] of [ann, ann, bob, bob].entries()) {
+    await page.until(`document.querySelector(".turn").classList.contains("own")`, true);
+    await page.click("Draw a card");
+    await shows(number + 1);
+  }
+  same(await eve.text(".details"), "Turn 3 · phase play · 4 actions so far · you look on", "the phase after the draw");
+  const held = [await hand(ann), await hand(bob)];
+  same(held.map((cards) => cards.length), [2, 2], "two cards each");
+  same(await hand(eve), [], "a spectator has no hand");
+  for (const [page, others] of [[ann, held[1]], [bob, held[0]], [eve, held.flat()]]) {
+    const words = await page.value("document.body.outerHTML");
+    same(others.filter((card) => words.includes(card.replace("Lay the ", ""))), [], "no page has another's card in it");
+  }
+  // The hand that the page shows is the one that the server told its seat.
+  const own = await ann.value(`JSON.stringify(Object.fromEntries(Object.entries(localStorage)))`);
+  const kept = JSON.parse(Object.entries(JSON.parse(own)).find(([at]) => at.startsWith(`seat ${match} `))[1]);
+  const seat = await Session.open(scene.server);
+  await seat.follow(match, kept.seat, kept.key);
+  same(held[0], seat.snapshot.g.players[0].hand.map((card) => `Lay the ${named(card)}`), "ann's hand");
+  seat.close();
+
+  await ann.click(held[0][1]);
+  await shows(5);
+  await turns(all, ["Your turn. End the turn, or take the card back.", "ann's turn.", "ann's turn."]);
+  same(await hand(ann), [held[0][0]], "a laid card has left the hand");
+  await ann.click(held[0][0]);
+  await says(ann, "The rules of the game do not allow that.");
+  await ann.click("Undo");
+  await shows(6);
+  await ann.until(hand, held[0], "the card is back in the hand");
+  await ann.click("Redo");
+  await shows(7);
+  const laid = "laid card 2 of the hand";
+  same((await log(eve)).slice(0, 3), [`ann did again: ${laid}`, `ann took back: ${laid}`, `ann ${laid}`], "the log");
+  await bob.reload();
+  await bob.until(hand, held[1], "bob's hand after a reload");
+  await ann.click("End the turn");
+  await bob.sees(".turn", "Your turn. Lay a card of your hand.");
+  await bob.click(held[1][0]);
+  await shows(9);
+  if (scene.pictures) await bob.picture(`${scene.pictures}/page-high-hand.png`, { width: 1000, height: 780 });
+  await bob.click("End the turn");
+  await shows(10);
+  for (const [number, page, what] of [[11, ann, held[0][0]], [12, ann, "End the turn"], [13, bob, held[1][1]], [14, bob, "End the turn"]]) {
+    await page.until(`document.querySelector(".turn").classList.contains("own")`, true);
+    await page.click(what);
+    await shows(number);
+  }
+  const { gameover } = raw.snapshot.ctx;
+  if (gameover.draw) await turns(all, Array(3).fill("It is a draw."));
+  else await turns(all, [0, 1, null].map((at) => at === gameover.winner ? "You have won!" : `${["ann", "bob"][gameover.winner]} has won.`));
+  same(link.includes(kept.key), false, "the link has no key");
+  raw.close();
+  await done(...all);
+}

@@ -1,0 +1,64 @@
+// What people do on the page, as the tests say it: making a match, taking a seat, and what they see.
+import { Failure } from "./browser.mjs";
+
+export function same(is, wanted, what) {
+  if (JSON.stringify(is) !== JSON.stringify(wanted)) {
+    throw new Failure(`${what}\n  wanted ${JSON.stringify(wanted)}\n  saw    ${JSON.stringify(is)}`);
+  }
+}
+
+/** The address at which a page speaks with a server. */
+export const pageAt = (files, server) => `${files}?server=${encodeURIComponent(server)}`;
+
+/** Makes a match by clicking, and answers its name and its link. */
+export async function makeMatch(page, address, game, seats) {
+  await page.goto(address);
+  await page.until(`document.getElementById("new-${game}") !== null`, true);
+  await page.choose(`#seats-${game}`, String(seats));
+  await page.click(`#new-${game}`);
+  await page.until(`/[?&]match=\\d+-\\d+/.test(location.search)`, true);
+  const link = await page.value("location.href");
+  await page.until(`document.querySelector(".address")?.value`, link);
+  return { match: new URL(link).searchParams.get("match"), link };
+}
+
+/** Takes a seat, counted from 0 as the protocol does. */
+export async function sit(page, seat, name) {
+  await page.type("#player-name", name);
+  await page.click(`#take-${seat}`);
+  await page.until((one) => one.value(`[...document.querySelectorAll(".seats li")][${seat}]?.querySelector(".notes").textContent.startsWith("you")`), true);
+}
+
+/** Two people at a new match for two, who have read each other's names, and one who looks on. */
+export async function seated(scene, game, names = ["ann", "bob"]) {
+  const { browser, address } = scene;
+  const [ann, bob, eve] = [await browser.page("ann"), await browser.page("bob"), await browser.page("eve")];
+  const { match, link } = await makeMatch(ann, address, game, 2);
+  await sit(ann, 0, names[0]);
+  await bob.goto(link);
+  await sit(bob, 1, names[1]);
+  await eve.goto(link);
+  const seats = names.map((name, at) => `${at + 1} ${name}`);
+  for (const page of [ann, bob, eve]) {
+    await page.until(async (one) => (await one.texts(".seats li")).map((seat, at) => seat.startsWith(seats[at])), [true, true], "names at the seats");
+  }
+  return { ann, bob, eve, all: [ann, bob, eve], match, link };
+}
+
+/** Waits until all pages show these words where it says whose turn it is. */
+export async function turns(pages, words) {
+  for (const [at, page] of pages.entries()) await page.sees(".turn", words[at]);
+}
+
+/** The pages have thrown nothing, and broken no policy. They are closed. */
+export async function done(...pages) {
+  for (const page of pages) {
+    same(page.faults, [], `${page.name}: nothing was thrown or refused by the policy`);
+    await page.close();
+  }
+}
+
+export const alert = (page) => page.text(".match .alert");
+export const says = (page, words) => page.sees(".match .alert", words);
+export const log = (page) => page.texts(".log li bdi");
+export const undone = (page) => page.texts(".log li.undone bdi");

@@ -1,0 +1,45 @@
+// A whole match of Pig. Each roll that the page shows is compared with what the server's states tell.
+import { done, same, says, seated } from "./people.mjs";
+import { Session } from "./server.mjs";
+
+const totals = (page) => page.texts(".scores strong").then((words) => words.map(Number));
+
+export async function pig(scene) {
+  const { ann, bob, eve, all, match } = await seated(scene, "pig");
+  const raw = await Session.open(scene.server);
+  await raw.follow(match);
+  await ann.click("Hold");
+  await says(ann, "The rules of the game do not allow that.");
+  await bob.click("Roll");
+  await says(bob, "It is not your turn.");
+  let reloaded = false;
+  for (let at = 0; !raw.snapshot.ctx.gameover; at++) {
+    const { ctx, g: before } = raw.snapshot;
+    const player = all[ctx.currentPlayer];
+    await player.until(`document.querySelector(".turn").classList.contains("own")`, true);
+    const holds = before.pot >= 8;
+    await player.click(holds ? "Hold" : "Roll");
+    const { g, ctx: after } = await raw.at(at + 1);
+    const face = holds ? null : g.pot > before.pot ? g.pot - before.pot : 1;
+    for (const page of all) {
+      await page.until((one) => one.text(".big"), `Pot ${g.pot}`, "the pot");
+      await page.until(totals, g.totals, "the totals");
+      await page.until(`document.querySelector(".die").getAttribute("aria-label")`, face ? `The die shows ${face}` : "The die");
+      same(await page.value(`document.querySelectorAll(".pip.on").length`), face ?? 0, "pips");
+      same(await page.text(".rolls .quiet"), face === null ? "" : face === 1 ? "A 1: the pot is lost." : `A ${face}.`, "what was rolled");
+    }
+    if (!reloaded && g.totals[0] && !after.gameover) {
+      await ann.reload();
+      await ann.until(totals, g.totals, "the totals after a reload");
+      reloaded = true;
+    }
+  }
+  const { winner } = raw.snapshot.ctx.gameover;
+  same(raw.snapshot.g.totals[winner] >= 20, true, "the winner has 20 points");
+  const words = `${["ann", "bob"][winner]} has won.`;
+  await all[winner].sees(".turn", "You have won!");
+  await all[1 - winner].sees(".turn", words);
+  await eve.sees(".turn", words);
+  raw.close();
+  await done(...all);
+}

@@ -1,0 +1,50 @@
+// node --experimental-websocket page/test/play.mjs [--pictures FOLDER] [NAME ..]
+//
+// Plays on the page in headless Chromium: every game by clicking, two players and a spectator each, and whatever can go wrong.
+// SARPUNTXE_PROGRAM names the program that serves, SARPUNTXE_SERVER a server that runs already, CHROMIUM the browser,
+// and PATIENCE how many milliseconds a page may take to show what is wanted.
+import { fileURLToPath } from "node:url";
+import { openBrowser } from "./browser.mjs";
+import { serveFiles } from "./files.mjs";
+import { Session, startServer } from "./server.mjs";
+import { pageAt } from "./people.mjs";
+import { addresses, gone, lobby } from "./lobby.mjs";
+import { ticTacToe } from "./tic-tac-toe.mjs";
+import { countdown } from "./countdown.mjs";
+import { pig } from "./pig.mjs";
+import { highHand } from "./high-hand.mjs";
+import { blindBid, captions } from "./sealed.mjs";
+import { cuts, reasons, unknownGame } from "./cuts.mjs";
+import { phone } from "./phone.mjs";
+
+const PLAYS = { addresses, lobby, gone, reasons, ticTacToe, countdown, pig, highHand, blindBid, captions, cuts, unknownGame, phone };
+const here = (path) => fileURLToPath(new URL(path, import.meta.url));
+
+const words = process.argv.slice(2);
+const pictures = words[0] === "--pictures" ? words.splice(0, 2)[1] : null;
+const wanted = words.length ? words : Object.keys(PLAYS);
+const server = await startServer(here("../../crates/board_server/out/board_server"));
+const files = await serveFiles(here("../"));
+const browser = await openBrowser();
+const session = await Session.open(server.address);
+const scene = {
+  browser, session, pictures, server: server.address, files: files.address, address: pageAt(files.address, server.address),
+  open: () => Session.open(server.address),
+};
+let failed = 0;
+for (const name of wanted) {
+  const begun = Date.now();
+  try {
+    await PLAYS[name](scene);
+    console.log(`ok      ${name} (${((Date.now() - begun) / 1_000).toFixed(1)} s)`);
+  } catch (why) {
+    failed++;
+    console.log(`FAILED  ${name}\n${why.stack}`);
+  }
+}
+console.log(failed ? `${failed} of ${wanted.length} failed` : `all ${wanted.length} passed`);
+session.close();
+await browser.close();
+files.close();
+server.stop();
+process.exit(failed ? 1 : 0);
