@@ -172,6 +172,9 @@ fn admit<S: Service, D: Door, W: Ready<D::L>, J: Shift, B: Ledger, R: Wait>(
     ensures bots { bots.new.amount ≡ seated_bots D.has_bots D.L.Link.is_bot bench.new.places.items }
 {
     for _ in rt.forever() {
+        if !bench.ready.may_come() {
+            return true;
+        }
         let Some(number) = free_place(bench.places.as_slice(), &mut bench.free) else {
             return true;
         };
@@ -185,15 +188,19 @@ fn admit<S: Service, D: Door, W: Ready<D::L>, J: Shift, B: Ledger, R: Wait>(
             ),
             Next::Quiet => {
                 let _listed = bench.free.push(number);
+                bench.ready.none_came();
                 return true;
             }
-            Next::Over => return false,
+            Next::Over => {
+                bench.ready.none_will_come();
+                return false;
+            }
         }
     }
     unreachable!()
 }
 
-/// Gives a link back where its session has ended.
+/// Gives a link back where its session has ended, and says whether it did.
 fn dismiss<S: Service, D: Door, J: Shift, B: Ledger, R: Wait>(
     rt: &R,
     hall: &S::Hall,
@@ -203,7 +210,7 @@ fn dismiss<S: Service, D: Door, J: Shift, B: Ledger, R: Wait>(
     free: &mut Vec<u32>,
     share: &mut Share<J>,
     bots: &mut Share<B>,
-)
+) -> bool
     requires fit { All (λ p. S.fits hall.now p.service) places.old }
     requires sit { All (Sits S.turn S.leave (about D.L.Link.answers D.L.Link.sent D.L.Link.faults D.L.Link.stage D.L.Link.clear D.L.Link.is_bot) S.rests) places.old }
     requires parts { (share.old.parts ≡ 1) × (bots.old.parts ≡ 1) }
@@ -217,13 +224,33 @@ fn dismiss<S: Service, D: Door, J: Shift, B: Ledger, R: Wait>(
 {
     let place = number as usize;
     if place >= places.len() {
-        return;
+        return false;
     }
     let Some((link, end)) = places[place].hand_out() else {
-        return;
+        return false;
     };
     give_back(rt, gate, share, bots, places[place].service(), link, end);
     let _listed = free.push(number);
+    true
+}
+
+/// Tells what a step of this place came to.
+fn tell<S: Service, L: Link, W: Ready<L>>(
+    places: &[Place<S, L>],
+    ready: &mut W,
+    number: u32,
+    went_back: bool,
+) {
+    let place = number as usize;
+    if place >= places.len() {
+        return;
+    }
+    ready.note(number, places[place].stir());
+    if went_back {
+        ready.went_back(number);
+    } else if places[place].keeps_back() {
+        ready.keeps_back(number);
+    }
 }
 
 /// Serves links at a bench, until no place has one and none will come any more.
@@ -256,7 +283,7 @@ pub(crate) fn work<S: Service, D: Door, W: Ready<D::L>, J: Shift, B: Ledger, R: 
     unreachable!()
 }
 
-/// One round: the turns that are due are taken, noted, and links whose sessions have ended go back.
+/// One round: the turns that are due are taken, and what comes after them.
 fn serve_due<S: Service, D: Door, W: Ready<D::L>, J: Shift, B: Ledger, R: Wait>(
     rt: &R,
     hall: &S::Hall,
@@ -286,10 +313,7 @@ fn serve_due<S: Service, D: Door, W: Ready<D::L>, J: Shift, B: Ledger, R: Wait>(
     serve_round(rt, hall, places.as_mut_slice(), due.as_slice());
     for at in 0..due.len() {
         let number = due[at];
-        if (number as usize) < places.len() {
-            ready.note(number, places[number as usize].stir());
-        }
-        dismiss(
+        let went_back = dismiss(
             rt,
             hall,
             gate,
@@ -299,5 +323,6 @@ fn serve_due<S: Service, D: Door, W: Ready<D::L>, J: Shift, B: Ledger, R: Wait>(
             share,
             bots,
         );
+        tell(places.as_slice(), ready, number, went_back);
     }
 }

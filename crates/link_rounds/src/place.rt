@@ -17,6 +17,10 @@ pub struct Place<S: Service, L: Link> {
     service: S,
     link: Option<L>,
     end: Option<SessionEnd>,
+    /// Whether its last step was a turn.
+    turned: bool,
+    /// Whether its link kept bytes back when it was last asked.
+    kept: bool,
 }
 
 impl<S: Service, L: Link> Model for Place<S, L> {
@@ -27,12 +31,13 @@ impl<S: Service, L: Link> Model for Place<S, L> {
     ghost view = { λ p. seat p.service p.link p.end };
 }
 
-/// One turn of a session, and what is done where it has ended.
+/// One turn of a session, and what is done where it has ended. Whether the link keeps bytes back is `kept` then.
 fn serve<S: Service, L: Link, R: Wait>(
     rt: &R,
     hall: &S::Hall,
     service: &mut S,
     link: &mut L,
+    kept: &mut bool,
 ) -> Option<SessionEnd>
     requires fits { S.fits hall.now service.old }
     ensures fits { S.fits hall.now service.new }
@@ -46,7 +51,7 @@ fn serve<S: Service, L: Link, R: Wait>(
 {
     let ended = service.turn(rt, hall, link);
     // What isn't taken now is handed on before the next turn.
-    let _clear = link.flush();
+    *kept = !link.flush();
     let Some(why) = ended else {
         return None;
     };
@@ -63,6 +68,8 @@ impl<S: Service, L: Link> Place<S, L> {
             service,
             link: None,
             end: None,
+            turned: false,
+            kept: false,
         }
     }
 
@@ -74,7 +81,14 @@ impl<S: Service, L: Link> Place<S, L> {
         ensures sits { Sits S.turn S.leave (about L.answers L.sent L.faults L.stage L.clear L.is_bot) S.rests self.new }
         ensures step { Step S.turn S.leave (about L.answers L.sent L.faults L.stage L.clear L.is_bot) self.old self.new }
     {
-        let Place { service, link, end } = self;
+        let Place {
+            service,
+            link,
+            end,
+            turned,
+            kept,
+        } = self;
+        *turned = false;
         if end.is_some() {
             return;
         }
@@ -82,7 +96,10 @@ impl<S: Service, L: Link> Place<S, L> {
             return;
         };
         if link.flush() {
-            *end = serve(rt, hall, service, link);
+            *turned = true;
+            *end = serve(rt, hall, service, link, kept);
+        } else {
+            *kept = true;
         }
     }
 
@@ -96,6 +113,7 @@ impl<S: Service, L: Link> Place<S, L> {
     {
         self.link = Some(link);
         self.end = None;
+        self.kept = false;
     }
 
     /// The link whose session has ended, and how it did, once it keeps nothing back.
@@ -117,9 +135,11 @@ impl<S: Service, L: Link> Place<S, L> {
         };
         if !link.flush() {
             self.link = Some(link);
+            self.kept = true;
             return None;
         }
         self.end = None;
+        self.kept = false;
         link.finish(why);
         Some((link, why))
     }
@@ -145,8 +165,20 @@ impl<S: Service, L: Link> Place<S, L> {
         self.link.is_some() && self.end.is_none()
     }
 
-    /// What its last turn means for others.
+    /// What its last step means for others: it changed nothing unless it was a turn; there is nothing to be received while the link keeps
+    /// bytes back, or once the session has ended, which then listens nowhere.
     pub fn stir(&self) -> Stir {
-        self.service.stir()
+        let Stir { at, changed, more } = self.service.stir();
+        let open = self.goes_on();
+        Stir {
+            at: if open { at } else { None },
+            changed: if self.turned { changed } else { 0 },
+            more: more && open && self.turned && !self.kept,
+        }
+    }
+
+    /// Whether its link kept bytes back when it was last asked.
+    pub fn keeps_back(&self) -> bool {
+        self.kept
     }
 }

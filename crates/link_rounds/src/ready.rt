@@ -28,6 +28,33 @@ pub trait Ready<L: Link>: Drop {
     fn note(&mut self, number: u32, stir: Stir)
         ensures named { named self.new ≡ named self.old };
 
+    /// The link of this number keeps bytes back, so that it gets no turn. It is named when it takes some, and from time to time until then.
+    fn keeps_back(&mut self, _number: u32)
+        ensures named { named self.new ≡ named self.old }
+    {}
+
+    /// The link of this number went back to the door.
+    fn went_back(&mut self, _number: u32)
+        ensures named { named self.new ≡ named self.old }
+    {}
+
+    /// Whether the door is to be asked for a link now.
+    fn may_come(&mut self) -> bool
+        ensures named { named self.new ≡ named self.old }
+    {
+        true
+    }
+
+    /// The door was asked, and had no link.
+    fn none_came(&mut self)
+        ensures named { named self.new ≡ named self.old }
+    {}
+
+    /// The door was asked, and will have no link any more. Other workers who wait have to be told, since they may wait for one.
+    fn none_will_come(&mut self)
+        ensures named { named self.new ≡ named self.old }
+    {}
+
     /// Waits until some link may be ready, and puts the numbers of those that may in place of the list's. It takes no memory where the list
     /// has room for as many as it watches.
     fn wait<R: Wait>(&mut self, rt: &R, numbers: &mut Vec<u32>)

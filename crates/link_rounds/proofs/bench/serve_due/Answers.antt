@@ -18,6 +18,6 @@ loop-at-init g c =
 pub loop-at-preserved : goal.loop-at-preserved
 loop-at-preserved g c =
     let b = c.loop-at.places in
-    let d = c.dismiss.ensures in
-    rw (written b.len b.items c.dismiss.new.places (c.dismiss.auto.places ∙ c.as_mut_slice-in-loop-at.ensures.len))
+    let d = c.dismiss-went_back.ensures in
+    rw (written b.len b.items c.dismiss-went_back.new.places (c.dismiss-went_back.auto.places ∙ c.as_mut_slice-in-loop-at.ensures.len))
     (d.fit, d.sit, d.parts.0, d.parts.1, d.others, d.bots)
