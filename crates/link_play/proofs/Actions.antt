@@ -1,5 +1,5 @@
 -- What an action comes to, by what was sent and printed.
-use Rattle.std.proofs.Common.{◌≡◌, ◌≢◌, ℕ, List, ◌++◌, take, Bool, true, false, Option, Some, None, Ok, Err, refl, sym, ap, ◌∙◌, subst, inl, inr}
+use Rattle.std.proofs.Common.{◌≡◌, ◌≢◌, ℕ, List, ◌++◌, Bool, true, false, Option, Some, None, Ok, Err, refl, sym, ap, ◌∙◌, subst, inl, inr}
 use Rattle.board_links.specs.declared.link.Came.{Came}
 use Rattle.board_links.specs.declared.link.Stage.{Stage}
 use Rattle.client_predict.specs.Acting.{act_no}
@@ -7,14 +7,14 @@ use Rattle.client_predict.specs.Client.{Client, Playing}
 use Rattle.client_predict.specs.declared.told.ActNo.{ActNo}
 use Rattle.client_predict.specs.declared.told.ActNo.TheVariants as act_no
 use Rattle.game_trait.specs.Rules.{Rules}
-use Rattle.hall_history.specs.Words.{act_no_word}
+use Rattle.world_history.specs.Words.{act_no_word}
 use Rattle.wire_json.specs.declared.asked.Asked.{Asked}
 use Rattle.link_play.specs.Acting.{ActsOn}
 use Rattle.link_play.specs.Commands.{Acts}
 use Rattle.link_play.specs.Counts.{StopShows}
 use Rattle.link_play.specs.Doing.{Who, act_line, acted_text, acts, acts_by, acted_word, key_of, with_action}
 use Rattle.link_play.specs.Pieces.{Flow, PrintRaises, Prints, SendRaises, Sends}
-use Rattle.link_play.specs.Sitting.{Sitting, becomes, on_line, prints, sends}
+use Rattle.link_play.specs.Sitting.{Sitting, becomes, on_line, prints}
 use Rattle.link_play.specs.Stopping.{Did, StopsActing, StopsPrinting, StopsSending}
 use Rattle.link_play.specs.declared.stop.Stop.{Stop}
 use Rattle.link_play.specs.declared.stop.Stop.TheVariants as stop

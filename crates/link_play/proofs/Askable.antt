@@ -1,5 +1,5 @@
 -- An act that is read is one that a line can ask for.
-use Rattle.std.proofs.Common.{◌≡◌, Option, Some, None, refl, sym, ap, subst, ◌∙◌}
+use Rattle.std.proofs.Common.{◌≡◌, Option, Some, None, sym, ap, subst, ◌∙◌}
 use Rattle.std.specs.Prelude.{IfSome}
 use Rattle.serde_json.specs.Data.{Data, Members, object}
 use Rattle.json_tree.specs.Canonical.{IsCanonical}

@@ -1,5 +1,5 @@
 -- How a run ends.
-use Rattle.std.proofs.Common.{◌≡◌, ◌≢◌, ◌+◌, ℕ, List, [], ◌++◌, length, Option, Some, None, refl, sym, ap, ◌∙◌, subst, append-nil, inl, inr}
+use Rattle.std.proofs.Common.{◌≡◌, ◌+◌, ℕ, List, [], ◌++◌, length, Some, None, refl, sym, ap, ◌∙◌, subst, append-nil, inl, inr}
 use Rattle.board_links.specs.Faults.{HasRisen}
 use Rattle.board_links.specs.declared.link.Stage.{Stage}
 use Rattle.board_links.specs.declared.link.Stage.TheVariants as stage
@@ -12,14 +12,14 @@ use Rattle.line_runner.specs.declared.next.Next.{Next}
 use Rattle.line_runner.specs.declared.next.Next.TheVariants as next
 use Rattle.line_runner.proofs.Moving.{none_after}
 use Rattle.line_runner.proofs.Underway.{fault_part, fault_read, line_read}
-use Rattle.link_play.specs.Commands.{Command, Syncs}
+use Rattle.link_play.specs.Commands.{Syncs}
 use Rattle.link_play.specs.Counts.{ExitRaises, ExitShows}
-use Rattle.link_play.specs.Doing.{Does, Who, sync_line}
+use Rattle.link_play.specs.Doing.{Who, sync_line}
 use Rattle.link_play.specs.Ends.{AreInForm, Ends, Interrupts, IsComplete, StopsAtFault}
 use Rattle.line_runner.specs.Running.{stop_at}
 use Rattle.link_play.specs.Exits.{end_at, stopped}
 use Rattle.link_play.specs.Lines.{RanLine}
-use Rattle.link_play.specs.Plan.{AtBad, Open, plan_from, plan_of}
+use Rattle.link_play.specs.Plan.{plan_from, plan_of}
 use Rattle.link_play.specs.Sitting.{Sitting, sends}
 use Rattle.link_play.specs.Stopping.{StopsIn}
 use Rattle.line_runner.specs.declared.exit.Exit.{Exit}

@@ -1,5 +1,5 @@
 -- How the answers to a line and to its reading end a run, or let it go on: its counts of faults, and what the link tells of its end.
-use Rattle.std.proofs.Common.{◌≡◌, ◌+◌, ℕ, Option, Some, None, Err, refl, sym, ap, ◌∙◌, subst}
+use Rattle.std.proofs.Common.{◌≡◌, ◌+◌, ℕ, Some, None, Err, refl, sym, ◌∙◌, subst}
 use Rattle.board_links.specs.Faults.{HasRisen}
 use Rattle.board_links.specs.declared.link.Stage.{Stage}
 use Rattle.line_runner.specs.Reading.{Raises}

@@ -1,9 +1,9 @@
 -- How a plan and a run grow by a line.
-use Rattle.std.proofs.Common.{◌≡◌, ◌≢◌, ℕ, ◌+◌, List, [], ◌∷◌, ◌++◌, Some, None, refl, sym, ap, ◌∙◌, subst, append_assoc}
+use Rattle.std.proofs.Common.{◌≡◌, ◌≢◌, List, [], ◌∷◌, ◌++◌, refl, sym, ap, subst, append_assoc}
 use Rattle.game_trait.specs.Rules.{Rules}
 use Rattle.link_play.specs.Commands.{Command, Syncs, Nothing, Acts, Reads, Waits, Shows, Ends}
 use Rattle.link_play.specs.Doing.{Does, Runs, Who}
-use Rattle.link_play.specs.Plan.{Close, Plan, behind, with_command}
+use Rattle.link_play.specs.Plan.{Plan, behind, with_command}
 use Rattle.link_play.specs.Sitting.{Sitting}
 
 -- another command than the end stands before those that come after it

@@ -1,5 +1,5 @@
 -- The lines of messages from clients end with a newline.
-use Rattle.std.proofs.Common.{◌≡◌, ℕ, List, ap, subst, sym, refl}
+use Rattle.std.proofs.Common.{◌≡◌, ℕ, List, subst, sym, refl}
 use Rattle.board_links.specs.Answers.{AreLines}
 use Rattle.serde_json.specs.Data.{object}
 use Rattle.serde_json.specs.Written.{compact_text}

@@ -2,7 +2,7 @@
 use Rattle.std.proofs.Common.{◌≡◌, ◌≢◌, ℕ, ◌+◌, List, [], ◌∷◌, ◌++◌, length, Some, None, refl, sym, ap, ◌∙◌, subst, append_assoc, append-nil, length-append}
 use Rattle.game_trait.specs.Rules.{Rules}
 use Rattle.line_runner.specs.Reader.{Reader, fresh}
-use Rattle.line_runner.specs.ScriptLines.{Script, Ending, Ended, first_line, no_lines, script, whole_lines}
+use Rattle.line_runner.specs.ScriptLines.{Script, Ending, first_line, no_lines, script}
 use Rattle.line_runner.proofs.Underway.{HasRead, nothing_read}
 use Rattle.link_play.specs.Commands.{Command, Syncs, Ends, command_of}
 use Rattle.link_play.specs.Doing.{Does, Runs, Who, sync_line}

@@ -1,5 +1,5 @@
 -- What an action comes to.
-use Rattle.std.specs.Prelude.{◌≡◌, ℕ, Bool, List, Option, Result, Ok, Err}
+use Rattle.std.specs.Prelude.{◌≡◌, ℕ, Bool, List, Option, Ok, Err}
 use Rattle.game_trait.specs.Rules.{Rules}
 use Rattle.wire_json.specs.declared.asked.Asked.{Asked}
 use Rattle.link_play.specs.Doing.{acted_text, acts}

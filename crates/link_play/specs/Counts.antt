@@ -1,11 +1,11 @@
 -- What an end says of the counts of faults, and of what the link told of its own end: a fault of the source, the sink or the link comes
 -- only where its count rose, and a count rises only at such a fault.
-use Rattle.std.specs.Prelude.{◌≡◌, ℕ, Result, Ok, Err}
+use Rattle.std.specs.Prelude.{◌≡◌, ℕ, Result, Err}
 use Rattle.board_links.specs.Faults.{HasRisen}
 use Rattle.board_links.specs.declared.link.Stage.{Stage}
 use Rattle.board_links.specs.declared.link.Stage.TheVariants as stage
 use Rattle.line_runner.specs.declared.exit.Exit.{Exit}
-use Rattle.line_runner.specs.declared.exit.Exit.TheVariants.{Done, Usage, ReadFault, WriteFault, BadLine, TooLong, TooMany, NoMemory, DoorFault, LinkFault, LinkEnded, LinkLong}
+use Rattle.line_runner.specs.declared.exit.Exit.TheVariants.{Usage, ReadFault, WriteFault, DoorFault, LinkFault, LinkEnded, LinkLong}
 use Rattle.link_play.specs.declared.stop.LineStatus.{LineStatus}
 use Rattle.link_play.specs.declared.stop.LineStatus.TheVariants as status
 use Rattle.link_play.specs.declared.stop.Stop.{Stop}

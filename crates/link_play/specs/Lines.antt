@@ -1,5 +1,5 @@
 -- What a line of commands comes to.
-use Rattle.std.specs.Prelude.{◌≡◌, ◌≢◌, ℕ, List, ◌++◌, take, Option, Some, None, Ok, Err}
+use Rattle.std.specs.Prelude.{◌≡◌, ◌≢◌, ℕ, List, Some, None, Err}
 use Rattle.client_predict.specs.Client.{Client}
 use Rattle.game_trait.specs.Rules.{Rules}
 use Rattle.link_play.specs.Commands.{Command, Ends, command_of}
@@ -9,7 +9,6 @@ use Rattle.link_play.specs.Sitting.{Sitting}
 use Rattle.link_play.specs.Stopping.{StopsIn}
 use Rattle.link_play.specs.declared.stop.LineStatus.{LineStatus}
 use Rattle.link_play.specs.declared.stop.LineStatus.TheVariants as status
-use Rattle.link_play.specs.declared.stop.Stop.{Stop}
 use Rattle.link_play.specs.declared.stop.Stop.TheVariants as stop
 
 -- what the client holds was printed, or some first part of it; or there was no memory for it

@@ -1,6 +1,6 @@
 -- What the lines of a source ask for: the commands before the line that ends the run, if one does, and how that line ends it.
 use Rattle.std.specs.Prelude.{ℕ, ◌+◌, List, [], ◌∷◌, ◌++◌, Option, Some, None}
-use Rattle.link_play.specs.Commands.{Command, Syncs, Nothing, Acts, Reads, Waits, Shows, Ends, command_of}
+use Rattle.link_play.specs.Commands.{Command, Syncs, Ends, command_of}
 
 pub data Close : Type 0 where
   -- no line ends the run

@@ -4,9 +4,9 @@ use Rattle.board_links.specs.Pieces.{told_bytes}
 use Rattle.board_links.specs.declared.link.Came.{Came}
 use Rattle.board_links.specs.declared.link.Came.TheVariants as came
 use Rattle.client_predict.specs.Client.{Client}
-use Rattle.client_predict.specs.Reading.{Heard, reads}
+use Rattle.client_predict.specs.Reading.{reads}
 use Rattle.game_trait.specs.Rules.{Rules}
-use Rattle.hall_history.specs.Words.{heard_word}
+use Rattle.world_history.specs.Words.{heard_word}
 
 pub record Sitting (G : Type 0) : Type 0 where
   pub client : Client G

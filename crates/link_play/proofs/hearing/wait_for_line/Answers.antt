@@ -1,4 +1,4 @@
-use Rattle.std.proofs.Common.{◌≡◌, ◌<◌, ◌∙◌, subst, Ok, refl, arith, ap}
+use Rattle.std.proofs.Common.{◌≡◌, ◌∙◌, subst, Ok, refl, arith, ap}
 use Rattle.link_play.specs.Hearing.{HearsOne}
 use Rattle.link_play.specs.Sitting.{quiet_for, sitting, told_answers}
 use Rattle.board_links.specs.Pieces.{told_bytes}

@@ -3,7 +3,7 @@ use Rattle.board_links.specs.Pieces.{told_bytes}
 use Rattle.link_play.specs.Counts.{ExitRaises}
 use Rattle.link_play.specs.Doing.{Who, sync_line}
 use Rattle.link_play.specs.Ends.{Ends}
-use Rattle.link_play.specs.Sitting.{sends, sitting, told_answers}
+use Rattle.link_play.specs.Sitting.{sitting, told_answers}
 use Rattle.link_play.proofs.Actions.{part_sent}
 use Rattle.link_play.proofs.Ending.{breaks_first}
 use Rattle.link_play.proofs.Exiting.{first_raises, first_shows}

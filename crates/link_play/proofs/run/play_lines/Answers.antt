@@ -1,4 +1,4 @@
-use Rattle.std.proofs.Common.{◌≡◌, ◌+◌, refl, sym, ap, ◌∙◌, subst, arith, Some, None}
+use Rattle.std.proofs.Common.{◌≡◌, ◌+◌, refl, sym, ap, ◌∙◌, subst, arith, None}
 use Rattle.board_links.specs.Pieces.{told_bytes}
 use Rattle.line_runner.specs.Reading.{given_after}
 use Rattle.line_runner.specs.Running.{stop_at}
