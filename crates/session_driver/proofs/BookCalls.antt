@@ -1,0 +1,49 @@
+-- A call in one of the rooms leaves the others as they were.
+use Rattle.std.proofs.Common.{◌≡◌, ◌≢◌, ◌<◌, ◌∷◌, ℕ, ◌==◌, Bool, true, false, List, length, slice_index_or, slice_set, refl, sym, ap, ◌∙◌, subst, arith}
+use Rattle.std.proofs.lemmas.Bool.Decides.{nat_tests}
+use Rattle.std.proofs.lemmas.List.{get_or-set_same, get_or-set_other, length-set}
+use Rattle.any_game.specs.AnyRules.{any_rules}
+use Rattle.any_game.specs.GameKind.{GameKind}
+use Rattle.game_hall.specs.Kept.{IsNamed}
+use Rattle.match_master.specs.Held.{is_starved}
+use Rattle.room_object.specs.Entry.{entry}
+use Rattle.session_driver.proofs.Replies.{named_by}
+use Rattle.session_driver.specs.Calls.{Did}
+use Rattle.session_driver.specs.OfBooks.{AreInOrder, CallsBook, RoomCalls}
+
+same_number : (m n : ℕ) → (m == n) ≡ true → m ≡ n
+same_number m n h = grind (arith, nat_tests)
+
+not_same : (m n : ℕ) → (m == n) ≡ false → m ≡ n → ⊥
+not_same m n e f = grind (arith, nat_tests)
+
+module _ {B : Type 0} (number : B → ℕ) (stands_for : B → RoomCalls → Type 0) (whole : B → Bool) where
+  abbrev IsInOrder : ℕ → B → Type 0
+  IsInOrder room b = (number b ≡ room) × ((h : RoomCalls) × stands_for b h)
+
+  there : (books : List B) (pass : ℕ) (made : Did) (after : List B) → AreInOrder number stands_for books → (c : CallsBook number stands_for whole books pass made after) → IsInOrder made.room c.old
+  there books pass made after a c = subst (λ x. IsInOrder made.room x) (sym c.is) (a made.room c.old c.here)
+
+  pub keeps_order : (books : List B) (pass : ℕ) (made : Did) (after : List B) → AreInOrder number stands_for books → CallsBook number stands_for whole books pass made after
+      → AreInOrder number stands_for after
+  keeps_order books pass made after a c = subst (λ xs. AreInOrder number stands_for xs) (sym c.set) (λ room d low. by room d low (made.room == room) refl)
+    where
+      old : IsInOrder made.room c.old
+      old = there books pass made after a c
+
+      new : IsInOrder made.room c.book
+      new = (c.room ∙ old.0, (entry pass made.call (is_starved made.reply) ∷ old.1.0, c.stands old.1.0 old.1.1))
+
+      by : (room : ℕ) (d : B) → room < length (slice_set books made.room c.book) → (same : Bool) → (made.room == room) ≡ same
+          → IsInOrder room (slice_index_or (slice_set books made.room c.book) room d)
+      by room d low true e =
+          subst (λ r. IsInOrder r (slice_index_or (slice_set books made.room c.book) r d)) (same_number made.room room e)
+          (subst (λ x. IsInOrder made.room x) (sym (get_or-set_same books made.room c.book d c.here)) new)
+      by room d low false e =
+          subst (λ x. IsInOrder room x) (sym (get_or-set_other books made.room room c.book d (λ same. not_same made.room room e (sym same))))
+          (a room d (subst (λ k. room < k) (length-set books made.room c.book) low))
+
+  pub named_call : (books : List B) (pass : ℕ) (made : Did) (after : List B) → AreInOrder number stands_for books → CallsBook number stands_for whole books pass made after → IsNamed made.reply
+  named_call books pass made after a c =
+      let old : IsInOrder made.room c.old = there books pass made after a c in
+      named_by any_rules (number c.old) old.1.0 (entry pass made.call (is_starved made.reply)) made.reply (c.told old.1.0 old.1.1)

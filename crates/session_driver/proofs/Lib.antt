@@ -1,0 +1,4 @@
+pub mod BookCalls
+pub mod Passes
+pub mod Replies
+pub mod Steps
