@@ -1,14 +1,17 @@
--- A call in one of the rooms leaves the others as they were.
-use Rattle.std.proofs.Common.{◌≡◌, ◌≢◌, ◌<◌, ◌∷◌, ℕ, ◌==◌, Bool, true, false, List, length, slice_index_or, slice_set, refl, sym, ap, ◌∙◌, subst, arith}
+-- A call in one of the rooms, which leaves the others as they were.
+use Rattle.std.proofs.Common.{◌≡◌, ◌<◌, ◌≤◌, ◌∷◌, ℕ, ◌==◌, Bool, true, false, List, length, slice_index_or, slice_set, refl, sym, ap, ◌∙◌, subst, arith}
 use Rattle.std.proofs.lemmas.Bool.Decides.{nat_tests}
 use Rattle.std.proofs.lemmas.List.{get_or-set_same, get_or-set_other, length-set}
 use Rattle.any_game.specs.AnyRules.{any_rules}
 use Rattle.any_game.specs.GameKind.{GameKind}
 use Rattle.game_hall.specs.Kept.{IsNamed}
-use Rattle.match_master.specs.Held.{is_starved}
+use Rattle.match_master.specs.Held.{is_starved, may_starve}
+use Rattle.room_history.specs.Room.{reply}
+use Rattle.room_history.specs.declared.call.RoomCall.{RoomCall}
+use Rattle.room_history.specs.declared.reply.RoomReply.{RoomReply}
 use Rattle.room_object.specs.Entry.{entry}
 use Rattle.session_driver.proofs.Replies.{named_by}
-use Rattle.session_driver.specs.Calls.{Did}
+use Rattle.session_driver.specs.Calls.{Did, did}
 use Rattle.session_driver.specs.OfBooks.{AreInOrder, CallsBook, RoomCalls}
 
 same_number : (m n : ℕ) → (m == n) ≡ true → m ≡ n
@@ -18,6 +21,17 @@ not_same : (m n : ℕ) → (m == n) ≡ false → m ≡ n → ⊥
 not_same m n e f = grind (arith, nat_tests)
 
 module _ {B : Type 0} (number : B → ℕ) (stands_for : B → RoomCalls → Type 0) (whole : B → Bool) where
+  pub one_call : (books : List B) (room : ℕ) (old book : B) (pass : ℕ) (made : RoomCall GameKind) (told : RoomReply) → room < length books → old ≡ slice_index_or books room old → number book ≡ number old
+      → ((h : RoomCalls) → stands_for old h → told ≡ reply any_rules (number old) h (entry pass made (is_starved told)))
+      → ((h : RoomCalls) → stands_for old h → stands_for book (entry pass made (is_starved told) ∷ h))
+      → (whole book ≡ true → is_starved told ≡ true → may_starve made ≡ true) → (whole book ≡ true → whole old ≡ true)
+      → CallsBook number stands_for whole books pass (did room made told) (slice_set books room book)
+  one_call books room old book pass made told here is same answered stands fed stopped =
+      record { old = old; book = book; here = here; is = is; room = same; told = answered; stands = stands; fed = fed; stopped = stopped; set = refl }
+
+  pub as_many_books : (books : List B) (room : ℕ) (book : B) → length books ≤ 255 → length (slice_set books room book) ≤ 255
+  as_many_books books room book few = subst (λ n. n ≤ 255) (sym (length-set books room book)) few
+
   abbrev IsInOrder : ℕ → B → Type 0
   IsInOrder room b = (number b ≡ room) × ((h : RoomCalls) × stands_for b h)
 

@@ -1,3 +1,4 @@
+pub mod Along
 pub mod BookCalls
 pub mod Passes
 pub mod Replies
