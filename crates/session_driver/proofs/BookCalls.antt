@@ -35,6 +35,9 @@ module _ {B : Type 0} (number : B → ℕ) (stands_for : B → RoomCalls → Typ
   abbrev IsInOrder : ℕ → B → Type 0
   IsInOrder room b = (number b ≡ room) × ((h : RoomCalls) × stands_for b h)
 
+  pub stands_there : (books : List B) → AreInOrder number stands_for books → (room : ℕ) (old : B) → room < length books → old ≡ slice_index_or books room old → (h : RoomCalls) × stands_for old h
+  stands_there books a room old here is = (subst (λ x. IsInOrder room x) (sym is) (a room old here)).1
+
   there : (books : List B) (pass : ℕ) (made : Did) (after : List B) → AreInOrder number stands_for books → (c : CallsBook number stands_for whole books pass made after) → IsInOrder made.room c.old
   there books pass made after a c = subst (λ x. IsInOrder made.room x) (sym c.is) (a made.room c.old c.here)
 

@@ -13,6 +13,9 @@ most_added all before one made e l m = omega (arith, e, l, m)
 nearer : (now before made most : ℕ) → now + 1 ≤ before → before + made ≤ most → now + (made + 1) ≤ most
 nearer now before made most h k = omega (arith, h, k)
 
+pub count-requires : goal.count-requires
+count-requires g c = (c.args.core.now.pass, c.requires.serves)
+
 pub loop-made-preserved : goal.loop-made-preserved
 loop-made-preserved g c =
     let core = c.loop-made.core in

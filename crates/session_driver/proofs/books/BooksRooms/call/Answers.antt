@@ -1,9 +1,13 @@
 use Rattle.session_driver.specs.Calls.{did}
-use Rattle.session_driver.proofs.BookCalls.{as_many_books, keeps_order, named_call, one_call}
+use Rattle.session_driver.proofs.BookCalls.{as_many_books, keeps_order, named_call, one_call, stands_there}
 use Rattle.session_driver.proofs.books.BooksRooms.call.Goals as goal
 
 pub call-requires : goal.call-requires
-call-requires g c = ?
+call-requires g c =
+    let b = g.B.Room in
+    record {
+      history = stands_there b.number b.stands_for b.whole c.args.self.now.books.items c.requires.serves.1 c.args.room c.index_mut.result.now c.requires.there c.index_mut.ensures.value;
+    }
 
 pub returns-clause-calls : goal.returns-clause-calls
 returns-clause-calls g c =
