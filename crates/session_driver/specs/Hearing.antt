@@ -25,7 +25,7 @@ draws words seed = record { words = words; seed = seed }
 abbrev pub HearsLine : List ℕ → Core GameKind → Draws → Core GameKind → Draws → Type 0
 HearsLine line core before after left =
     ((after ≡ heard named core (client_read line) (next_action before.words).left before.seed)
-        × (left ≡ draws (drawn (words_drawn_by (client_read line) before.seed) (next_action before.words)) (seed_left_by (client_read line) before.seed)))
+    × (left ≡ draws (drawn (words_drawn_by (client_read line) before.seed) (next_action before.words)) (seed_left_by (client_read line) before.seed)))
     ⊎ ((after ≡ starved core None) × (left ≡ draws (next_action before.words) before.seed))
 
 -- the core hears a reply; or there was no memory to go on from it, as a row that is shown and a busy room may want

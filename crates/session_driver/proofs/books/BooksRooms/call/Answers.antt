@@ -18,11 +18,12 @@ returns-clause-calls g c =
 pub returns-clause-serves : goal.returns-clause-serves
 returns-clause-serves g c =
     let b = g.B.Room in
-    let books = c.args.self.now.books.items in
-    (as_many_books b.number b.stands_for b.whole books c.args.room c.call.new.self c.requires.serves.0,
-    keeps_order b.number b.stands_for b.whole books c.args.pass (did c.args.room c.args.call c.call.result) _ c.requires.serves.1
-    (one_call b.number b.stands_for b.whole books c.args.room c.index_mut.result.now c.call.new.self c.args.pass c.args.call c.call.result
-    c.requires.there c.index_mut.ensures.value c.call.ensures.number c.call.ensures.answered c.call.ensures.stands c.call.ensures.fed c.call.ensures.stopped))
+    let books = c.args.self.now.books.items in (
+      as_many_books b.number b.stands_for b.whole books c.args.room c.call.new.self c.requires.serves.0,
+      keeps_order b.number b.stands_for b.whole books c.args.pass (did c.args.room c.args.call c.call.result) _ c.requires.serves.1
+          (one_call b.number b.stands_for b.whole books c.args.room c.index_mut.result.now c.call.new.self c.args.pass c.args.call c.call.result
+          c.requires.there c.index_mut.ensures.value c.call.ensures.number c.call.ensures.answered c.call.ensures.stands c.call.ensures.fed c.call.ensures.stopped),
+    )
 
 pub returns-clause-named : goal.returns-clause-named
 returns-clause-named g c =

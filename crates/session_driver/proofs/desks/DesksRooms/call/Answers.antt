@@ -18,10 +18,12 @@ call-requires g c =
 pub returns-clause-calls : goal.returns-clause-calls
 returns-clause-calls g c =
     let d = c.args.self.now in
-    let s = c.requires.serves in
-    (calls_at d.passes.items c.args.room c.index_mut.result.now c.call.new.pass c.args.call c.call.result
-    (within c.args.room (length d.desks.now) (length d.passes.items) c.requires.there (as_many d.desks.now c.args._pass d.passes.items s.1))
-    c.index_mut.ensures.value c.call.ensures.pass c.call.ensures.called c.call.ensures.fed, refl)
+    let s = c.requires.serves in (
+      calls_at d.passes.items c.args.room c.index_mut.result.now c.call.new.pass c.args.call c.call.result
+          (within c.args.room (length d.desks.now) (length d.passes.items) c.requires.there (as_many d.desks.now c.args._pass d.passes.items s.1))
+          c.index_mut.ensures.value c.call.ensures.pass c.call.ensures.called c.call.ensures.fed,
+      refl,
+    )
 
 pub returns-clause-serves : goal.returns-clause-serves
 returns-clause-serves g c =
