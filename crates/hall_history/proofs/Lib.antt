@@ -6,6 +6,7 @@ pub mod Delivering
 pub mod Filling
 pub mod Giving
 pub mod Handing
+pub mod Keeping
 pub mod Opens
 pub mod Placing
 pub mod Replies

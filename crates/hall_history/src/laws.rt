@@ -8,7 +8,8 @@ ghost use Rattle.game_hall.specs.declared.answer.Answer.{Answer};
 ghost use Rattle.game_hall.specs.declared.answer.Answer.TheVariants.{Again, Refused};
 ghost use Rattle.game_hall.specs.declared.next.Next.{Next};
 ghost use Rattle.room_history.specs.Alike.{AreAlike};
-ghost use Rattle.room_history.specs.Room.{session};
+ghost use Rattle.room_history.specs.Others.{KeepsAll};
+ghost use Rattle.room_history.specs.Room.{room_of, session};
 ghost use Rattle.room_history.specs.Session.{Session};
 ghost use Rattle.room_history.specs.declared.call.RoomCall.{RoomCall as Asks};
 ghost use Rattle.room_history.specs.declared.call.RoomCall.TheVariants as ask;
@@ -66,7 +67,8 @@ pub fn creates_are_full_where_rooms_are_busy<X: Game>(game: &X)
     let _game = game;
 }
 
-/// A line with a direct answer leaves each session attached where it was; after `again` its words and the seed are given back too.
+/// A line with a direct answer leaves each session attached where it was. One that is answered `again` has changed no room, however
+/// many calls it made, and its words and the seed are given back.
 pub fn want_of_memory_takes_nothing<X: Game>(game: &X)
     ensures attached { (named : List ℕ → Option X) (tape : ℕ → List ℕ) (mark : Mark) (h : Hall X) (pass : ℕ) (line : List ℕ) (a : Answer)
         → (after_line named X.rules tape mark h pass line).1 ≡ Some a
@@ -77,6 +79,9 @@ pub fn want_of_memory_takes_nothing<X: Game>(game: &X)
     ensures seed { (named : List ℕ → Option X) (tape : ℕ → List ℕ) (mark : Mark) (h : Hall X) (pass : ℕ) (line : List ℕ) (ticket : Option ℕ)
         → (after_line named X.rules tape mark h pass line).1 ≡ Some (Again ticket)
         → (after_line named X.rules tape mark h pass line).0.seed ≡ h.seed }
+    ensures rooms { (named : List ℕ → Option X) (tape : ℕ → List ℕ) (mark : Mark) (h : Hall X) (pass : ℕ) (line : List ℕ) (ticket : Option ℕ)
+        → (after_line named X.rules tape mark h pass line).1 ≡ Some (Again ticket)
+        → (room : ℕ) → KeepsAll (room_of X.rules room (history_of h.rooms room)) (room_of X.rules room (history_of (after_line named X.rules tape mark h pass line).0.rooms room)) }
 {
     let _game = game;
 }
