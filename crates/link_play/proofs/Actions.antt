@@ -7,7 +7,7 @@ use Rattle.client_predict.specs.Client.{Client, Playing}
 use Rattle.client_predict.specs.declared.told.ActNo.{ActNo}
 use Rattle.client_predict.specs.declared.told.ActNo.TheVariants as act_no
 use Rattle.game_trait.specs.Rules.{Rules}
-use Rattle.hall_history.specs.Words.{act_no_word}
+use Rattle.world_history.specs.Words.{act_no_word}
 use Rattle.wire_json.specs.declared.asked.Asked.{Asked}
 use Rattle.link_play.specs.Acting.{ActsOn}
 use Rattle.link_play.specs.Commands.{Acts}

@@ -6,7 +6,7 @@ use Rattle.board_links.specs.declared.link.Came.TheVariants as came
 use Rattle.client_predict.specs.Client.{Client}
 use Rattle.client_predict.specs.Reading.{Heard, reads}
 use Rattle.game_trait.specs.Rules.{Rules}
-use Rattle.hall_history.specs.Words.{heard_word}
+use Rattle.world_history.specs.Words.{heard_word}
 
 pub record Sitting (G : Type 0) : Type 0 where
   pub client : Client G

@@ -3,7 +3,7 @@ use Rattle.std.proofs.Common.{replicate}
 use Rattle.client_world.specs.IsWorld.{HeldWorld, IsWorld}
 use Rattle.hall_history.specs.Hall.{new_hall}
 use Rattle.hall_history.specs.Tapes.{hall_tape}
-use Rattle.hall_history.specs.World.{new_world}
+use Rattle.world_history.specs.World.{new_world}
 use Rattle.session_hall.specs.Held.{HeldHall, StandsForHall, tape_of}
 use Rattle.world_script.specs.ScriptPlay.{script_play}
 use Rattle.world_script.specs.Sessions.{rooms_of_script}

@@ -5,12 +5,12 @@ use Rattle.any_game.specs.declared.any_g.AnyG.{AnyG}
 use Rattle.client_world.specs.IsWorld.{HeldWorld, IsWorld}
 use Rattle.client_world.specs.Reading.{world_step_of}
 use Rattle.hall_history.specs.Tapes.{hall_tape}
-use Rattle.hall_history.specs.World.{Step, World}
-use Rattle.hall_history.specs.WorldScript.{does, runs_world}
+use Rattle.world_history.specs.World.{Step, World}
+use Rattle.world_history.specs.WorldScript.{does, runs_world}
 use Rattle.world_script.specs.Deliveries.{DeliversLines, first_world}
 use Rattle.world_script.specs.Play.{Play}
 
--- its transcript is that of hall_history over its steps, with the words of a script's tape
+-- its transcript is that of world_history over its steps, with the words of a script's tape
 unfoldable pub world_play : Play (Step GameKind) (World GameKind AnyG) HeldWorld
 world_play = record {
   form = world_step_of;
