@@ -2,7 +2,7 @@
 use Rattle.std.specs.Prelude.{◌≡◌, ℕ, List, ◌++◌, take, Option, Some}
 use Rattle.any_game.specs.AnyRules.{any_rules, named}
 use Rattle.hall_history.specs.Tapes.{hall_tape, steps_tape}
-use Rattle.hall_history.specs.Workload.{transcript}
+use Rattle.world_history.specs.Workload.{transcript}
 use Rattle.line_runner.specs.declared.exit.Exit.{Exit}
 use Rattle.line_runner.specs.declared.exit.Exit.TheVariants.{Done, WriteFault, NoMemory}
 

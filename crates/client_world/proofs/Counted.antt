@@ -25,10 +25,10 @@ use Rattle.hall_history.specs.Freeing.{frees}
 use Rattle.hall_history.specs.Hall.{Hall, after_line}
 use Rattle.hall_history.specs.Mark.{Mark, Served}
 use Rattle.hall_history.specs.Rooms.{Rooms}
-use Rattle.hall_history.specs.Words.{act_no_word, feed_no_word, heard_word, of_client, predicted_word, told_word}
-use Rattle.hall_history.specs.Workload.{is_held, is_read, is_some_no}
-use Rattle.hall_history.specs.World.{World, Acts, Arrives, Reads, with_down, with_hall, with_up}
-use Rattle.hall_history.specs.WorldScript.{acts, acts_in, arrived, arrives, answer_lines, does, has_starved, prints_word, reads_in, takes}
+use Rattle.world_history.specs.Words.{act_no_word, feed_no_word, heard_word, of_client, predicted_word, told_word}
+use Rattle.world_history.specs.Workload.{is_held, is_read, is_some_no}
+use Rattle.world_history.specs.World.{World, Acts, Arrives, Reads, with_down, with_hall, with_up}
+use Rattle.world_history.specs.WorldScript.{acts, acts_in, arrived, arrives, answer_lines, does, has_starved, prints_word, reads_in, takes}
 use Rattle.room_history.specs.Session.{bye_lines, bytes_handed_out}
 use Rattle.room_history.specs.declared.call.RoomCall.TheVariants as call
 use Rattle.room_history.specs.declared.reply.RoomReply.{RoomReply}
@@ -36,7 +36,7 @@ use Rattle.room_history.specs.declared.reply.RoomReply.TheVariants as reply
 use Rattle.session_hall.specs.Answered.{HearsLine}
 use Rattle.session_hall.specs.Held.{StandsForHall}
 use Rattle.session_hall.specs.Requests.{Tallies}
-use Rattle.session_hall.specs.declared.tally.Tally.{Tally}
+use Rattle.session_driver.specs.declared.tally.Tally.{Tally}
 use Rattle.wire_json.specs.declared.asked.Asked.{Asked}
 use Rattle.client_world.specs.Counted.{HasActed, HasArrived, HasHanded, HasHandedReply, HasTaken, TellsHeld, TellsRead, handed_in}
 use Rattle.client_world.specs.Counted.{HasRead as HasReadLine}

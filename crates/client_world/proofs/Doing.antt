@@ -17,9 +17,9 @@ use Rattle.hall_history.specs.Freeing.{frees, frees_at}
 use Rattle.hall_history.specs.Hall.{Hall, after_line}
 use Rattle.hall_history.specs.Mark.{Mark, Served}
 use Rattle.hall_history.specs.Opening.{after_open, opened_text, own_entry, seat_key}
-use Rattle.hall_history.specs.Words.{heard_word, of_client}
-use Rattle.hall_history.specs.World.{World, Acts, Arrives, Attaches, Leaves, Opens, Reads, Takes, with_client, with_down, with_hall, with_up}
-use Rattle.hall_history.specs.WorldScript.{acts, acts_in, answer_lines, arrived, arrives, claim_of, drops, has_starved, key_of, leaves_by, prints_word, reads_in, refused_text, takes}
+use Rattle.world_history.specs.Words.{heard_word, of_client}
+use Rattle.world_history.specs.World.{World, Acts, Arrives, Attaches, Leaves, Opens, Reads, Takes, with_client, with_down, with_hall, with_up}
+use Rattle.world_history.specs.WorldScript.{acts, acts_in, answer_lines, arrived, arrives, claim_of, drops, has_starved, key_of, leaves_by, prints_word, reads_in, refused_text, takes}
 use Rattle.client_predict.specs.Client.{Held, Playing, fresh}
 use Rattle.client_predict.specs.Acting.{act_no}
 use Rattle.client_predict.specs.declared.told.ActNo.{ActNo}

@@ -7,7 +7,7 @@ use Rattle.std.proofs.lemmas.Option.{slice_get-get_or, get_or_from_slice_get}
 use Rattle.any_game.specs.GameKind.{GameKind}
 use Rattle.any_game.specs.declared.any_g.AnyG.{AnyG}
 use Rattle.client_predict.specs.Client.{Held}
-use Rattle.hall_history.specs.World.{World, new_world, with_client, with_down, with_up}
+use Rattle.world_history.specs.World.{World, new_world, with_client, with_down, with_up}
 use Rattle.client_world.specs.Peers.{ArePeers, no_peer, peer_of}
 use Rattle.client_world.specs.declared.peer.Peer.{Peer}
 

@@ -7,7 +7,7 @@ use Rattle.std.specs.Str.{is_utf8}
 use Rattle.std.proofs.lemmas.Bool.{eq-eqb, eqb-true}
 use Rattle.std.proofs.lemmas.Str.{IsUtf8-from_is_utf8, is_utf8-from_IsUtf8}
 use Rattle.std.proofs.lemmas.Str.Pattern.{IsSplitOnceResult, split_once_first}
-use Rattle.hall_history.specs.World.{Nothing}
+use Rattle.world_history.specs.World.{Nothing}
 use Rattle.client_world.specs.Reading.{cut, is_blank, step_in, world_step_of}
 
 pub is_text : (line : List ℕ) → IsUtf8 line → is_utf8 line ≡ true

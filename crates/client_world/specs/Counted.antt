@@ -19,16 +19,16 @@ use Rattle.hall_history.specs.Counts.{hands_out}
 use Rattle.hall_history.specs.Freeing.{frees}
 use Rattle.hall_history.specs.Mark.{Served}
 use Rattle.hall_history.specs.Opening.{after_open}
-use Rattle.hall_history.specs.Workload.{is_held, is_read}
-use Rattle.hall_history.specs.World.{Step, World, with_down, with_hall}
-use Rattle.hall_history.specs.World as step
-use Rattle.hall_history.specs.WorldScript.{answer_lines, does, takes}
+use Rattle.world_history.specs.Workload.{is_held, is_read}
+use Rattle.world_history.specs.World.{Step, World, with_down, with_hall}
+use Rattle.world_history.specs.World as step
+use Rattle.world_history.specs.WorldScript.{answer_lines, does, takes}
 use Rattle.room_history.specs.Session.{bye_lines}
 use Rattle.room_history.specs.declared.call.RoomCall.TheVariants.{Take}
 use Rattle.room_history.specs.declared.reply.RoomReply.{RoomReply}
 use Rattle.session_hall.specs.Opens.{made_by}
 use Rattle.session_hall.specs.Requests.{Tallies}
-use Rattle.session_hall.specs.declared.tally.Tally.{Tally}
+use Rattle.session_driver.specs.declared.tally.Tally.{Tally}
 use Rattle.wire_json.specs.declared.asked.Asked.{Asked}
 use Rattle.client_world.specs.IsWorld.{HeldWorld, IsWorld}
 

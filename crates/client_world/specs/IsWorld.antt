@@ -4,8 +4,8 @@ use Rattle.any_game.specs.AnyRules.{any_rules, named}
 use Rattle.any_game.specs.GameKind.{GameKind}
 use Rattle.any_game.specs.declared.any_g.AnyG.{AnyG}
 use Rattle.hall_history.specs.Mark.{Mark}
-use Rattle.hall_history.specs.World.{World, Step}
-use Rattle.hall_history.specs.WorldScript.{does}
+use Rattle.world_history.specs.World.{World, Step}
+use Rattle.world_history.specs.WorldScript.{does}
 use Rattle.session_hall.specs.Held.{HeldHall, StandsForHall}
 use Rattle.client_world.specs.Peers.{ArePeers}
 use Rattle.client_world.specs.declared.peer.Peer.{Peer}

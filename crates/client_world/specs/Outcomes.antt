@@ -15,9 +15,9 @@ use Rattle.client_predict.specs.declared.told.Told.{Told}
 use Rattle.game_sheet.specs.Lines.{lines}
 use Rattle.game_sheet.specs.declared.act.Bye.{Bye}
 use Rattle.hall_history.specs.Mark.{Mark}
-use Rattle.hall_history.specs.Words.{act_no_word, heard_word, of_client, predicted_word}
-use Rattle.hall_history.specs.World.{World, with_up, with_down}
-use Rattle.hall_history.specs.WorldScript.{acts, has_starved, left_text, prints_word, reads_in, refused_text, takes, Done}
+use Rattle.world_history.specs.Words.{act_no_word, heard_word, of_client, predicted_word}
+use Rattle.world_history.specs.World.{World, with_up, with_down}
+use Rattle.world_history.specs.WorldScript.{acts, has_starved, left_text, prints_word, reads_in, refused_text, takes, Done}
 use Rattle.room_history.specs.Session.{bye_lines}
 use Rattle.room_history.specs.declared.reply.RoomReply.{RoomReply}
 use Rattle.wire_json.specs.RefusalText.{refusal_text}

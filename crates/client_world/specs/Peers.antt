@@ -2,7 +2,7 @@
 use Rattle.std.specs.Prelude.{◌≡◌, ◌<◌, ℕ, List, [], length, slice_get, Some, None}
 use Rattle.any_game.specs.GameKind.{GameKind}
 use Rattle.any_game.specs.declared.any_g.AnyG.{AnyG}
-use Rattle.hall_history.specs.World.{World}
+use Rattle.world_history.specs.World.{World}
 use Rattle.client_world.specs.declared.peer.Peer.{Peer}
 
 abbrev pub peer_of : World GameKind AnyG → ℕ → Peer

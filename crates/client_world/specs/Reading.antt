@@ -19,7 +19,7 @@ use Rattle.wire_json.specs.declared.asked.AskedTo.{AskedTo}
 use Rattle.wire_json.specs.declared.asked.AskedTo.TheVariants.{Nothing as Nowhere, Seat, Name as Named}
 use Rattle.wire_json.specs.declared.protocol.Protocol.{Protocol}
 use Rattle.wire_json.specs.declared.protocol.Protocol.TheVariants.{One, Two}
-use Rattle.hall_history.specs.World.{Step, Nothing, Seeds, Opens, Attaches, Acts, Arrives, Takes, Reads, Drops, Leaves, Shows}
+use Rattle.world_history.specs.World.{Step, Nothing, Seeds, Opens, Attaches, Acts, Arrives, Takes, Reads, Drops, Leaves, Shows}
 
 abbrev pub is_blank : ℕ → Bool
 is_blank b = b == 32

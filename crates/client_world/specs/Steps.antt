@@ -1,7 +1,7 @@
 -- The steps of a world as the code has them, and which it may run.
 use Rattle.std.specs.Prelude.{◌<◌}
 use Rattle.any_game.specs.GameKind.{GameKind}
-use Rattle.hall_history.specs.World.{Step, Nothing, Seeds, Opens, Attaches, Acts, Arrives, Takes, Reads, Drops, Leaves, Shows}
+use Rattle.world_history.specs.World.{Step, Nothing, Seeds, Opens, Attaches, Acts, Arrives, Takes, Reads, Drops, Leaves, Shows}
 use Rattle.wire_json.specs.Asking.{IsAskable}
 use Rattle.client_world.specs.declared.step.WorldStep.{WorldStep}
 use Rattle.client_world.specs.declared.step.WorldStep.TheVariants as world

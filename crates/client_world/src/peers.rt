@@ -4,7 +4,7 @@ ghost use Rattle.std.specs.Prelude.{◌≡◌, ◌<◌, ◌++◌, ◌∷◌, ℕ
 ghost use Rattle.any_game.specs.GameKind.{GameKind};
 ghost use Rattle.any_game.specs.declared.any_g.AnyG.{AnyG};
 ghost use Rattle.game_sheet.specs.Lines.{lines};
-ghost use Rattle.hall_history.specs.World.{World, new_world, with_client, with_down, with_up};
+ghost use Rattle.world_history.specs.World.{World, new_world, with_client, with_down, with_up};
 ghost use Rattle.wire_json.specs.Asking.{IsAskable};
 ghost use Rattle.client_world.specs.Outcomes.{Acted, PopsUp, ReadsNext};
 ghost use Rattle.client_world.specs.Peers.{ArePeers};

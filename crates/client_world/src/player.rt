@@ -7,7 +7,7 @@ ghost use Rattle.client_predict.specs.Client.{fresh, settled_in, shown_in};
 ghost use Rattle.client_predict.specs.Reading.{Hears, reads};
 ghost use Rattle.client_predict.specs.declared.told.ActNo.TheVariants as unacted;
 ghost use Rattle.hall_history.specs.Opening.{seat_key};
-ghost use Rattle.hall_history.specs.WorldScript.{key_of, shown_text};
+ghost use Rattle.world_history.specs.WorldScript.{key_of, shown_text};
 ghost use Rattle.wire_json.specs.Asking.{IsAskable};
 
 mod choosing;

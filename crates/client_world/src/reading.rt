@@ -3,7 +3,7 @@
 ghost use Rattle.std.specs.Prelude.{◌≡◌, ◌<◌, IfOk, IfSome, option_map, option_and_then};
 ghost use Rattle.any_game.specs.AnyRules.{any_rules};
 ghost use Rattle.room_history.specs.Reply.{seats_fit};
-ghost use Rattle.hall_history.specs.World.{Seeds};
+ghost use Rattle.world_history.specs.World.{Seeds};
 ghost use Rattle.wire_json.specs.KeyText.{lower_hex};
 ghost use Rattle.client_world.specs.Reading.{acting, attaching, attaching_as, by_client, client_step, cut, is_played, leaving, opening, opening_of, step_in, world_step_of};
 ghost use Rattle.client_world.specs.Steps.{step_of, IsRunnable};

@@ -4,8 +4,8 @@ ghost use Rattle.std.specs.Prelude.{◌≡◌, ◌++◌, ◌∷◌, codes, false
 ghost use Rattle.serde_json.specs.View.{view};
 ghost use Rattle.serde_json.specs.Written.{compact_text, has_float};
 ghost use Rattle.client_predict.specs.Stack.{snapshot_of};
-ghost use Rattle.hall_history.specs.WorldScript.{snapshot_text};
-ghost use Rattle.hall_history.specs.Words.{of_client};
+ghost use Rattle.world_history.specs.WorldScript.{snapshot_text};
+ghost use Rattle.world_history.specs.Words.{of_client};
 
 use client_predict::Shown;
 use game_sheet::NoMemory;

@@ -3,8 +3,8 @@
 ghost use Rattle.std.specs.Prelude.{◌≡◌, ◌++◌, ◌∷◌, false, codes, decimal, Err, IfOk, OnOk};
 ghost use Rattle.client_predict.specs.Reading.{is_starved};
 ghost use Rattle.game_hall.specs.Requests.{refusal_by};
-ghost use Rattle.hall_history.specs.WorldScript.{left_text, refused_text};
-ghost use Rattle.hall_history.specs.Words.{act_no_word, feed_no_word, heard_word, of_client, predicted_word, told_word};
+ghost use Rattle.world_history.specs.WorldScript.{left_text, refused_text};
+ghost use Rattle.world_history.specs.Words.{act_no_word, feed_no_word, heard_word, of_client, predicted_word, told_word};
 ghost use Rattle.session_hall.specs.Answered.{made_text};
 ghost use Rattle.wire_json.specs.RefusalText.{refusal_text};
 ghost use Rattle.wire_json.specs.declared.refusal.Refusal.TheVariants.{NoMatch};

@@ -7,9 +7,9 @@ ghost use Rattle.any_game.specs.declared.any_g.AnyG.{AnyG};
 ghost use Rattle.game_hall.specs.Core.{is_again, text_said};
 ghost use Rattle.game_hall.specs.declared.answer.Answer.{Answer};
 ghost use Rattle.hall_history.specs.Freeing.{frees};
-ghost use Rattle.hall_history.specs.Words.{of_client};
-ghost use Rattle.hall_history.specs.World.{World, new_world, with_client, with_down, with_hall, with_up, Acts, Arrives, Attaches, Drops, Leaves, Opens, Reads, Seeds, Shows, Takes};
-ghost use Rattle.hall_history.specs.WorldScript.{answer_lines, claim_of, drops};
+ghost use Rattle.world_history.specs.Words.{of_client};
+ghost use Rattle.world_history.specs.World.{World, new_world, with_client, with_down, with_hall, with_up, Acts, Arrives, Attaches, Drops, Leaves, Opens, Reads, Seeds, Shows, Takes};
+ghost use Rattle.world_history.specs.WorldScript.{answer_lines, claim_of, drops};
 ghost use Rattle.room_history.specs.declared.call.RoomCall.TheVariants.{Detach};
 ghost use Rattle.session_hall.specs.Held.{tape_of};
 ghost use Rattle.wire_json.specs.Asking.{IsAskable};
@@ -36,7 +36,7 @@ use wire_json::{Asked, ClientMsg, Protocol, write_client};
 
 /// The rooms of a server, 32 clients, and a link to and from the session of each.
 ///
-/// Contracts see what it holds, and that it stands for a world as `hall_history` has it. A client's session has the client's number
+/// Contracts see what it holds, and that it stands for a world as `world_history` has it. A client's session has the client's number
 /// as its pass. A step prints what its line of a world prints. After `NoMemory` a run is at its end, and no more is said of the world.
 pub struct ClientWorld {
     alloc: Global,

@@ -2,14 +2,12 @@ pub mod Adds
 pub mod Asking
 pub mod Clauses
 pub mod Counting
-pub mod Delivering
 pub mod Filling
 pub mod Giving
 pub mod Handing
 pub mod Keeping
 pub mod Opens
 pub mod Placing
-pub mod Replies
 pub mod Rooming
 pub mod Telling
-pub mod WorldPlacing
+pub use Rattle.session_driver.proofs.Replies

@@ -10,8 +10,3 @@ pub mod Rooms
 pub mod Script
 pub mod Tapes
 pub mod Told
-pub mod Words
-pub mod Workload
-pub mod World
-pub mod WorldScript
-pub mod WorldTold

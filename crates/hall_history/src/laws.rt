@@ -30,9 +30,6 @@ ghost use Rattle.hall_history.specs.Placed.{IsPlaced};
 ghost use Rattle.hall_history.specs.Rooms.{history_of, reply_in};
 ghost use Rattle.hall_history.specs.Script.{Step, script_hall};
 ghost use Rattle.hall_history.specs.Told.{handed_out};
-ghost use Rattle.hall_history.specs.World.{Step as WorldStep, new_world};
-ghost use Rattle.hall_history.specs.WorldScript.{runs_world};
-ghost use Rattle.hall_history.specs.WorldTold.{delivered};
 
 use game_trait::Game;
 
@@ -105,8 +102,6 @@ pub fn halls_agree_with_their_rooms<X: Game>(game: &X)
     ensures call { (h : Hall X) (pass : ℕ) (made : Asks X) → IsPlaced X.rules h → IsPlaced X.rules (frees X.rules h pass made).0 }
     ensures open { (named : List ℕ → Option X) (tape : ℕ → List ℕ) (h : Hall X) (name : List ℕ) (seats : ℕ)
         → IsPlaced X.rules h → IsPlaced X.rules (after_open named X.rules tape h name seats).0 }
-    ensures world { (named : List ℕ → Option X) (tape : ℕ → List ℕ) (rooms : ℕ) (marks : List Mark) (lines : List (WorldStep X))
-        → IsPlaced X.rules (runs_world named X.rules tape marks lines (new_world rooms)).0.hall }
 {
     let _game = game;
 }
@@ -117,16 +112,6 @@ pub fn scripts_print_what_is_sent<X: Game>(game: &X)
         → (pass room j : ℕ) (s : Session)
         → session X.rules room (history_of (script_hall named X.rules tape rooms marks steps).rooms room) pass j ≡ Some s
         → concat s.sent ≡ handed_out named X.rules tape pass room j marks steps (new_hall rooms) }
-{
-    let _game = game;
-}
-
-/// Along a world, what Takes put on down links for a session is what it was sent.
-pub fn worlds_deliver_what_is_sent<X: Game>(game: &X)
-    ensures { (named : List ℕ → Option X) (tape : ℕ → List ℕ) (rooms : ℕ) (marks : List Mark) (lines : List (WorldStep X))
-        → (pass room j : ℕ) (s : Session)
-        → session X.rules room (history_of (runs_world named X.rules tape marks lines (new_world rooms)).0.hall.rooms room) pass j ≡ Some s
-        → concat s.sent ≡ delivered named X.rules tape pass room j marks lines (new_world rooms) }
 {
     let _game = game;
 }

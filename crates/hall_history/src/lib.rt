@@ -1,4 +1,4 @@
-//! What the lines of sessions make of a server of several rooms, and what they print: of scripts, and of worlds.
+//! What the lines of sessions make of a server of several rooms, and what scripts of them print.
 #![tactic(auto)]
 
 mod laws;
@@ -7,5 +7,5 @@ pub use laws::{
     acts_go_to_the_attached_room, creates_are_full_where_rooms_are_busy,
     halls_agree_with_their_rooms, lines_add_their_own_calls, requests_end,
     scripts_print_alike_sessions_the_same, scripts_print_what_is_sent,
-    want_of_memory_takes_nothing, worlds_deliver_what_is_sent,
+    want_of_memory_takes_nothing,
 };

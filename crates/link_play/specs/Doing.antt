@@ -7,7 +7,7 @@ use Rattle.client_predict.specs.declared.told.ActNo.{ActNo}
 use Rattle.game_sheet.specs.MatchName.{Name}
 use Rattle.game_sheet.specs.Viewer.{Viewer}
 use Rattle.game_trait.specs.Rules.{Rules}
-use Rattle.hall_history.specs.Words.{act_no_word, predicted_word}
+use Rattle.world_history.specs.Words.{act_no_word, predicted_word}
 use Rattle.player_sight.specs.Seen.{snap_of}
 use Rattle.player_sight.specs.SnapshotData.{snapshot_data}
 use Rattle.player_sight.specs.declared.shown.Snapshot.{Snapshot}

@@ -4,7 +4,7 @@ use Rattle.board_links.specs.Faults.{HasRisen}
 use Rattle.client_predict.specs.Client.{Client}
 use Rattle.client_predict.specs.Reading.{reads}
 use Rattle.game_trait.specs.Rules.{Rules}
-use Rattle.hall_history.specs.Words.{heard_word}
+use Rattle.world_history.specs.Words.{heard_word}
 use Rattle.link_play.specs.Sitting.{on_line}
 use Rattle.link_play.specs.declared.stop.Stop.{Stop}
 use Rattle.link_play.specs.declared.stop.Stop.TheVariants as stop

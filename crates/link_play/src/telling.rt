@@ -1,7 +1,7 @@
 //! The words that a player is told: what came of an action, and of a line that was read. They take no memory.
 
 ghost use Rattle.std.specs.Prelude.{◌≡◌, ◌≤◌, ◌++◌, ◌∷◌, [], codes, decimal, length};
-ghost use Rattle.hall_history.specs.Words.{act_no_word, feed_no_word, heard_word, predicted_word, told_word};
+ghost use Rattle.world_history.specs.Words.{act_no_word, feed_no_word, heard_word, predicted_word, told_word};
 ghost use Rattle.link_play.specs.Sitting.{on_line};
 
 use arrayvec::ArrayString;

@@ -7,7 +7,7 @@ use Rattle.any_game.specs.AnyRules.{any_rules, named}
 use Rattle.any_game.specs.GameKind.{GameKind}
 use Rattle.any_game.specs.declared.any_g.AnyG.{AnyG}
 use Rattle.dice_words.specs.Strip.{Strip, begun, place_of}
-use Rattle.game_hall.specs.Core.{Core, fresh, moved, plain, released}
+use Rattle.game_hall.specs.Core.{Core, fresh, is_again, moved, plain, released, written}
 use Rattle.game_hall.specs.Words.{drawn, next_action, seed_left_by, seed_of, seed_words, words_drawn_by}
 use Rattle.game_hall.specs.declared.next.Next.{Next}
 use Rattle.game_hall.specs.declared.next.Next.TheVariants.{Calls, Says, Attaches, Silent}
@@ -30,8 +30,16 @@ use Rattle.wire_json.specs.ClientReading.{client_read}
 use Rattle.session_hall.specs.Answered.{Frees, HearsLine, Leaves, Opens, leaving, leaving_by}
 use Rattle.session_hall.specs.Held.{AreBooks, AreCores, HeldHall, IsBook, IsTape, StandsForHall, StandsForOne}
 use Rattle.session_hall.specs.Opens.{OpensIn}
-use Rattle.session_hall.specs.Requests.{HearsRequest, IsReady}
-use Rattle.session_hall.specs.declared.tally.Tally.{Tally}
+use Rattle.session_driver.specs.Calls.{did}
+use Rattle.session_driver.specs.Freeing.{Frees as FreesBy, FreesAt, freed_by}
+use Rattle.session_driver.specs.OfBooks.{AreInOrder}
+use Rattle.session_driver.specs.Hearing.{Draws, Hears, Side, draws, side}
+use Rattle.session_driver.specs.declared.tally.Tally.{Tally}
+use Rattle.session_driver.proofs.Along.{drawn_served}
+use Rattle.session_hall.proofs.Requests.{HearsRequest, IsReady}
+use Rattle.session_hall.proofs.Hearing.{hears_as}
+use Rattle.session_hall.proofs.OfHall.{hall_hears_line}
+use Rattle.session_hall.proofs.RunsBooks.{calls_book, in_order, room_of, stands_by}
 use Rattle.session_hall.proofs.Books.{Books, put_core, put_entry, same_cores}
 use Rattle.session_hall.proofs.Tapes.{after_drawing, after_rewinding, next_words}
 
@@ -124,8 +132,12 @@ module _ (tape : ℕ → List ℕ) (held : HeldHall) (h : Hall GameKind) (s : St
     pub own_room : c.at ≡ h.at pass
     own_room = ap (λ (x : Core GameKind). x.at) own_core
 
-  pub few_books : length held.books ≤ 64
+  few_books : length held.books ≤ 255
   few_books = omega (arith, s.most, s.books_held.count)
+
+  -- the driver may call them
+  pub books_serve : (length held.books ≤ 255) × AreInOrder room_of stands_by held.books
+  books_serve = (few_books, in_order held.books h.rooms s.books_held)
 
   -- ---- a session's line
 
@@ -166,37 +178,38 @@ module _ (tape : ℕ → List ℕ) (held : HeldHall) (h : Hall GameKind) (s : St
       tallies = r.tallies;
     }
 
-  -- ---- a session's line, by what its request came to
+  -- ---- a session's line, by what the driver made of it
 
-  module _ (pass : ℕ) (there : pass < 32) (line : List ℕ) (c : Core GameKind) (is : c ≡ slice_index_or held.cores pass c) (books : Books) (found : books ≡ held.books)
-      (d : Core GameKind) (after : Books) (said : List ℕ) (again : Bool) (tally : Tally)
-      (hears : IsReady tape h pass c books (next_action held.tape).left held.seed → HearsRequest tape h pass (client_read line) d after said again tally) where
-    heard_so : HearsRequest tape h pass (client_read line) d after said again tally
-    heard_so = hears (record {
-      is_core = own_core pass there c is;
-      are_books = subst (λ x. AreBooks x h.rooms) (sym found) s.books_held;
-      are_words = next_words tape h.place held.tape s.tape_held;
-      is_seed = s.seed_held;
-    })
+  module _ (pass : ℕ) (there : pass < 32) (line : List ℕ) (c : Core GameKind) (is : c ≡ slice_index_or held.cores pass c)
+      (d : Core GameKind) (after : Books) (left : Draws) (tally : Tally) (k : Hears calls_book line (side held.books c) (draws held.tape held.seed) (side after d) left tally)
+      (now : Core GameKind) (is_now : now ≡ plain d) (said : List ℕ) (is_said : said ≡ written d) (again : Bool) (is_again_so : again ≡ is_again d.said) where
+    ready : IsReady tape h pass c held.books (next_action held.tape).left held.seed
+    ready = record { is_core = own_core pass there c is; are_books = s.books_held; are_words = next_words tape h.place held.tape s.tape_held; is_seed = s.seed_held }
+
+    heard_so : HearsRequest tape h pass (client_read line) now after said again tally
+    heard_so =
+        hears_as tape h pass (client_read line) d now after after said again tally tally
+        (hall_hears_line tape h pass line c held.books (draws held.tape held.seed) ready d after left tally k) is_now is_said is_again_so refl refl
 
     -- there was no memory for it
-    pub line_again : again ≡ true → (last : Strip) → last.source ≡ held.tape.source → (at : ℕ) → at ≡ place_of held.tape → (new : Strip) → new ≡ begun last.source at
-        → HearsLine tape h pass line (record { books = after; cores = slice_set held.cores pass d; tape = new; seed = held.seed }) said again tally
-    line_again e last same at stood new is_new =
-        line_heard pass there line d after said again tally heard_so new held.seed
-        (λ t. (after_rewinding tape h.place held.tape s.tape_held last new same (is_new ∙ ap (λ k. begun last.source k) stood), s.seed_held))
-        (λ f. absurd (true_false (sym e ∙ f)))
+    kept : again ≡ true → IsTape tape h.place left.words × (left.seed ≡ h.seed)
+    kept e =
+        let given : left ≡ draws (next_action held.tape) held.seed = k.draws_after ∙ ap (λ b. if b then draws (next_action held.tape) held.seed else k.left) (sym is_again_so ∙ e) in (
+          after_rewinding tape h.place held.tape s.tape_held held.tape left.words refl (ap (λ (x : Draws). x.words) given),
+          ap (λ (x : Draws). x.seed) given ∙ s.seed_held,
+        )
 
-    pub line_served : again ≡ false → (new : Strip) → new ≡ drawn (words_drawn_by (client_read line) held.seed) (next_action held.tape)
-        → (seed : Option (List ℕ)) → seed ≡ seed_left_by (client_read line) held.seed
-        → HearsLine tape h pass line (record { books = after; cores = slice_set held.cores pass d; tape = new; seed = seed }) said again tally
-    line_served e new drew seed left =
-        line_heard pass there line d after said again tally heard_so new seed
-        (λ t. absurd (true_false (sym t ∙ e)))
-        (λ f. (
-          after_drawing tape h.place held.tape s.tape_held (words_drawn_by (client_read line) h.seed) new (drew ∙ ap (λ x. drawn (words_drawn_by (client_read line) x) (next_action held.tape)) s.seed_held),
-          left ∙ ap (λ x. seed_left_by (client_read line) x) s.seed_held,
-        ))
+    drew : again ≡ false → IsTape tape (h.place + words_drawn_by (client_read line) h.seed) left.words × (left.seed ≡ seed_left_by (client_read line) h.seed)
+    drew e =
+        let so : left ≡ draws (drawn (words_drawn_by (client_read line) held.seed) (next_action held.tape)) (seed_left_by (client_read line) held.seed) =
+        drawn_served calls_book line (side held.books c) (draws held.tape held.seed) (side after d) left tally k (sym is_again_so ∙ e) in (
+          after_drawing tape h.place held.tape s.tape_held (words_drawn_by (client_read line) h.seed) left.words
+              (ap (λ (x : Draws). x.words) so ∙ ap (λ x. drawn (words_drawn_by (client_read line) x) (next_action held.tape)) s.seed_held),
+          ap (λ (x : Draws). x.seed) so ∙ ap (λ x. seed_left_by (client_read line) x) s.seed_held,
+        )
+
+    pub line_driven : HearsLine tape h pass line (record { books = after; cores = slice_set held.cores pass now; tape = left.words; seed = left.seed }) said again tally
+    line_driven = line_heard pass there line now after said again tally heard_so left.words left.seed kept drew
 
   -- ---- a Take and a Detach
 
@@ -233,45 +246,57 @@ module _ (tape : ℕ → List ℕ) (held : HeldHall) (h : Hall GameKind) (s : St
     }
 
   module _ (pass : ℕ) (there : pass < 32) (made : RoomCall GameKind) (never : may_starve made ≡ false) (c : Core GameKind) (is : c ≡ slice_index_or held.cores pass c)
-      (room : ℕ) (at : Some room ≡ c.at) (below : room < c.rooms) (old new : Held GameKind AnyG) (found : old ≡ slice_index_or held.books room old) (same : new.room ≡ old.room) (told : RoomReply)
-      (answered : (g : History GameKind) → StandsFor any_rules old g → told ≡ reply any_rules old.room g (entry pass made (is_starved told)))
-      (stands : (g : History GameKind) → StandsFor any_rules old g → StandsFor any_rules new (entry pass made (is_starved told) ∷ g))
-      (fed : is_starved told ≡ true → may_starve made ≡ true) where
+      (room : ℕ) (at : Some room ≡ c.at) (told : RoomReply) (books : Books) (called : calls_book held.books pass (did room made told) books) where
     served : is_starved told ≡ false
-    served = not_starved (is_starved told) (λ e. sym never ∙ fed e)
+    served = not_starved (is_starved told) (λ e. sym never ∙ called.fed refl e)
 
     in_rooms : room < length h.rooms
-    in_rooms = subst (λ k. room < k) (own_rooms pass there c is ∙ s.books_held.count) below
+    in_rooms = subst (λ k. room < k) s.books_held.count called.here
 
-    held_book : IsBook room h.rooms old
-    held_book = subst (λ x. IsBook room h.rooms x) (sym found) (s.books_held.each room old in_rooms)
+    held_book : IsBook room h.rooms called.old
+    held_book = subst (λ x. IsBook room h.rooms x) (sym called.is) (s.books_held.each room called.old in_rooms)
 
-    freed_as : (d : Core GameKind) → d ≡ record (fresh pass (length h.rooms)) { at = room_after room made told }
-        → Frees tape h pass made (record { books = slice_set held.books room new; cores = slice_set held.cores pass d; tape = held.tape; seed = held.seed }) (Some told)
+    core_by : (b : Bool) → (if b then c else released c) ≡ record (fresh pass (length h.rooms)) { at = if b then Some room else None }
+    core_by true = own_core pass there c is ∙ ap (λ a. record (fresh pass (length h.rooms)) { at = a }) (sym (own_room pass there c is) ∙ sym at)
+    core_by false = ap (λ y. released y) (own_core pass there c is)
+
+    freed_as : (d : Core GameKind) → d ≡ freed_by made told c
+        → Frees tape h pass made (record { books = slice_set held.books room called.book; cores = slice_set held.cores pass d; tape = held.tape; seed = held.seed }) (Some told)
     freed_as d e =
-        one_freed pass there made room (sym (own_room pass there c is) ∙ sym at) in_rooms new (same ∙ held_book.number)
-        (subst (λ b. StandsFor any_rules new (entry pass made b ∷ history_of h.rooms room)) served (stands (history_of h.rooms room) held_book.stands))
+        one_freed pass there made room (sym (own_room pass there c is) ∙ sym at) in_rooms called.book (called.room ∙ held_book.number)
+        (subst (λ b. StandsFor any_rules called.book (entry pass made b ∷ history_of h.rooms room)) served (called.stands (history_of h.rooms room) held_book.stands))
         told
-        (answered (history_of h.rooms room) held_book.stands ∙ ap (λ k. reply any_rules k (history_of h.rooms room) (entry pass made (is_starved told))) held_book.number
+        (called.told (history_of h.rooms room) held_book.stands ∙ ap (λ k. reply any_rules k (history_of h.rooms room) (entry pass made (is_starved told))) held_book.number
         ∙ ap (λ b. reply any_rules room (history_of h.rooms room) (entry pass made b)) served)
-        d e
+        d (e ∙ core_by (attached_after true made told))
 
-    room_by : (b : Bool) → attached_after true made told ≡ b → room_after room made told ≡ (if b then Some room else None)
-    room_by b e = ap (λ b. if b then Some room else None) e
+    pub freed_there : (d : Core GameKind) → d ≡ freed_by made told c
+        → Frees tape h pass made (record { books = books; cores = slice_set held.cores pass d; tape = held.tape; seed = held.seed }) (Some told)
+    freed_there d e =
+        subst (λ bs. Frees tape h pass made (record { books = bs; cores = slice_set held.cores pass d; tape = held.tape; seed = held.seed }) (Some told)) (sym called.set) (freed_as d e)
 
-    -- the session stays attached
-    pub stays_attached : attached_after true made told ≡ true
-        → Frees tape h pass made (record { books = slice_set held.books room new; cores = held.cores; tape = held.tape; seed = held.seed }) (Some told)
-    stays_attached e =
-        subst (λ cores. Frees tape h pass made (record { books = slice_set held.books room new; cores = cores; tape = held.tape; seed = held.seed }) (Some told))
-        (ap (λ x. slice_set held.cores pass x) is ∙ set-get_or held.cores pass c)
-        (freed_as c (own_core pass there c is ∙ ap (λ a. record (fresh pass (length h.rooms)) { at = a }) (sym (own_room pass there c is) ∙ sym at ∙ sym (room_by true e))))
+  -- by what the driver made of it
+  module _ (pass : ℕ) (there : pass < 32) (made : RoomCall GameKind) (never : may_starve made ≡ false) (c : Core GameKind) (is : c ≡ slice_index_or held.cores pass c)
+      (told : Option RoomReply) (books : Books) (d : Core GameKind) where
+    abbrev after_freeing : Side Books → HeldHall
+    after_freeing t = record { books = t.rooms; cores = slice_set held.cores pass t.core; tape = held.tape; seed = held.seed }
 
-    -- the session is set free
-    pub is_set_free : attached_after true made told ≡ false → (x d : Core GameKind) → x ≡ slice_index_or held.cores pass x → d ≡ released x
-        → Frees tape h pass made (record { books = slice_set held.books room new; cores = slice_set held.cores pass d; tape = held.tape; seed = held.seed }) (Some told)
-    is_set_free e x d is_x r =
-        freed_as d (r ∙ ap (λ y. released y) (own_core pass there x is_x) ∙ ap (λ a. record (fresh pass (length h.rooms)) { at = a }) (sym (room_by false e)))
+    same_books : slice_set held.cores pass c ≡ held.cores
+    same_books = ap (λ x. slice_set held.cores pass x) is ∙ set-get_or held.cores pass c
+
+    freed_by_room : (at : Option ℕ) → at ≡ c.at → FreesAt calls_book made at (side held.books c) told (side books d) → Frees tape h pass made (after_freeing (side books d)) told
+    freed_by_room None e (none, stays) =
+        subst (λ x. Frees tape h pass made (after_freeing x) told) (sym stays)
+        (subst (λ o. Frees tape h pass made (after_freeing (side held.books c)) o) (sym none)
+        (subst (λ cores. Frees tape h pass made (record { books = held.books; cores = cores; tape = held.tape; seed = held.seed }) None) (sym same_books)
+        (none_freed pass made (sym (own_room pass there c is) ∙ sym e))))
+    freed_by_room (Some room) e (reply, is_told, called, is_core) =
+        subst (λ o. Frees tape h pass made (after_freeing (side books d)) o) (sym is_told)
+        (freed_there pass there made never c is room e reply books
+        (subst (λ p. calls_book held.books p (did room made reply) books) (ap (λ (x : Core GameKind). x.pass) (own_core pass there c is)) called) d is_core)
+
+    pub freed_by_driver : FreesBy calls_book made (side held.books c) told (side books d) → Frees tape h pass made (after_freeing (side books d)) told
+    freed_by_driver f = freed_by_room c.at refl f
 
   -- ---- a player's leaving
 

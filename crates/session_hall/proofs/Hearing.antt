@@ -7,10 +7,12 @@ use Rattle.game_hall.specs.Requests.{hears}
 use Rattle.hall_history.specs.Hall.{Hall, begun, core_of, request}
 use Rattle.hall_history.specs.Mark.{Unread}
 use Rattle.session_hall.specs.Held.{AreBooks}
-use Rattle.session_hall.specs.Requests.{HearsRequest, IsReady, Runs, RunsTo, Tallies, Want, luck_of, mark_of}
-use Rattle.session_hall.specs.declared.tally.Tally.{Tally}
+use Rattle.session_hall.specs.Requests.{Tallies}
+use Rattle.session_hall.proofs.Requests.{HearsRequest, IsReady, Runs, RunsTo, Want, luck_of, mark_of}
+use Rattle.session_driver.specs.declared.tally.Tally.{Tally}
 use Rattle.session_hall.proofs.Books.{Books}
-use Rattle.session_hall.proofs.Running.{Lucks, added_none, moved_keeps, runs, with_luck}
+use Rattle.session_hall.proofs.Running.{Lucks, added_none, runs, with_luck}
+use Rattle.session_driver.proofs.Steps.{moved_keeps}
 use Rattle.wire_json.specs.Refusals.{Refusal as Fault}
 use Rattle.wire_json.specs.declared.client.ClientMsg.{ClientMsg}
 

@@ -2,6 +2,9 @@ pub mod Beginning
 pub mod Books
 pub mod Halls
 pub mod Hearing
+pub mod OfHall
+pub mod Requests
 pub mod RoomByRoom
 pub mod Running
+pub mod RunsBooks
 pub mod Tapes

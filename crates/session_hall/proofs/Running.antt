@@ -27,8 +27,10 @@ use Rattle.room_history.specs.declared.reply.RoomReply.TheVariants as told_as
 use Rattle.wire_json.specs.declared.match_row.MatchRow.{MatchRow}
 use Rattle.room_object.specs.Entry.{entry}
 use Rattle.session_hall.specs.Held.{AreBooks, IsBook}
-use Rattle.session_hall.specs.Requests.{Asks, HearsReply, Runs, RunsTo, Tallies, Want, luck_of}
-use Rattle.session_hall.specs.declared.tally.Tally.{Tally}
+use Rattle.session_driver.specs.Hearing.{HearsReply}
+use Rattle.session_hall.specs.Requests.{Tallies}
+use Rattle.session_hall.proofs.Requests.{Asks, Runs, RunsTo, Want, luck_of}
+use Rattle.session_driver.specs.declared.tally.Tally.{Tally}
 use Rattle.session_hall.proofs.Books.{Books, put_entry}
 
 abbrev pub Lucks : Type 0
@@ -135,6 +137,13 @@ want_unheard (Leaving name seat) told h = absurd h
 want_unheard (Syncing room) told h = absurd h
 want_unheard (Acting ticket) told h = absurd h
 
+-- the open request is that one
+wants_of : (open_one : Option Request) (request : Request) (told : RoomReply) → open_one ≡ Some request → (q : Request) × (open_one ≡ Some q) × MayWantMemory q told → MayWantMemory request told
+wants_of open_one request told e (q, is, wants) = subst (λ x. MayWantMemory x told) (same_some (sym is ∙ e)) wants
+  where
+    same_some : {A : Type 0} {x y : A} → Some x ≡ Some y → x ≡ y
+    same_some f = cc
+
 -- no core wants memory to hear of want of memory
 starved_heard : (request : Request) (told : RoomReply) → told ≡ told_as.NoMemory → MayWantMemory request told → ⊥
 starved_heard (Creating game seats seed room) told e h = subst (MayWantMemory (Creating game seats seed room)) e h
@@ -202,7 +211,7 @@ module _ (n pass : ℕ) (c : Core GameKind) (rooms : Rooms GameKind) (room : ℕ
           (asks_by (Some (1, true)) true true told_as.NoMemory refl refl (ap (λ x. unheard x) said) ∙ ap (λ b. (told_as.NoMemory, with_luck (next_by b) (Some (0, true)))) memory)
           (ap (λ x. answered named (asked c) x) (sym want) ∙ sym heard)
           r
-      goes_by true s r (inr unheard_it) = absurd (starved_heard request a.told (starved_is a.told s) (subst (λ o. IfSome o (λ q. MayWantMemory q a.told)) open_one unheard_it.1))
+      goes_by true s r (inr unheard_it) = absurd (starved_heard request a.told (starved_is a.told s) (wants_of c.request request a.told open_one unheard_it.1))
       goes_by false s r (inl heard) =
           let said : reply_in any_rules rooms room (entry pass made false) ≡ a.told = ap (λ b. reply_in any_rules rooms room (entry pass made b)) (sym s) ∙ sym a.is in
           let asks : asked_with (luck_of (later r.want)) ≡ (a.told, with_luck (next_by false) (luck_of r.want)) =
@@ -213,7 +222,7 @@ module _ (n pass : ℕ) (c : Core GameKind) (rooms : Rooms GameKind) (room : ℕ
       goes_by false s r (inr unheard_it) =
           let said : reply_in any_rules rooms room (entry pass made false) ≡ a.told = ap (λ b. reply_in any_rules rooms room (entry pass made b)) (sym s) ∙ sym a.is in
           let want : (unheard a.told ≡ told_as.NoMemory) × (ticket_of (Some request) ≡ None) =
-          want_unheard request a.told (subst (λ o. IfSome o (λ q. MayWantMemory q a.told)) open_one unheard_it.1) in
+          want_unheard request a.told (wants_of c.request request a.told open_one unheard_it.1) in
           stops false (next_by false) d e after
           (asks_by (Some (1, false)) true false told_as.NoMemory refl refl (ap (λ x. unheard x) said ∙ want.0))
           (starves ∙ ap (λ t. starved (asked c) t) want.1 ∙ sym unheard_it.0)
@@ -223,29 +232,6 @@ module _ (n pass : ℕ) (c : Core GameKind) (rooms : Rooms GameKind) (room : ℕ
       goes = goes_by (is_starved a.told) refl r a.heard
 
 -- ---- a request, from one call to the next
-
-pub moved_keeps : (c : Core GameKind) (x : Next GameKind) → ((moved c x).rooms ≡ c.rooms) × ((moved c x).pass ≡ c.pass)
-moved_keeps c (Calls room made request) = (refl, refl)
-moved_keeps c (Says a) = (refl, refl)
-moved_keeps c (Attaches room) = (refl, refl)
-moved_keeps c Silent = (refl, refl)
-
-replied_keeps : (c : Core GameKind) (open_one : Option Request) (told : RoomReply) → ((replied named c open_one told).rooms ≡ c.rooms) × ((replied named c open_one told).pass ≡ c.pass)
-replied_keeps c None told = (refl, refl)
-replied_keeps c (Some request) told = moved_keeps c (next named c.rooms request told)
-
-heard_keeps : (c : Core GameKind) (told : RoomReply) (d : Core GameKind) → HearsReply c told d → (d.rooms ≡ c.rooms) × (d.pass ≡ c.pass)
-heard_keeps c told d (inl e) =
-    let keeps : ((answered named c told).rooms ≡ c.rooms) × ((answered named c told).pass ≡ c.pass) = replied_keeps c c.request told in
-    (ap (λ (x : Core GameKind). x.rooms) e ∙ keeps.0, ap (λ (x : Core GameKind). x.pass) e ∙ keeps.1)
-heard_keeps c told d (inr e) = (ap (λ (x : Core GameKind). x.rooms) e.0, ap (λ (x : Core GameKind). x.pass) e.0)
-
--- a settled core with a call has its request
-pub open_request : (wanted : Option (ℕ × RoomCall GameKind)) (open_one : Option Request) (said : Option Answer) (x : ℕ × RoomCall GameKind) → wanted ≡ Some x → IsSettled wanted open_one said
-    → (request : Request) × (open_one ≡ Some request)
-open_request None open_one said x e s = absurd (none_some x e)
-open_request (Some y) None said x e s = absurd (false_true s.0)
-open_request (Some y) (Some request) said x e s = (request, refl)
 
 -- so many calls have been made, from one core and rooms on
 pub record RunsFrom (made pass : ℕ) (c : Core GameKind) (rooms : Rooms GameKind) (now : Core GameKind) (books : Books) (tally : Tally) : Type 0 where
@@ -309,15 +295,6 @@ module _ (made pass : ℕ) (c : Core GameKind) (rooms : Rooms GameKind) (now : C
       one_less_left : (n : ℕ) → made + 1 + n ≡ length rooms + 1 → made + suc n ≡ length rooms + 1
       one_less_left n l = omega (arith, l)
 
-  -- the core is of the same pass and rooms
-  pub next_keeps : (room : ℕ) (asked_for : RoomCall GameKind) → room < length books → (d : Core GameKind) (old book : Held GameKind AnyG) → old ≡ slice_index_or books room old
-      → (one : Tally) → ((h : History GameKind) → StandsFor any_rules old h → Asks pass old.room asked_for (asked now) h d book one) → (d.rooms ≡ now.rooms) × (d.pass ≡ now.pass)
-  next_keeps room asked_for below d old book is one asks =
-      let there : room < length f.asked_rooms = subst (λ k. room < k) f.stand.count below in
-      let held : IsBook room f.asked_rooms old = subst (λ x. IsBook room f.asked_rooms x) (sym is) (f.stand.each room old there) in
-      let told : Asks pass old.room asked_for (asked now) (history_of f.asked_rooms room) d book one = asks (history_of f.asked_rooms room) held.stands in
-      heard_keeps (asked now) told.told d told.heard
-
   -- no call is wanted any more
   pub runs_closed : now.call ≡ None → made ≤ length books + 1 → Runs pass c rooms (asked now) books tally
   runs_closed closed most =
@@ -332,12 +309,3 @@ module _ (made pass : ℕ) (c : Core GameKind) (rooms : Rooms GameKind) (now : C
     where
       same : asked now ≡ now
       same = ap (λ x. record now { call = x }) (sym closed)
-
-  -- as many calls were made as a request may make
-  pub runs_out_of_calls : made ≡ length books + 1 → Runs pass c rooms now books tally
-  runs_out_of_calls all = record {
-    after = f.asked_rooms;
-    stand = f.stand;
-    tallies = f.tallies;
-    goes = f.goes 0 now f.asked_rooms (omega (arith, all, f.stand.count, f.count)) (record { want = None; core = refl; left = refl });
-  }

@@ -17,7 +17,7 @@ use Rattle.wire_json.specs.MatchText.{match_text}
 use Rattle.session_hall.specs.Held.{HeldHall, StandsForHall}
 use Rattle.session_hall.specs.Opens.{made_by}
 use Rattle.session_hall.specs.Requests.{Tallies}
-use Rattle.session_hall.specs.declared.tally.Tally.{Tally}
+use Rattle.session_driver.specs.declared.tally.Tally.{Tally}
 
 -- a session's line was heard, with the memory that a mark says
 pub record HearsLine (tape : ℕ → List ℕ) (h : Hall GameKind) (pass : ℕ) (line : List ℕ) (new : HeldHall) (said : List ℕ) (again : Bool) (tally : Tally) : Type 0 where

@@ -8,14 +8,14 @@ ghost use Rattle.room_history.specs.declared.call.RoomCall.TheVariants as call;
 ghost use Rattle.session_hall.specs.Answered.{Frees, HearsLine, Leaves, Opens};
 ghost use Rattle.session_hall.specs.Held.{AreBooks, AreCores, StandsForHall, tape_of};
 
-use crate::attached::{stays_after_detach, stays_after_take};
 use crate::opening::{OWN_PASS, key_of_seat, open_match};
-use crate::request::{Said, hear};
+use crate::said::Said;
 use any_game::AnyGame;
 use dice_words::Tape;
 use game_hall::{SessionCore, match_seed};
 use game_sheet::{Key, MatchName, NoMemory, Seat};
 use match_master::{Book, RoomCall, RoomReply};
+use session_driver::{Books, detach, hear, take};
 use std::alloc::Global;
 use std::marker::Model;
 
@@ -27,7 +27,7 @@ const PASSES: u32 = 32;
 /// Contracts see what it holds, and that it stands for a hall as `hall_history` has it. Sessions have the passes 0 to 31.
 pub struct SessionHall {
     alloc: Global,
-    books: Vec<Book<AnyGame>>,
+    books: Books<Book<AnyGame>>,
     cores: Vec<SessionCore>,
     tape: Tape,
     seed: Option<[u8; 32]>,
@@ -53,9 +53,9 @@ impl Model for SessionHall {
 
     ghost Value = { HeldHall };
 
-    ghost view = { λ s. record { books = s.books.items; cores = s.cores.items; tape = s.tape; seed = s.seed } };
+    ghost view = { λ s. record { books = s.books.books.items; cores = s.cores.items; tape = s.tape; seed = s.seed } };
 
-    ghost invariant = { λ s. StandsForOne (record { books = s.books.items; cores = s.cores.items; tape = s.tape; seed = s.seed }) };
+    ghost invariant = { λ s. StandsForOne (record { books = s.books.books.items; cores = s.cores.items; tape = s.tape; seed = s.seed }) };
 }
 
 impl SessionHall {
@@ -69,7 +69,7 @@ impl SessionHall {
         let cores = all_cores(alloc, rooms)?;
         Ok(SessionHall {
             alloc,
-            books,
+            books: Books { books },
             cores,
             tape: Tape::live(seed, 0, 0),
             seed: None,
@@ -82,21 +82,20 @@ impl SessionHall {
         ensures { (tape : ℕ → List ℕ) (h : Hall GameKind) → StandsForHall tape self.old h
             → HearsLine tape h pass line.now self.new result.line result.again result.tally }
     {
-        let place = self.tape.place();
-        let seed = self.seed;
-        let said = hear(
+        let core = &mut self.cores[pass as usize];
+        let tally = hear(
             self.alloc,
-            &mut self.cores[pass as usize],
             &mut self.books,
+            core,
             &mut self.tape,
             &mut self.seed,
             line,
         );
-        if said.again {
-            self.tape.rewind(place);
-            self.seed = seed;
+        Said {
+            again: core.is_again(),
+            line: core.written(),
+            tally,
         }
-        said
     }
 
     /// Hands out what waits for a session. The reply is none where the session isn't attached; once its end is handed out, it is
@@ -105,13 +104,7 @@ impl SessionHall {
         requires { pass < 32 }
         ensures { (tape : ℕ → List ℕ) (h : Hall GameKind) → StandsForHall tape self.old h → Frees tape h pass call.Take self.new result }
     {
-        let room = self.cores[pass as usize].attached()?;
-        let reply = self.books[room as usize].apply(pass as u32, RoomCall::Take);
-        if stays_after_take(&reply) {
-            return Some(reply);
-        }
-        self.cores[pass as usize].released();
-        Some(reply)
+        take(&mut self.books, &mut self.cores[pass as usize])
     }
 
     /// Ends a session's attachment. The reply is none where the session isn't attached. It takes no memory.
@@ -119,13 +112,7 @@ impl SessionHall {
         requires { pass < 32 }
         ensures { (tape : ℕ → List ℕ) (h : Hall GameKind) → StandsForHall tape self.old h → Frees tape h pass call.Detach self.new result }
     {
-        let room = self.cores[pass as usize].attached()?;
-        let reply = self.books[room as usize].apply(pass as u32, RoomCall::Detach);
-        if stays_after_detach(&reply) {
-            return Some(reply);
-        }
-        self.cores[pass as usize].released();
-        Some(reply)
+        detach(&mut self.books, &mut self.cores[pass as usize])
     }
 
     /// Makes a match of a game in the first free room, with a player at each of its seats. It takes the seed that stands ready, or
@@ -138,7 +125,7 @@ impl SessionHall {
     {
         self.tape.begin();
         let seed = match_seed(&mut self.tape, &mut self.seed);
-        open_match(self.alloc, &mut self.books, game, seats, seed)
+        open_match(self.alloc, &mut self.books.books, game, seats, seed)
     }
 
     /// Lets a player leave a seat by the key that an open gave it. The reply is none where the match's room isn't there. It takes no
@@ -147,7 +134,7 @@ impl SessionHall {
         ensures { (tape : ℕ → List ℕ) (h : Hall GameKind) → StandsForHall tape self.old h → Leaves tape h name seat self.new result }
     {
         let room = name.room() as usize;
-        if room >= self.books.len() {
+        if room >= self.books.books.len() {
             return None;
         }
         let call = RoomCall::Leave {
@@ -155,7 +142,7 @@ impl SessionHall {
             seat,
             key: Key::new(key_of_seat(seat)),
         };
-        Some(self.books[room].apply(OWN_PASS, call))
+        Some(self.books.books[room].apply(OWN_PASS, call))
     }
 
     /// Sets the seed that the next match takes.

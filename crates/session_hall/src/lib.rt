@@ -1,12 +1,10 @@
 //! The rooms and the sessions of one process: what each line of a session makes of them, and how it is answered.
 #![tactic(auto)]
 
-mod attached;
 mod hall;
 mod opening;
-mod request;
-mod tally;
+mod said;
 
 pub use hall::SessionHall;
-pub use request::Said;
-pub use tally::Tally;
+pub use said::Said;
+pub use session_driver::Tally;

@@ -8,12 +8,12 @@ use Rattle.client_world.specs.Counted.{HasActed, HasArrived, HasRead, HasTaken, 
 use Rattle.client_world.specs.IsWorld.{HeldWorld, IsWorld}
 use Rattle.game_sheet.specs.MatchName.{Name}
 use Rattle.hall_history.specs.Opening.{after_open}
-use Rattle.hall_history.specs.Workload.{Place, Workload, goes, one_if, places_from, places_of, with_match}
-use Rattle.hall_history.specs.World.{Step, Acts, Arrives, Attaches, Drops, Leaves, Reads, Takes}
+use Rattle.world_history.specs.Workload.{Place, Workload, goes, one_if, places_from, places_of, with_match}
+use Rattle.world_history.specs.World.{Step, Acts, Arrives, Attaches, Drops, Leaves, Reads, Takes}
 use Rattle.game_hall.specs.declared.answer.Answer.{Answer}
 use Rattle.game_hall.specs.declared.answer.Answer.TheVariants.{Created}
 use Rattle.session_hall.specs.Opens.{made_by}
-use Rattle.session_hall.specs.declared.tally.Tally.{Tally}
+use Rattle.session_driver.specs.declared.tally.Tally.{Tally}
 use Rattle.wire_json.specs.declared.asked.Asked.{Asked}
 use Rattle.wire_json.specs.declared.protocol.Protocol.{Protocol}
 use Rattle.workload.specs.IsLoad.{HeldLoad, IsLoad, most_more}

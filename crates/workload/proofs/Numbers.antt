@@ -13,8 +13,8 @@ use Rattle.hall_history.specs.Hall.{Hall, after_line}
 use Rattle.hall_history.specs.Mark.{Served}
 use Rattle.hall_history.specs.Opening.{after_open, own_entry, own_pass, seat_key}
 use Rattle.hall_history.specs.Rooms.{Rooms, reply_in, with_entry}
-use Rattle.hall_history.specs.World.{World, Step, Acts, Arrives, Attaches, Drops, Leaves, Reads, Takes}
-use Rattle.hall_history.specs.WorldScript.{arrives, leaves_by, refused_text, takes}
+use Rattle.world_history.specs.World.{World, Step, Acts, Arrives, Attaches, Drops, Leaves, Reads, Takes}
+use Rattle.world_history.specs.WorldScript.{arrives, leaves_by, refused_text, takes}
 use Rattle.hall_history.proofs.Giving.{line_adds}
 use Rattle.hall_history.proofs.Replies.{IsNoAction, IsNoTake}
 use Rattle.room_history.specs.declared.call.RoomCall.{RoomCall}
@@ -23,7 +23,7 @@ use Rattle.room_history.specs.declared.reply.RoomReply.{RoomReply}
 use Rattle.room_history.specs.declared.reply.RoomReply.TheVariants as reply
 use Rattle.room_object.specs.Entry.{entry}
 use Rattle.session_hall.specs.Requests.{Tallies}
-use Rattle.session_hall.specs.declared.tally.Tally.{Tally}
+use Rattle.session_driver.specs.declared.tally.Tally.{Tally}
 use Rattle.wire_json.specs.RefusalText.{refusal_text}
 use Rattle.wire_json.specs.declared.asked.Asked.{Asked}
 use Rattle.wire_json.specs.declared.protocol.Protocol.{Protocol}

@@ -5,9 +5,9 @@ use Rattle.std.proofs.lemmas.List.{append_assoc, length-append}
 use Rattle.any_game.specs.AnyRules.{any_rules, named}
 use Rattle.any_game.specs.GameKind.{GameKind}
 use Rattle.any_game.specs.declared.any_g.AnyG.{AnyG}
-use Rattle.hall_history.specs.Workload.{Place, Workload, attachings, drops_all, first_reads, go_all, goes, leavings, places_from}
+use Rattle.world_history.specs.Workload.{Place, Workload, attachings, drops_all, first_reads, go_all, goes, leavings, places_from}
 use Rattle.game_sheet.specs.MatchName.{Name}
-use Rattle.hall_history.specs.World.{Step, Attaches, Drops, Leaves}
+use Rattle.world_history.specs.World.{Step, Attaches, Drops, Leaves}
 use Rattle.wire_json.specs.declared.protocol.Protocol.TheVariants.{One}
 use Rattle.workload.specs.IsLoad.{HeldLoad, IsLoad, reads_first}
 

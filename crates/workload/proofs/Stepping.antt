@@ -8,8 +8,8 @@ use Rattle.any_game.specs.declared.any_g.AnyG.{AnyG}
 use Rattle.dice_words.specs.Dice.{die}
 use Rattle.dice_words.specs.Strip.{Strip, live, place_of, words_of}
 use Rattle.game_hall.specs.Words.{next_action}
-use Rattle.hall_history.specs.Workload.{Workload, after_step, begins_round, choice, choice_words, ends_round, goes, is_new_round, step_by, step_of, steps_from, takes_step}
-use Rattle.hall_history.specs.World.{World, Step, Acts, Arrives, Reads, Takes}
+use Rattle.world_history.specs.Workload.{Workload, after_step, begins_round, choice, choice_words, ends_round, goes, is_new_round, step_by, step_of, steps_from, takes_step}
+use Rattle.world_history.specs.World.{World, Step, Acts, Arrives, Reads, Takes}
 use Rattle.game_sheet.specs.declared.act.EventKind.TheVariants.{EndTurn}
 use Rattle.wire_json.specs.declared.asked.Asked.TheVariants as asked
 use Rattle.wire_json.specs.declared.asked.AskedTo.TheVariants as to

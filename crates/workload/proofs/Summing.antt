@@ -6,8 +6,8 @@ use Rattle.any_game.specs.GameKind.{GameKind}
 use Rattle.any_game.specs.declared.any_g.AnyG.{AnyG}
 use Rattle.hall_history.specs.Counts.{accepts, count_from, refuses}
 use Rattle.hall_history.specs.Tapes.{hall_tape, steps_tape}
-use Rattle.hall_history.specs.Workload.{Workload, begins_round, number_line, steps_from, summary, transcript}
-use Rattle.hall_history.specs.World.{new_world}
+use Rattle.world_history.specs.Workload.{Workload, begins_round, number_line, steps_from, summary, transcript}
+use Rattle.world_history.specs.World.{new_world}
 use Rattle.session_hall.specs.Held.{tape_of}
 use Rattle.workload.specs.IsLoad.{HeldLoad, IsLoad, summary_of}
 

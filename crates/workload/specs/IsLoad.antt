@@ -7,8 +7,8 @@ use Rattle.client_world.specs.IsWorld.{HeldWorld, IsWorld}
 use Rattle.dice_words.specs.Strip.{Strip}
 use Rattle.hall_history.specs.Counts.{accepts, count_from, hands_out, refuses}
 use Rattle.hall_history.specs.Rooms.{Rooms}
-use Rattle.hall_history.specs.Workload.{Place, Workload, choice_words, number_line}
-use Rattle.hall_history.specs.World.{World, Step, Arrives, Takes, Reads}
+use Rattle.world_history.specs.Workload.{Place, Workload, choice_words, number_line}
+use Rattle.world_history.specs.World.{World, Step, Arrives, Takes, Reads}
 use Rattle.session_hall.specs.Held.{IsTape}
 use Rattle.workload.specs.declared.counts.Counts.{Counts}
 

@@ -4,8 +4,8 @@ ghost use Rattle.std.specs.Prelude.{◌≡◌, ◌<◌, ◌+◌, ◌^◌, ℕ, L
 ghost use Rattle.any_game.specs.AnyRules.{any_rules, named};
 ghost use Rattle.any_game.specs.GameKind.{GameKind};
 ghost use Rattle.any_game.specs.declared.any_g.AnyG.{AnyG};
-ghost use Rattle.hall_history.specs.World.{Acts, Arrives, Reads, Takes, new_world};
-ghost use Rattle.hall_history.specs.Workload.{Workload, goes};
+ghost use Rattle.world_history.specs.World.{Acts, Arrives, Reads, Takes, new_world};
+ghost use Rattle.world_history.specs.Workload.{Workload, goes};
 ghost use Rattle.session_hall.specs.Held.{tape_of};
 ghost use Rattle.wire_json.specs.Asking.{IsAskable};
 ghost use Rattle.workload.specs.IsLoad.{IsLoad};
@@ -27,7 +27,7 @@ const ROOMS: u8 = 8;
 
 /// The workload's world, the seats of its round, the tape of its steps, and what it has counted.
 ///
-/// Contracts see what it holds, and that it stands for a workload as `hall_history` has it. After `NoMemory` a run is at its end, and
+/// Contracts see what it holds, and that it stands for a workload as `world_history` has it. After `NoMemory` a run is at its end, and
 /// no more is said of it.
 pub struct Load {
     alloc: Global,

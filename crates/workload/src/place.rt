@@ -17,7 +17,7 @@ pub struct Place {
 
 impl Model for Place {
     ghost use Rattle.any_game.specs.GameKind.{GameKind};
-    ghost use Rattle.hall_history.specs.Workload.{Place as Seats};
+    ghost use Rattle.world_history.specs.Workload.{Place as Seats};
 
     ghost Value = { Seats GameKind };
 

@@ -4,7 +4,7 @@ ghost use Rattle.std.specs.Prelude.{◌≡◌, ◌++◌, IfOk, replicate};
 ghost use Rattle.std.specs.Int.{w64, to_le_bytes};
 ghost use Rattle.any_game.specs.AnyRules.{any_rules, named};
 ghost use Rattle.hall_history.specs.Tapes.{hall_tape, steps_tape};
-ghost use Rattle.hall_history.specs.Workload.{transcript};
+ghost use Rattle.world_history.specs.Workload.{transcript};
 
 use crate::load::Load;
 use crate::summary::summary;

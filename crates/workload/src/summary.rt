@@ -1,7 +1,7 @@
 //! What a workload tells at its end.
 
 ghost use Rattle.std.specs.Prelude.{◌≡◌, ◌++◌, IfOk, OnOk};
-ghost use Rattle.hall_history.specs.Workload.{number_line};
+ghost use Rattle.world_history.specs.Workload.{number_line};
 ghost use Rattle.workload.specs.IsLoad.{summary_of};
 
 use crate::counts::Counts;

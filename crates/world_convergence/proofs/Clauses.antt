@@ -33,7 +33,7 @@ use Rattle.convergence.proofs.Grounds.{StaysSound}
 use Rattle.convergence.proofs.Streams.{told_append}
 use Rattle.hall_history.specs.Placed.{is_at}
 use Rattle.hall_history.specs.Rooms.{history_of}
-use Rattle.hall_history.specs.World.{World, new_world}
+use Rattle.world_history.specs.World.{World, new_world}
 use Rattle.hall_history.proofs.Placing.{empty_placed}
 use Rattle.hall_history.proofs.Rooming.{is_same}
 use Rattle.world_convergence.specs.Meeting.{Meets, Run, room_of_client, world_after}

@@ -31,8 +31,8 @@ use Rattle.hall_history.specs.Hall.{Hall, after_line}
 use Rattle.hall_history.specs.Mark.{Mark}
 use Rattle.hall_history.specs.Placed.{IsPlaced, is_at}
 use Rattle.hall_history.specs.Rooms.{Rooms, history_of, with_entry}
-use Rattle.hall_history.specs.World.{World}
-use Rattle.hall_history.specs.WorldScript.{answer_lines, arrived}
+use Rattle.world_history.specs.World.{World}
+use Rattle.world_history.specs.WorldScript.{answer_lines, arrived}
 use Rattle.hall_history.proofs.Placing.{line_placed}
 use Rattle.hall_history.proofs.Rooming.{gets_entry, is_same}
 use Rattle.world_convergence.specs.Meeting.{now_or}

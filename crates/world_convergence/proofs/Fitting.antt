@@ -36,11 +36,11 @@ use Rattle.hall_history.specs.Mark.{Luck, Mark, Served, Unread, Starved, ask_roo
 use Rattle.hall_history.specs.Opening.{after_open, joins, opening, own_entry, own_pass, seat_key, seated, seated_by}
 use Rattle.hall_history.specs.Rooms.{History, Rooms, history_of, with_entry}
 use Rattle.hall_history.specs.Script.{first_mark}
-use Rattle.hall_history.specs.World.{World, Step, Nothing, Seeds, Opens, Attaches, Acts, Arrives, Takes, Reads, Drops, Leaves, Shows, new_world}
-use Rattle.hall_history.specs.WorldScript.{arrives, does, has_starved, leaves, leaves_by, refused_text, runs_world}
+use Rattle.world_history.specs.World.{World, Step, Nothing, Seeds, Opens, Attaches, Acts, Arrives, Takes, Reads, Drops, Leaves, Shows, new_world}
+use Rattle.world_history.specs.WorldScript.{arrives, does, has_starved, leaves, leaves_by, refused_text, runs_world}
 use Rattle.hall_history.proofs.Adds.{adds_both, adds_none, adds_one, run_adds}
 use Rattle.hall_history.proofs.Placing.{none_there}
-use Rattle.hall_history.proofs.WorldPlacing.{acts_hall, reads_hall}
+use Rattle.world_history.proofs.WorldPlacing.{acts_hall, reads_hall}
 use Rattle.world_convergence.proofs.Taken.{take_made}
 
 -- a call that is no one's own but the lobby's: it attaches nobody, submits nothing, takes nothing and frees nobody

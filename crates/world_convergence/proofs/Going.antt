@@ -25,7 +25,7 @@ use Rattle.convergence.proofs.Likes.{all_alike, like}
 use Rattle.convergence.proofs.Messages.{bye_reads}
 use Rattle.convergence.proofs.Streams.{bye_told, last_in, told_append}
 use Rattle.hall_history.specs.Rooms.{history_of}
-use Rattle.hall_history.specs.World.{World}
+use Rattle.world_history.specs.World.{World}
 use Rattle.world_convergence.proofs.Counting.{byes_sent, count}
 use Rattle.world_convergence.proofs.Entries.{one_if}
 use Rattle.world_convergence.proofs.Fitting.{AllFit}

@@ -23,12 +23,12 @@ use Rattle.hall_history.specs.Opening.{after_open, own_entry, own_pass, seat_key
 use Rattle.hall_history.specs.Placed.{IsPlaced}
 use Rattle.hall_history.specs.Rooms.{reply_in}
 use Rattle.hall_history.specs.Script.{first_mark}
-use Rattle.hall_history.specs.World.{World, Step, Nothing, Seeds, Opens, Attaches, Acts, Arrives, Takes, Reads, Drops, Leaves, Shows, set_at}
-use Rattle.hall_history.specs.WorldScript.{acts, acts_in, arrives, attaches, does, drops, has_starved, leaves, leaves_by, reads_in, refused_text, runs_world, takes}
+use Rattle.world_history.specs.World.{World, Step, Nothing, Seeds, Opens, Attaches, Acts, Arrives, Takes, Reads, Drops, Leaves, Shows, set_at}
+use Rattle.world_history.specs.WorldScript.{acts, acts_in, arrives, attaches, does, drops, has_starved, leaves, leaves_by, reads_in, refused_text, runs_world, takes}
 use Rattle.hall_history.proofs.Giving.{line_adds}
 use Rattle.hall_history.proofs.Placing.{frees_placed}
 use Rattle.hall_history.proofs.Rooming.{is_same, same_length, same_number}
-use Rattle.hall_history.proofs.WorldPlacing.{acts_hall, does_placed, reads_hall}
+use Rattle.world_history.proofs.WorldPlacing.{acts_hall, does_placed, reads_hall}
 use Rattle.world_convergence.specs.Meeting.{now_or, room_after, unless_new}
 use Rattle.world_convergence.specs.Steps.{StepFits, StepsFit}
 use Rattle.world_convergence.proofs.Coming.{comes_on, now_is}

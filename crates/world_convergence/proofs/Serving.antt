@@ -29,8 +29,8 @@ use Rattle.hall_history.specs.Hall.{Hall}
 use Rattle.hall_history.specs.Placed.{IsPlaced}
 use Rattle.hall_history.specs.Rooms.{reply_in, with_entry}
 use Rattle.hall_history.specs.Told.{bytes_in}
-use Rattle.hall_history.specs.World.{World, set_at}
-use Rattle.hall_history.specs.WorldScript.{answer_lines, arrived, reads_in, takes}
+use Rattle.world_history.specs.World.{World, set_at}
+use Rattle.world_history.specs.WorldScript.{answer_lines, arrived, reads_in, takes}
 use Rattle.hall_history.proofs.Placing.{in_range, is_here}
 use Rattle.hall_history.proofs.Rooming.{gets_entry, is_same}
 use Rattle.world_convergence.proofs.Arriving.{IsActAnswer, IsPlainAnswer}

@@ -8,8 +8,8 @@ use Rattle.reducer.specs.Accepted.{Accepted}
 use Rattle.room_history.specs.Match.{Match}
 use Rattle.room_history.specs.Session.{Session}
 use Rattle.convergence.specs.Views.{view_at}
-use Rattle.hall_history.specs.Words.{of_client}
-use Rattle.hall_history.specs.WorldScript.{shown_text, shows, snapshot_text}
+use Rattle.world_history.specs.Words.{of_client}
+use Rattle.world_history.specs.WorldScript.{shown_text, shows, snapshot_text}
 use Rattle.world_convergence.specs.Settling.{Settles}
 
 module _ {X G : Type 0} (rules : X → Rules G) (c : ℕ) where

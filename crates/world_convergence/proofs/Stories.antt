@@ -28,7 +28,7 @@ use Rattle.convergence.proofs.Grounds.{StaysSound}
 use Rattle.convergence.proofs.Likes.{all_alike}
 use Rattle.convergence.proofs.Streams.{told_append}
 use Rattle.hall_history.specs.Rooms.{Rooms, history_of}
-use Rattle.hall_history.specs.World.{World}
+use Rattle.world_history.specs.World.{World}
 use Rattle.hall_history.proofs.Rooming.{is_same}
 use Rattle.world_convergence.proofs.Counting.{answers, count, count_append, is_number, syncs_sent, verdicts_sent}
 use Rattle.world_convergence.proofs.Directly.{IsQuiet}

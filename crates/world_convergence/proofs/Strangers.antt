@@ -44,7 +44,7 @@ use Rattle.convergence.specs.Shallow.{StatesAreShallow}
 use Rattle.convergence.proofs.Grounding.{grounded}
 use Rattle.convergence.proofs.Grounds.{StaysSound, view_plain}
 use Rattle.hall_history.specs.Rooms.{history_of}
-use Rattle.hall_history.specs.World.{World}
+use Rattle.world_history.specs.World.{World}
 use Rattle.world_convergence.proofs.Counting.{count, count_append, in_showings, mark_counted, no_items, stream_tallied, tally}
 use Rattle.world_convergence.proofs.Entries.{one_if}
 use Rattle.world_convergence.proofs.Fitting.{AllFit}

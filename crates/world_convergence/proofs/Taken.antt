@@ -8,8 +8,8 @@ use Rattle.room_history.specs.declared.call.RoomCall.TheVariants as call
 use Rattle.hall_history.specs.Freeing.{frees, frees_at}
 use Rattle.hall_history.specs.Hall.{Hall}
 use Rattle.hall_history.specs.Told.{bytes_in}
-use Rattle.hall_history.specs.World.{World, set_at}
-use Rattle.hall_history.specs.WorldScript.{takes}
+use Rattle.world_history.specs.World.{World, set_at}
+use Rattle.world_history.specs.WorldScript.{takes}
 use Rattle.hall_history.proofs.Rooming.{same_number}
 
 pub record IsTaken {X G : Type 0} (w : World X G) (c : ℕ) (hall : Hall X) (told : Option RoomReply) (v : World X G) : Type 0 where

@@ -19,9 +19,9 @@ use Rattle.wire_json.specs.declared.server.ServerMsg.TheVariants.{Sync}
 use Rattle.convergence.specs.Doing.{KnowsWhere, ticket_in}
 use Rattle.client_predict.specs.Following.{is_bye}
 use Rattle.convergence.specs.Views.{view_at}
-use Rattle.hall_history.specs.Words.{of_client}
-use Rattle.hall_history.specs.World.{World}
-use Rattle.hall_history.specs.WorldScript.{shows, snapshot_text}
+use Rattle.world_history.specs.Words.{of_client}
+use Rattle.world_history.specs.World.{World}
+use Rattle.world_history.specs.WorldScript.{shows, snapshot_text}
 use Rattle.world_convergence.specs.Meeting.{Meets, Run, world_after}
 use Rattle.world_convergence.specs.Settling.{Settles, SettlesAt}
 use Rattle.world_convergence.specs.Trailing.{Trails}

@@ -6,8 +6,8 @@ use Rattle.game_trait.specs.Rules.{Rules}
 use Rattle.hall_history.specs.Mark.{Mark}
 use Rattle.hall_history.specs.Rooms.{history_of}
 use Rattle.hall_history.specs.Script.{first_mark}
-use Rattle.hall_history.specs.World.{World, Step, Attaches, new_world}
-use Rattle.hall_history.specs.WorldScript.{does, runs_world}
+use Rattle.world_history.specs.World.{World, Step, Attaches, new_world}
+use Rattle.world_history.specs.WorldScript.{does, runs_world}
 use Rattle.room_history.specs.Match.{Match}
 use Rattle.room_history.specs.Room.{latest_session, match_of}
 use Rattle.room_history.specs.Session.{Session}

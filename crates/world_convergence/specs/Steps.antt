@@ -4,7 +4,7 @@ use Rattle.std.specs.Prelude.{List, [], ◌∷◌}
 use Rattle.sheet_json.specs.Seats.{IsWithin}
 use Rattle.wire_json.specs.Asking.{AskedFits, AskedIsUtf8}
 use Rattle.wire_json.specs.MatchText.{IsName}
-use Rattle.hall_history.specs.World.{Step, Attaches, Acts}
+use Rattle.world_history.specs.World.{Step, Attaches, Acts}
 
 abbrev pub StepFits : {X : Type 0} → Step X → Type 0
 StepFits (Attaches c game name seat protocol) = IsName name × IsWithin 255 seat

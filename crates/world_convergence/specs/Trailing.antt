@@ -7,7 +7,7 @@ use Rattle.room_history.specs.Course.{IsFirstPart}
 use Rattle.room_history.specs.Session.{Session}
 use Rattle.convergence.specs.Doing.{IsLike}
 use Rattle.client_predict.specs.Following.{followed, told_lines}
-use Rattle.hall_history.specs.World.{World}
+use Rattle.world_history.specs.World.{World}
 
 pub record Trails {X G : Type 0} (rules : X → Rules G) (w : World X G) (c room : ℕ) (held : Held X G) (s : Session) : Type 0 where
   pub read : List (List ℕ)

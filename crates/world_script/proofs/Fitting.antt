@@ -28,7 +28,7 @@ use Rattle.wire_json.specs.declared.asked.AskedTo.{AskedTo}
 use Rattle.wire_json.specs.declared.asked.AskedTo.TheVariants as aim
 use Rattle.wire_json.specs.declared.protocol.Protocol.{Protocol}
 use Rattle.wire_json.specs.declared.protocol.Protocol.TheVariants.{One, Two}
-use Rattle.hall_history.specs.World.{Step, Nothing, Seeds, Opens, Attaches, Acts, Arrives, Takes, Reads, Drops, Leaves, Shows}
+use Rattle.world_history.specs.World.{Step, Nothing, Seeds, Opens, Attaches, Acts, Arrives, Takes, Reads, Drops, Leaves, Shows}
 use Rattle.client_world.specs.Reading.{acting, acting_by, aim_is_utf8, asked_by, asked_is_utf8, asked_of, at_most, attaching, attaching_as, attaching_by, attaching_of, by_client, by_word, claim_by, claim_in, client_in, client_step, cut, in_utf8, is_played, leaving, leaving_by, looker_in, looking, looking_by, looking_in, opening, opening_by, opening_of, seat_in, step_in, world_step_of}
 use Rattle.world_convergence.specs.Steps.{StepFits, StepsFit}
 use Rattle.line_runner.specs.Play.{followed_by, steps_of}

@@ -7,8 +7,8 @@ use Rattle.client_world.specs.Reading.{world_step_of}
 use Rattle.hall_history.specs.Hall.{Hall}
 use Rattle.hall_history.specs.Script as script
 use Rattle.hall_history.specs.Tapes.{hall_tape}
-use Rattle.hall_history.specs.World.{World}
-use Rattle.hall_history.specs.World as world
+use Rattle.world_history.specs.World.{World}
+use Rattle.world_history.specs.World as world
 use Rattle.session_hall.specs.Held.{HeldHall, StandsForHall}
 use Rattle.world_script.specs.Forms.{step_of}
 use Rattle.line_runner.specs.Play.{Does, RunsLine, ended_by}

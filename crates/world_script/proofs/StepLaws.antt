@@ -35,7 +35,7 @@ use Rattle.session_hall.specs.Answered.{Frees, HearsLine, made_text}
 use Rattle.session_hall.specs.Answered as answered
 use Rattle.session_hall.specs.Held.{HeldHall, StandsForHall}
 use Rattle.session_hall.specs.Opens.{made_by}
-use Rattle.session_hall.specs.declared.tally.Tally.{Tally}
+use Rattle.session_driver.specs.declared.tally.Tally.{Tally}
 use Rattle.world_script.specs.Printing.{end_text, reply_text}
 use Rattle.line_runner.specs.Play.{Does}
 use Rattle.world_script.specs.ScriptDoing.{script_doing}

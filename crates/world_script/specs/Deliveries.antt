@@ -11,9 +11,9 @@ use Rattle.room_history.specs.Session.{Session}
 use Rattle.hall_history.specs.Mark.{Mark}
 use Rattle.hall_history.specs.Rooms.{History, history_of}
 use Rattle.hall_history.specs.Tapes.{hall_tape}
-use Rattle.hall_history.specs.World.{World, new_world}
-use Rattle.hall_history.specs.WorldScript.{runs_world}
-use Rattle.hall_history.specs.WorldTold.{delivered}
+use Rattle.world_history.specs.World.{World, new_world}
+use Rattle.world_history.specs.WorldScript.{runs_world}
+use Rattle.world_history.specs.WorldTold.{delivered}
 use Rattle.line_runner.specs.Play.{steps_of}
 
 -- how many rooms a world has

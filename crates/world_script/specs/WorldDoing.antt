@@ -5,8 +5,8 @@ use Rattle.any_game.specs.declared.any_g.AnyG.{AnyG}
 use Rattle.client_world.specs.IsWorld.{HeldWorld, IsWorld}
 use Rattle.hall_history.specs.Mark.{Mark}
 use Rattle.hall_history.specs.Tapes.{hall_tape}
-use Rattle.hall_history.specs.World.{Step, World}
-use Rattle.hall_history.specs.WorldScript.{does}
+use Rattle.world_history.specs.World.{Step, World}
+use Rattle.world_history.specs.WorldScript.{does}
 use Rattle.line_runner.specs.Play.{Doing}
 
 unfoldable pub world_doing : Doing Mark (Step GameKind) (World GameKind AnyG) HeldWorld

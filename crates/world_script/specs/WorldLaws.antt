@@ -6,7 +6,7 @@ use Rattle.client_world.specs.Reading.{world_step_of}
 use Rattle.room_history.proofs.Clauses.{are_sent_alike}
 use Rattle.hall_history.specs.Mark.{Mark}
 use Rattle.hall_history.specs.Tapes.{hall_tape}
-use Rattle.hall_history.proofs.Delivering.{all_delivered}
+use Rattle.world_history.proofs.Delivering.{all_delivered}
 use Rattle.world_script.specs.Deliveries.{DeliversLines, delivered_for, rooms_of_world, world_room_after}
 use Rattle.line_runner.specs.Play.{IsPlay, steps_of}
 use Rattle.world_script.specs.WorldDoing.{world_doing}

@@ -5,8 +5,8 @@ use Rattle.any_game.specs.declared.any_g.AnyG.{AnyG}
 use Rattle.client_world.specs.Reading.{world_step_of}
 use Rattle.hall_history.specs.Mark.{Mark}
 use Rattle.hall_history.specs.Tapes.{hall_tape}
-use Rattle.hall_history.specs.World.{Step, World}
-use Rattle.hall_history.specs.WorldScript.{runs_world}
+use Rattle.world_history.specs.World.{Step, World}
+use Rattle.world_history.specs.WorldScript.{runs_world}
 use Rattle.world_script.specs.Deliveries.{DeliversLines}
 use Rattle.line_runner.specs.Play.{Play}
 

@@ -9,7 +9,7 @@ ghost use Rattle.client_world.specs.IsWorld.{IsWorld};
 ghost use Rattle.client_world.specs.Steps.{IsRunnable, step_of};
 ghost use Rattle.hall_history.specs.Mark.{Mark};
 ghost use Rattle.hall_history.specs.Tapes.{hall_tape};
-ghost use Rattle.hall_history.specs.World.{World};
+ghost use Rattle.world_history.specs.World.{World};
 ghost use Rattle.world_script.specs.Converging.{ConvergesIn};
 ghost use Rattle.line_runner.specs.Play.{Does};
 ghost use Rattle.line_runner.specs.Running.{AreInForm, Ends, ExitRaises, IsComplete};
@@ -56,7 +56,7 @@ pub fn run_world<S: Source, K: Sink>(alloc: Global, source: &mut S, sink: &mut K
 impl Interpreter for ClientWorld {
     ghost use Rattle.any_game.specs.GameKind.{GameKind};
     ghost use Rattle.any_game.specs.declared.any_g.AnyG.{AnyG};
-    ghost use Rattle.hall_history.specs.World.{Step as WorldLine, World};
+    ghost use Rattle.world_history.specs.World.{Step as WorldLine, World};
     ghost use Rattle.hall_history.specs.Mark.{Mark as LineMark};
     ghost use Rattle.world_script.specs.WorldDoing.{world_doing};
     ghost use Rattle.world_script.specs.WorldPlay.{world_play};

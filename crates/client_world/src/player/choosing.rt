@@ -7,7 +7,7 @@ ghost use Rattle.dice_words.specs.Dice.{die};
 ghost use Rattle.dice_words.specs.Strip.{Follows};
 ghost use Rattle.game_sheet.specs.SheetFits.{SheetFits};
 ghost use Rattle.game_trait.specs.Rules.{Rules};
-ghost use Rattle.hall_history.specs.Workload.{choice, choice_words, move_asked, one_if, option_asked, options_in};
+ghost use Rattle.world_history.specs.Workload.{choice, choice_words, move_asked, one_if, option_asked, options_in};
 ghost use Rattle.wire_json.specs.Asking.{IsAskable};
 
 use super::Player;

@@ -5,8 +5,8 @@ ghost use Rattle.any_game.specs.AnyRules.{any_rules, named};
 ghost use Rattle.any_game.specs.GameKind.{GameKind};
 ghost use Rattle.any_game.specs.declared.any_g.AnyG.{AnyG};
 ghost use Rattle.hall_history.specs.Opening.{after_open};
-ghost use Rattle.hall_history.specs.World.{Attaches, Drops, Leaves};
-ghost use Rattle.hall_history.specs.Workload.{Place as Seats, Workload, attachings, begins_round, drops_all, ends_round, first_reads, go_all, goes, leavings, opens_all, places_from, round, with_match};
+ghost use Rattle.world_history.specs.World.{Attaches, Drops, Leaves};
+ghost use Rattle.world_history.specs.Workload.{Place as Seats, Workload, attachings, begins_round, drops_all, ends_round, first_reads, go_all, goes, leavings, opens_all, places_from, round, with_match};
 ghost use Rattle.wire_json.specs.declared.protocol.Protocol.TheVariants.{One};
 ghost use Rattle.workload.specs.IsLoad.{IsLoad, reads_first, round_lines};
 

@@ -6,8 +6,8 @@ ghost use Rattle.any_game.specs.GameKind.{GameKind};
 ghost use Rattle.any_game.specs.declared.any_g.AnyG.{AnyG};
 ghost use Rattle.dice_words.specs.Dice.{Rolled};
 ghost use Rattle.dice_words.specs.Strip.{Follows};
-ghost use Rattle.hall_history.specs.World.{Acts};
-ghost use Rattle.hall_history.specs.Workload.{Workload, after_step, begins_round, choice, choice_words, goes, step_of, steps_from, takes_step};
+ghost use Rattle.world_history.specs.World.{Acts};
+ghost use Rattle.world_history.specs.Workload.{Workload, after_step, begins_round, choice, choice_words, goes, step_of, steps_from, takes_step};
 ghost use Rattle.wire_json.specs.Asking.{IsAskable};
 ghost use Rattle.workload.specs.IsLoad.{IsLoad, deed_words, draws, round_lines, step_lines};
 

@@ -1,7 +1,5 @@
 use Rattle.hall_history.proofs.laws.halls_agree_with_their_rooms.Goals as goal
 use Rattle.hall_history.proofs.Opens.{open_placed}
-use Rattle.hall_history.proofs.WorldPlacing.{world_placed}
-use Rattle.hall_history.specs.World.{new_world}
 use Rattle.hall_history.proofs.Placing.{empty_placed, frees_placed, line_placed}
 
 pub returns-clause-empty : goal.returns-clause-empty
@@ -15,6 +13,3 @@ returns-clause-call g c = frees_placed g.X.Game.rules
 
 pub returns-clause-open : goal.returns-clause-open
 returns-clause-open g c = λ named. open_placed named g.X.Game.rules
-
-pub returns-clause-world : goal.returns-clause-world
-returns-clause-world g c = λ named tape rooms marks lines. world_placed named g.X.Game.rules tape marks lines (new_world rooms) (empty_placed g.X.Game.rules rooms)

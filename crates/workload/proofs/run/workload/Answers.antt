@@ -4,8 +4,8 @@ use Rattle.any_game.specs.AnyRules.{any_rules, named}
 use Rattle.any_game.specs.GameKind.{GameKind}
 use Rattle.any_game.specs.declared.any_g.AnyG.{AnyG}
 use Rattle.hall_history.specs.Tapes.{hall_tape, steps_tape}
-use Rattle.hall_history.specs.Workload.{Workload, transcript}
-use Rattle.hall_history.specs.World.{new_world}
+use Rattle.world_history.specs.Workload.{Workload, transcript}
+use Rattle.world_history.specs.World.{new_world}
 use Rattle.session_hall.specs.Held.{tape_of}
 use Rattle.workload.specs.IsLoad.{step_lines, summary_of}
 use Rattle.workload.proofs.Summing.{transcript_is}

@@ -1,4 +1,4 @@
-use Rattle.hall_history.specs.World.{new_world}
+use Rattle.world_history.specs.World.{new_world}
 use Rattle.world_convergence.proofs.Fitting.{new_fits, world_fits}
 use Rattle.world_convergence.proofs.laws.calls_of_worlds_fit.Goals as goal
 

@@ -1,5 +1,5 @@
 use Rattle.std.proofs.Common.{◌≡◌, ◌∙◌, replicate, ap, arith, subst, sym}
-use Rattle.hall_history.specs.World.{new_world}
+use Rattle.world_history.specs.World.{new_world}
 use Rattle.client_world.specs.Peers.{ArePeers, no_peer}
 use Rattle.client_world.proofs.Peering.{none_yet}
 use Rattle.client_world.proofs.peers.Peers.new.Goals as goal

@@ -4,8 +4,8 @@ use Rattle.any_game.specs.GameKind.{GameKind}
 use Rattle.any_game.specs.declared.any_g.AnyG.{AnyG}
 use Rattle.client_predict.specs.Client.{Held, settled_in, shown_in}
 use Rattle.client_predict.specs.Stack.{snapshot_of}
-use Rattle.hall_history.specs.Words.{of_client}
-use Rattle.hall_history.specs.WorldScript.{shown_text, snapshot_text}
+use Rattle.world_history.specs.Words.{of_client}
+use Rattle.world_history.specs.WorldScript.{shown_text, snapshot_text}
 use Rattle.player_sight.specs.declared.shown.Snapshot.{Snapshot}
 use Rattle.client_world.proofs.player.Player.show.Goals as goal
 

@@ -1,7 +1,7 @@
 use Rattle.std.proofs.Common.{◌≡◌, ◌∙◌, ap, subst, sym}
 use Rattle.std.proofs.lemmas.Result.{IfOk-weaker}
-use Rattle.hall_history.specs.Words.{of_client}
-use Rattle.hall_history.specs.World.{Acts}
+use Rattle.world_history.specs.Words.{of_client}
+use Rattle.world_history.specs.World.{Acts}
 use Rattle.client_world.specs.IsWorld.{HasDone, HeldWorld, IsWorld}
 use Rattle.client_world.proofs.Doing.{acted}
 use Rattle.client_world.proofs.world.ClientWorld.act.Goals as goal

@@ -1,9 +1,9 @@
 use Rattle.std.proofs.Common.{◌≡◌, ◌++◌, ◌∙◌, [], ap, codes, if◌then◌else◌, sym}
 use Rattle.std.proofs.lemmas.Result.{IfOk-weaker}
 use Rattle.game_hall.specs.Core.{is_again}
-use Rattle.hall_history.specs.Words.{of_client}
-use Rattle.hall_history.specs.World.{with_down}
-use Rattle.hall_history.specs.WorldScript.{answer_lines}
+use Rattle.world_history.specs.Words.{of_client}
+use Rattle.world_history.specs.World.{with_down}
+use Rattle.world_history.specs.WorldScript.{answer_lines}
 use Rattle.client_world.specs.IsWorld.{IsWorld}
 use Rattle.client_world.proofs.world.ClientWorld.answer.Goals as goal
 

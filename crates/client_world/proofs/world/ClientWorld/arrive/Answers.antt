@@ -2,8 +2,8 @@ use Rattle.std.proofs.Common.{◌≡◌, codes, subst, sym}
 use Rattle.std.proofs.lemmas.Result.{IfOk-weaker}
 use Rattle.any_game.specs.AnyRules.{any_rules, named}
 use Rattle.hall_history.specs.Hall.{after_line}
-use Rattle.hall_history.specs.Words.{of_client}
-use Rattle.hall_history.specs.World.{Arrives, with_hall, with_up}
+use Rattle.world_history.specs.Words.{of_client}
+use Rattle.world_history.specs.World.{Arrives, with_hall, with_up}
 use Rattle.session_hall.specs.Answered.{HearsLine}
 use Rattle.client_world.specs.IsWorld.{HasDone, HeldWorld, IsWorld}
 use Rattle.client_world.proofs.Doing.{arrived_line, quiet_link}

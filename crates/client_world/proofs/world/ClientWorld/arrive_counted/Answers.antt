@@ -2,7 +2,7 @@ use Rattle.std.proofs.Common.{◌≡◌, subst, sym}
 use Rattle.std.proofs.lemmas.Result.{IfOk-weaker}
 use Rattle.any_game.specs.AnyRules.{any_rules, named}
 use Rattle.hall_history.specs.Hall.{after_line}
-use Rattle.hall_history.specs.World.{with_hall, with_up}
+use Rattle.world_history.specs.World.{with_hall, with_up}
 use Rattle.session_hall.specs.Answered.{HearsLine}
 use Rattle.session_hall.specs.Requests.{Tallies}
 use Rattle.client_world.specs.Counted.{HasAnswered, HasArrived}

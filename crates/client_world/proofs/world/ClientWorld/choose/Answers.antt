@@ -2,7 +2,7 @@ use Rattle.std.proofs.Common.{◌≡◌, ℕ, ◌+◌, ◌∙◌, ap, arith, sub
 use Rattle.std.specs.Prelude.{OnOk}
 use Rattle.std.proofs.lemmas.Result.{IfOk-weaker}
 use Rattle.any_game.specs.AnyRules.{any_rules}
-use Rattle.hall_history.specs.Workload.{choice, choice_words}
+use Rattle.world_history.specs.Workload.{choice, choice_words}
 use Rattle.client_world.specs.IsWorld.{IsWorld}
 use Rattle.client_world.proofs.world.ClientWorld.choose.Goals as goal
 

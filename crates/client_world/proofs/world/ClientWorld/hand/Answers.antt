@@ -1,6 +1,6 @@
 use Rattle.std.proofs.Common.{◌++◌, ◌∙◌, subst, sym}
 use Rattle.game_sheet.specs.Lines.{lines}
-use Rattle.hall_history.specs.World.{with_down}
+use Rattle.world_history.specs.World.{with_down}
 use Rattle.client_world.specs.IsWorld.{IsWorld}
 use Rattle.client_world.specs.Peers.{ArePeers}
 use Rattle.client_world.proofs.world.ClientWorld.hand.Goals as goal

@@ -1,6 +1,6 @@
 use Rattle.std.proofs.Common.{◌≡◌, subst, sym}
 use Rattle.std.proofs.lemmas.Result.{IfOk-weaker}
-use Rattle.hall_history.specs.World.{Leaves}
+use Rattle.world_history.specs.World.{Leaves}
 use Rattle.client_world.specs.IsWorld.{HasDone, HeldWorld, IsWorld}
 use Rattle.client_world.specs.Outcomes.{leaving_text}
 use Rattle.client_world.proofs.Doing.{left}

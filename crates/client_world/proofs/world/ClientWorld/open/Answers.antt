@@ -2,7 +2,7 @@ use Rattle.std.proofs.Common.{◌≡◌, subst, sym}
 use Rattle.std.proofs.lemmas.Result.{IfOk-weaker}
 use Rattle.session_hall.specs.Answered.{made_text}
 use Rattle.client_world.specs.IsWorld.{HasDone, HeldWorld, IsWorld}
-use Rattle.hall_history.specs.World.{Opens}
+use Rattle.world_history.specs.World.{Opens}
 use Rattle.client_world.proofs.Doing.{opened}
 use Rattle.client_world.proofs.world.ClientWorld.open.Goals as goal
 

@@ -1,6 +1,6 @@
 use Rattle.std.proofs.Common.{◌≡◌, ◌++◌, ◌∙◌, length, arith, subst, sym}
 use Rattle.std.proofs.lemmas.Result.{on_ok_weaker}
-use Rattle.hall_history.specs.World.{with_down}
+use Rattle.world_history.specs.World.{with_down}
 use Rattle.client_world.specs.IsWorld.{IsWorld}
 use Rattle.client_world.specs.Peers.{ArePeers}
 use Rattle.client_world.proofs.Doing.{is_none, is_some, no_answer, one_answer}

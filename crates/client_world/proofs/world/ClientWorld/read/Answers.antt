@@ -1,8 +1,8 @@
 use Rattle.std.proofs.Common.{◌≡◌, codes, false, subst, sym}
 use Rattle.std.proofs.lemmas.Result.{IfOk-weaker}
 use Rattle.client_predict.specs.Reading.{is_starved}
-use Rattle.hall_history.specs.Words.{heard_word, of_client}
-use Rattle.hall_history.specs.World.{Reads}
+use Rattle.world_history.specs.Words.{heard_word, of_client}
+use Rattle.world_history.specs.World.{Reads}
 use Rattle.client_world.specs.IsWorld.{HasDone, HeldWorld, IsWorld}
 use Rattle.client_world.proofs.Doing.{both, line_read, read_nothing}
 use Rattle.client_world.proofs.world.ClientWorld.read.Goals as goal

@@ -1,7 +1,7 @@
 use Rattle.std.proofs.Common.{subst, sym}
 use Rattle.any_game.specs.AnyRules.{any_rules}
 use Rattle.hall_history.specs.Freeing.{frees}
-use Rattle.hall_history.specs.World.{with_hall}
+use Rattle.world_history.specs.World.{with_hall}
 use Rattle.room_history.specs.declared.call.RoomCall.TheVariants.{Detach}
 use Rattle.client_world.specs.IsWorld.{IsWorld}
 use Rattle.client_world.proofs.world.ClientWorld.seat.Goals as goal

@@ -2,8 +2,8 @@ use Rattle.std.proofs.Common.{◌≡◌, codes, subst, sym}
 use Rattle.std.proofs.lemmas.Result.{IfOk-weaker}
 use Rattle.any_game.specs.AnyRules.{any_rules}
 use Rattle.hall_history.specs.Freeing.{frees}
-use Rattle.hall_history.specs.Words.{of_client}
-use Rattle.hall_history.specs.World.{Takes, with_hall}
+use Rattle.world_history.specs.Words.{of_client}
+use Rattle.world_history.specs.World.{Takes, with_hall}
 use Rattle.room_history.specs.declared.call.RoomCall.TheVariants.{Take}
 use Rattle.client_world.specs.IsWorld.{HasDone, HeldWorld, IsWorld}
 use Rattle.client_world.specs.Outcomes.{HandsReply}

@@ -2,7 +2,7 @@ use Rattle.std.proofs.Common.{subst, sym}
 use Rattle.std.proofs.lemmas.Result.{IfOk-weaker}
 use Rattle.any_game.specs.AnyRules.{any_rules}
 use Rattle.hall_history.specs.Freeing.{frees}
-use Rattle.hall_history.specs.World.{with_hall}
+use Rattle.world_history.specs.World.{with_hall}
 use Rattle.room_history.specs.declared.call.RoomCall.TheVariants.{Take}
 use Rattle.client_world.specs.Counted.{HasHandedReply, HasTaken}
 use Rattle.client_world.specs.IsWorld.{HeldWorld, IsWorld}

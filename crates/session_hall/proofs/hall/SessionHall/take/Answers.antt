@@ -1,29 +1,34 @@
-use Rattle.std.proofs.Common.{◌∙◌, refl, sym, subst}
+use Rattle.any_game.specs.GameKind.{GameKind}
+use Rattle.any_game.specs.declared.any_g.AnyG.{AnyG}
+use Rattle.match_master.specs.Held.{Held}
 use Rattle.room_history.specs.declared.call.RoomCall.TheVariants as call
+use Rattle.session_driver.specs.declared.books.Books.{Books}
+use Rattle.session_driver.proofs.Along.{frees_by}
+use Rattle.session_hall.proofs.Halls.{books_serve, freed_by_driver, own_rooms, stands_for_one}
+use Rattle.session_hall.proofs.RunsBooks.{calls_book}
 use Rattle.session_hall.specs.Held.{StandsForHall}
-use Rattle.session_hall.proofs.Halls.{is_set_free, stands_for_one, stays_attached}
+use Rattle.std.proofs.Common.{refl, subst, sym}
 use Rattle.session_hall.proofs.hall.SessionHall.take.Goals as goal
 
+pub take-requires : goal.take-requires
+take-requires c =
+    let h = c.self.invariant.0 in
+    let s = c.self.invariant.1 in
+    record {
+      serves = books_serve _ _ h s;
+      rooms = own_rooms _ _ h s c.args.pass c.requires c.index_mut.result.now c.index_mut.ensures.value;
+    }
+
 pub invariant_of-self : goal.invariant_of-self
-invariant_of-self c = stands_for_one _ _ _
-    (stays_attached _ _ c.self.invariant.0 c.self.invariant.1 c.args.pass c.requires call.Take refl c.index.result.now c.index.ensures c.in_ok-room.room c.in_ok-room.ensures.room c.in_ok-room.ensures.there
-    c.index_mut.result.now c.apply-reply.new.self c.index_mut.ensures.value c.apply-reply.ensures.room c.apply-reply.result c.apply-reply.ensures.answered c.apply-reply.ensures.stands c.apply-reply.ensures.fed
-    (sym c.stays_after_take.ensures ∙ c.if-stays_after_take.true)).stands
-
-pub invariant_of-self-2 : goal.invariant_of-self-2
-invariant_of-self-2 c = stands_for_one _ _ _
-    (is_set_free _ _ c.self.invariant.0 c.self.invariant.1 c.args.pass c.requires call.Take refl c.index.result.now c.index.ensures c.in_ok-room.room c.in_ok-room.ensures.room c.in_ok-room.ensures.there
-    c.index_mut.result.now c.apply-reply.new.self c.index_mut.ensures.value c.apply-reply.ensures.room c.apply-reply.result c.apply-reply.ensures.answered c.apply-reply.ensures.stands c.apply-reply.ensures.fed
-    (sym c.stays_after_take.ensures ∙ c.if-stays_after_take.false) c.index_mut-2.result.now c.released.new.self c.index_mut-2.ensures.value c.released.ensures).stands
-
-pub returns-then-stays_after_take : goal.returns-then-stays_after_take
-returns-then-stays_after_take c = λ tape h s.
-    stays_attached tape _ h (subst (λ x. StandsForHall tape x h) (sym c.self.view_is) s) c.args.pass c.requires call.Take refl c.index.result.now c.index.ensures c.in_ok-room.room c.in_ok-room.ensures.room c.in_ok-room.ensures.there
-    c.index_mut.result.now c.apply-reply.new.self c.index_mut.ensures.value c.apply-reply.ensures.room c.apply-reply.result c.apply-reply.ensures.answered c.apply-reply.ensures.stands c.apply-reply.ensures.fed
-    (sym c.stays_after_take.ensures ∙ c.if-stays_after_take.true)
+invariant_of-self c =
+    let d = c.take.new in
+    stands_for_one _ _ _ (freed_by_driver _ _ c.self.invariant.0 c.self.invariant.1 c.args.pass c.requires call.Take refl c.index_mut.result.now c.index_mut.ensures.value
+    c.take.result d.rooms.books.items d.core
+    (frees_by _ calls_book (λ (b : Books (Held GameKind AnyG)). b.books.items) (λ s p made t called. called) call.Take _ c.take.result _ c.take.ensures.takes)).stands
 
 pub returns : goal.returns
 returns c = λ tape h s.
-    is_set_free tape _ h (subst (λ x. StandsForHall tape x h) (sym c.self.view_is) s) c.args.pass c.requires call.Take refl c.index.result.now c.index.ensures c.in_ok-room.room c.in_ok-room.ensures.room c.in_ok-room.ensures.there
-    c.index_mut.result.now c.apply-reply.new.self c.index_mut.ensures.value c.apply-reply.ensures.room c.apply-reply.result c.apply-reply.ensures.answered c.apply-reply.ensures.stands c.apply-reply.ensures.fed
-    (sym c.stays_after_take.ensures ∙ c.if-stays_after_take.false) c.index_mut-2.result.now c.released.new.self c.index_mut-2.ensures.value c.released.ensures
+    let d = c.take.new in
+    freed_by_driver tape _ h (subst (λ x. StandsForHall tape x h) (sym c.self.view_is) s) c.args.pass c.requires call.Take refl c.index_mut.result.now c.index_mut.ensures.value
+    c.take.result d.rooms.books.items d.core
+    (frees_by _ calls_book (λ (b : Books (Held GameKind AnyG)). b.books.items) (λ s p made t called. called) call.Take _ c.take.result _ c.take.ensures.takes)

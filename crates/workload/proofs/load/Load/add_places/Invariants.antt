@@ -1,5 +1,5 @@
 use Rattle.std.proofs.Common.{◌≡◌, ◌++◌}
-use Rattle.hall_history.specs.Workload.{places_from}
+use Rattle.world_history.specs.Workload.{places_from}
 use Rattle.workload.proofs.load.Load.add_places.Given as goal
 
 -- so many seats were added

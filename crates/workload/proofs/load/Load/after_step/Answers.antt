@@ -1,7 +1,7 @@
 use Rattle.std.proofs.Common.{◌≡◌, ◌+◌, true, subst, arith}
 use Rattle.std.proofs.lemmas.Bool.Decides.{nat_tests}
 use Rattle.any_game.specs.AnyRules.{any_rules, named}
-use Rattle.hall_history.specs.Workload.{is_new_round}
+use Rattle.world_history.specs.Workload.{is_new_round}
 use Rattle.workload.specs.IsLoad.{IsLoad}
 use Rattle.workload.proofs.Stepping.{new_round}
 use Rattle.workload.proofs.load.Load.after_step.Goals as goal

@@ -2,8 +2,8 @@ use Rattle.std.proofs.Common.{◌∙◌, subst, sym, Some}
 use Rattle.any_game.specs.GameKind.{GameKind}
 use Rattle.client_world.specs.Counted.{after}
 use Rattle.client_world.specs.IsWorld.{IsWorld}
-use Rattle.hall_history.specs.Workload.{Place}
-use Rattle.hall_history.specs.World.{Attaches}
+use Rattle.world_history.specs.Workload.{Place}
+use Rattle.world_history.specs.World.{Attaches}
 use Rattle.wire_json.specs.declared.protocol.Protocol.TheVariants.{One}
 use Rattle.workload.specs.IsLoad.{HeldLoad, IsLoad}
 use Rattle.workload.proofs.Loads.{attached}

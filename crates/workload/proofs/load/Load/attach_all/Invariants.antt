@@ -2,7 +2,7 @@ use Rattle.std.proofs.Common.{◌≡◌, ℕ, List, drop}
 use Rattle.any_game.specs.AnyRules.{any_rules, named}
 use Rattle.any_game.specs.GameKind.{GameKind}
 use Rattle.any_game.specs.declared.any_g.AnyG.{AnyG}
-use Rattle.hall_history.specs.Workload.{Workload, attachings, go_all}
+use Rattle.world_history.specs.Workload.{Workload, attachings, go_all}
 use Rattle.workload.specs.IsLoad.{IsLoad}
 use Rattle.workload.proofs.Rounds.{Underway}
 use Rattle.workload.proofs.load.Load.attach_all.Given as goal

@@ -3,7 +3,7 @@ use Rattle.std.specs.Prelude.{OnOk}
 use Rattle.any_game.specs.AnyRules.{any_rules, named}
 use Rattle.any_game.specs.GameKind.{GameKind}
 use Rattle.any_game.specs.declared.any_g.AnyG.{AnyG}
-use Rattle.hall_history.specs.Workload.{Workload, attachings, first_reads, opens_all, round}
+use Rattle.world_history.specs.Workload.{Workload, attachings, first_reads, opens_all, round}
 use Rattle.workload.specs.IsLoad.{IsLoad}
 use Rattle.workload.proofs.Rounds.{Go, after_both}
 use Rattle.workload.proofs.load.Load.begin_round.Goals as goal

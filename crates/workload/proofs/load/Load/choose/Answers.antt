@@ -1,8 +1,8 @@
 use Rattle.std.proofs.Common.{◌≡◌, ◌+◌, Some, subst, sym}
 use Rattle.std.specs.Prelude.{OnOk, slice_get}
 use Rattle.any_game.specs.AnyRules.{any_rules, named}
-use Rattle.hall_history.specs.Workload.{choice_words, goes}
-use Rattle.hall_history.specs.World.{Acts}
+use Rattle.world_history.specs.Workload.{choice_words, goes}
+use Rattle.world_history.specs.World.{Acts}
 use Rattle.workload.specs.IsLoad.{HeldLoad, IsLoad, draws}
 use Rattle.workload.proofs.Stepping.{drawn_more}
 use Rattle.workload.proofs.load.Load.choose.Goals as goal

@@ -1,7 +1,7 @@
 use Rattle.std.proofs.Common.{◌<◌, ◌∙◌, List, length, refl, sym, ap, subst, arith}
 use Rattle.any_game.specs.AnyRules.{any_rules, named}
 use Rattle.any_game.specs.GameKind.{GameKind}
-use Rattle.hall_history.specs.Workload.{Place, drops_all}
+use Rattle.world_history.specs.Workload.{Place, drops_all}
 use Rattle.workload.proofs.Rounds.{item_at, none_after, drops_next, underway_first, underway_last, underway_next}
 use Rattle.workload.proofs.load.Load.cut_all.Goals as goal
 

@@ -1,7 +1,7 @@
 use Rattle.std.proofs.Common.{subst}
 use Rattle.std.specs.Prelude.{OnOk}
 use Rattle.any_game.specs.AnyRules.{any_rules, named}
-use Rattle.hall_history.specs.Workload.{drops_all, leavings}
+use Rattle.world_history.specs.Workload.{drops_all, leavings}
 use Rattle.workload.specs.IsLoad.{IsLoad}
 use Rattle.workload.proofs.Rounds.{Go, after_both}
 use Rattle.workload.proofs.load.Load.end_round.Goals as goal

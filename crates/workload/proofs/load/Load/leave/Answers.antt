@@ -2,8 +2,8 @@ use Rattle.std.proofs.Common.{refl, subst, sym}
 use Rattle.any_game.specs.GameKind.{GameKind}
 use Rattle.client_world.specs.Counted.{after}
 use Rattle.client_world.specs.IsWorld.{IsWorld}
-use Rattle.hall_history.specs.Workload.{Place}
-use Rattle.hall_history.specs.World.{Leaves}
+use Rattle.world_history.specs.Workload.{Place}
+use Rattle.world_history.specs.World.{Leaves}
 use Rattle.workload.specs.IsLoad.{HeldLoad, IsLoad}
 use Rattle.workload.proofs.Loads.{left}
 use Rattle.workload.proofs.Rounds.{is_place, same_item}

@@ -2,7 +2,7 @@ use Rattle.std.proofs.Common.{◌<◌, ◌∙◌, List, length, refl, sym, ap, s
 use Rattle.std.specs.Prelude.{slice_get}
 use Rattle.any_game.specs.AnyRules.{any_rules, named}
 use Rattle.any_game.specs.GameKind.{GameKind}
-use Rattle.hall_history.specs.Workload.{Place, leavings}
+use Rattle.world_history.specs.Workload.{Place, leavings}
 use Rattle.workload.proofs.Rounds.{item_at, none_after, leavings_next, underway_first, underway_last, underway_next}
 use Rattle.workload.proofs.load.Load.leave_all.Goals as goal
 

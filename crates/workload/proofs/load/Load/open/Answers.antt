@@ -3,7 +3,7 @@ use Rattle.std.proofs.lemmas.List.{append-nil}
 use Rattle.std.proofs.lemmas.Result.{on_ok_weaker}
 use Rattle.any_game.specs.AnyRules.{any_rules, named}
 use Rattle.hall_history.specs.Opening.{after_open}
-use Rattle.hall_history.specs.Workload.{places_from, with_match}
+use Rattle.world_history.specs.Workload.{places_from, with_match}
 use Rattle.workload.specs.IsLoad.{HeldLoad, IsLoad}
 use Rattle.workload.proofs.Loads.{none_made, opened, seats_opened, unknown_game}
 use Rattle.workload.proofs.Rounds.{count_with}

@@ -1,7 +1,7 @@
 use Rattle.std.proofs.Common.{◌<◌, ◌≤◌, ◌+◌, ◌*◌, ◌^◌, ◌∙◌, List, length, refl, sym, ap, subst, arith}
 use Rattle.any_game.specs.AnyRules.{any_rules, named}
 use Rattle.any_game.specs.GameKind.{GameKind}
-use Rattle.hall_history.specs.Workload.{Place, first_reads}
+use Rattle.world_history.specs.Workload.{Place, first_reads}
 use Rattle.workload.proofs.Loads.{fewer}
 use Rattle.workload.proofs.Rounds.{Go, item_at, none_after, first_reads_next, underway_first, underway_last, underway_reads}
 use Rattle.workload.specs.IsLoad.{reads_first}

@@ -2,7 +2,7 @@ use Rattle.std.proofs.Common.{◌≡◌, ◌≤◌, ◌+◌, ◌*◌, ◌^◌, �
 use Rattle.any_game.specs.AnyRules.{any_rules, named}
 use Rattle.any_game.specs.GameKind.{GameKind}
 use Rattle.any_game.specs.declared.any_g.AnyG.{AnyG}
-use Rattle.hall_history.specs.Workload.{Workload, first_reads, go_all}
+use Rattle.world_history.specs.Workload.{Workload, first_reads, go_all}
 use Rattle.workload.specs.IsLoad.{IsLoad}
 use Rattle.workload.proofs.Rounds.{Underway}
 use Rattle.workload.proofs.load.Load.read_first_lines.Given as goal

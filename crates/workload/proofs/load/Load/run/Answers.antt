@@ -1,6 +1,6 @@
 use Rattle.std.proofs.Common.{◌≡◌, ◌≤◌, ◌<◌, ◌+◌, ◌*◌, ◌^◌, ◌-◌, suc, arith, subst}
 use Rattle.any_game.specs.AnyRules.{any_rules, named}
-use Rattle.hall_history.specs.Workload.{begins_round, steps_from, takes_step}
+use Rattle.world_history.specs.Workload.{begins_round, steps_from, takes_step}
 use Rattle.workload.proofs.Loads.{fewer}
 use Rattle.workload.proofs.Stepping.{StepsLeft, steps_first, steps_last, steps_next}
 use Rattle.workload.proofs.load.Load.run.Goals as goal

@@ -2,7 +2,7 @@ use Rattle.std.proofs.Common.{ℕ, List, ◌+◌, ◌*◌, ◌-◌}
 use Rattle.any_game.specs.AnyRules.{any_rules, named}
 use Rattle.any_game.specs.GameKind.{GameKind}
 use Rattle.any_game.specs.declared.any_g.AnyG.{AnyG}
-use Rattle.hall_history.specs.Workload.{Workload, begins_round, steps_from}
+use Rattle.world_history.specs.Workload.{Workload, begins_round, steps_from}
 use Rattle.workload.specs.IsLoad.{IsLoad}
 use Rattle.workload.proofs.Stepping.{StepsLeft}
 use Rattle.workload.proofs.load.Load.run.Given as goal

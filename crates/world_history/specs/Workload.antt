@@ -21,8 +21,8 @@ use Rattle.hall_history.specs.Counts.{accepts, refuses, hands_out, count_from}
 use Rattle.hall_history.specs.Hall.{Hall}
 use Rattle.hall_history.specs.Mark.{Served}
 use Rattle.hall_history.specs.Opening.{after_open}
-use Rattle.hall_history.specs.World.{World, Step, Attaches, Acts, Arrives, Takes, Reads, Drops, Leaves, new_world, with_hall}
-use Rattle.hall_history.specs.WorldScript.{does}
+use Rattle.world_history.specs.World.{World, Step, Attaches, Acts, Arrives, Takes, Reads, Drops, Leaves, new_world, with_hall}
+use Rattle.world_history.specs.WorldScript.{does}
 
 -- a seat of a match of the round
 pub record Place (X : Type 0) : Type 0 where

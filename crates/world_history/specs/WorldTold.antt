@@ -5,8 +5,8 @@ use Rattle.hall_history.specs.Mark.{Mark}
 use Rattle.hall_history.specs.Script.{first_mark}
 use Rattle.hall_history.specs.Script as script
 use Rattle.hall_history.specs.Told.{handed_by}
-use Rattle.hall_history.specs.World.{World, Step, Takes}
-use Rattle.hall_history.specs.WorldScript.{does}
+use Rattle.world_history.specs.World.{World, Step, Takes}
+use Rattle.world_history.specs.WorldScript.{does}
 
 module _ {X G : Type 0} (rules : X → Rules G) (pass room j : ℕ) where
   -- the bytes of the lines that a step puts on the down link for a session

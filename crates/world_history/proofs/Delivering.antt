@@ -19,16 +19,16 @@ use Rattle.hall_history.specs.Placed.{IsPlaced}
 use Rattle.hall_history.specs.Rooms.{history_of, with_entry}
 use Rattle.hall_history.specs.Script.{first_mark}
 use Rattle.hall_history.specs.Told.{handed_in}
-use Rattle.hall_history.specs.World.{World, Step, Nothing, Seeds, Opens, Attaches, Acts, Arrives, Takes, Reads, Drops, Leaves, Shows, new_world}
-use Rattle.hall_history.specs.WorldScript.{arrives, does, has_starved, leaves, leaves_by, refused_text, runs_world, takes}
-use Rattle.hall_history.specs.WorldTold.{delivered, delivered_by}
+use Rattle.world_history.specs.World.{World, Step, Nothing, Seeds, Opens, Attaches, Acts, Arrives, Takes, Reads, Drops, Leaves, Shows, new_world}
+use Rattle.world_history.specs.WorldScript.{arrives, does, has_starved, leaves, leaves_by, refused_text, runs_world, takes}
+use Rattle.world_history.specs.WorldTold.{delivered, delivered_by}
 use Rattle.hall_history.proofs.Adds.{adds_one}
 use Rattle.hall_history.proofs.Giving.{line_adds}
 use Rattle.hall_history.proofs.Handing.{detach_handed, handed, plain_added, take_handed}
 use Rattle.hall_history.proofs.Opens.{open_adds}
 use Rattle.hall_history.proofs.Placing.{empty_placed, none_there}
 use Rattle.hall_history.proofs.Telling.{adds_handed, sent_is_handed}
-use Rattle.hall_history.proofs.WorldPlacing.{acts_hall, does_placed, reads_hall}
+use Rattle.world_history.proofs.WorldPlacing.{acts_hall, does_placed, reads_hall}
 
 module _ {X G : Type 0} (rules : X → Rules G) (pass room j : ℕ) where
   told_hall : (w : World X G) (c : ℕ) (hall : Hall X) (told : RoomReply) → (takes rules w c (hall, Some told)).0.hall ≡ hall

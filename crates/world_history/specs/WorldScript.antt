@@ -34,8 +34,8 @@ use Rattle.hall_history.specs.Mark.{Mark, Served, Unread, Starved}
 use Rattle.hall_history.specs.Opening.{after_open, opened_text, own_entry, seat_key}
 use Rattle.hall_history.specs.Rooms.{reply_in, with_entry}
 use Rattle.hall_history.specs.Script.{first_mark}
-use Rattle.hall_history.specs.Words.{act_no_word, heard_word, of_client, predicted_word}
-use Rattle.hall_history.specs.World.{World, Step, Nothing, Seeds, Opens, Attaches, Acts, Arrives, Takes, Reads, Drops, Leaves, Shows, new_world, with_client, with_down, with_hall, with_up}
+use Rattle.world_history.specs.Words.{act_no_word, heard_word, of_client, predicted_word}
+use Rattle.world_history.specs.World.{World, Step, Nothing, Seeds, Opens, Attaches, Acts, Arrives, Takes, Reads, Drops, Leaves, Shows, new_world, with_client, with_down, with_hall, with_up}
 
 abbrev pub claim_of : Option ℕ → Viewer
 claim_of None = None

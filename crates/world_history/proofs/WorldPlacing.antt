@@ -17,8 +17,8 @@ use Rattle.hall_history.specs.Mark.{Mark}
 use Rattle.hall_history.specs.Opening.{own_entry, own_pass, seat_key}
 use Rattle.hall_history.specs.Placed.{IsPlaced}
 use Rattle.hall_history.specs.Script.{first_mark}
-use Rattle.hall_history.specs.World.{World, Step, Nothing, Seeds, Opens, Attaches, Acts, Arrives, Takes, Reads, Drops, Leaves, Shows}
-use Rattle.hall_history.specs.WorldScript.{acts, acts_in, arrives, does, has_starved, leaves, leaves_by, reads_in, refused_text, runs_world, takes}
+use Rattle.world_history.specs.World.{World, Step, Nothing, Seeds, Opens, Attaches, Acts, Arrives, Takes, Reads, Drops, Leaves, Shows}
+use Rattle.world_history.specs.WorldScript.{acts, acts_in, arrives, does, has_starved, leaves, leaves_by, reads_in, refused_text, runs_world, takes}
 use Rattle.hall_history.proofs.Opens.{open_placed}
 use Rattle.hall_history.proofs.Placing.{frees_placed, line_placed, plain_rooms}
 

@@ -1,5 +1,0 @@
-use Rattle.hall_history.proofs.Delivering.{all_delivered}
-use Rattle.hall_history.proofs.laws.worlds_deliver_what_is_sent.Goals as goal
-
-pub returns : goal.returns
-returns g c = all_delivered g.X.Game.rules

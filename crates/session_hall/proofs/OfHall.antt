@@ -1,0 +1,50 @@
+-- A line that the driver heard over books is a line that a hall heard.
+use Rattle.std.proofs.Common.{◌≡◌, ℕ, ◌+◌, List, [], length, Option, Some, None, inl, inr, refl, sym, ap, ◌∙◌, subst, arith}
+use Rattle.any_game.specs.AnyRules.{named}
+use Rattle.any_game.specs.GameKind.{GameKind}
+use Rattle.game_hall.specs.Core.{Core, IsSettled, heard, is_again, moved, plain, starved, written}
+use Rattle.game_hall.specs.Requests.{hears}
+use Rattle.game_hall.specs.Words.{drawn, next_action, seed_left_by, words_drawn_by}
+use Rattle.session_driver.specs.Counts.{accepts, counted, refuses}
+use Rattle.hall_history.specs.Hall.{Hall, core_of}
+use Rattle.wire_json.specs.ClientReading.{client_read}
+use Rattle.session_driver.specs.Hearing.{Draws, Hears, HearsLine, Side, draws, side}
+use Rattle.session_hall.specs.Held.{AreBooks}
+use Rattle.session_hall.proofs.Requests.{HearsRequest, IsReady, Runs}
+use Rattle.session_driver.specs.declared.tally.Tally.{Tally}
+use Rattle.session_driver.proofs.Along.{none_called, none_made}
+use Rattle.session_hall.proofs.Hearing.{hears_served, hears_unread}
+use Rattle.session_hall.proofs.Books.{Books}
+use Rattle.session_hall.proofs.RunsBooks.{calls_book, hall_runs, moved_settled}
+use Rattle.session_driver.proofs.Steps.{moved_keeps}
+
+module _ (words : ℕ → List ℕ) (h : Hall GameKind) (pass : ℕ) (line : List ℕ) (c : Core GameKind) (books : Books) (before : Draws)
+    (r : IsReady words h pass c books (next_action before.words).left before.seed) where
+  many : c.rooms ≡ length books
+  many = ap (λ (x : Core GameKind). x.rooms) r.is_core ∙ sym r.are_books.count
+
+  served : (now : Core GameKind) (d : Core GameKind) (after : Books) (tally : Tally) → now ≡ heard named c (client_read line) (next_action before.words).left before.seed
+      → Runs now.pass now h.rooms d after tally → HearsRequest words h pass (client_read line) (plain d) after (written d) (is_again d.said) tally
+  served now d after tally e ran = hears_served words h pass (client_read line) c books (next_action before.words).left before.seed r after now d tally e ran
+
+  pub hall_hears_line : (d : Core GameKind) (after : Books) (left : Draws) (tally : Tally) → Hears calls_book line (side books c) before (side after d) left tally
+      → HearsRequest words h pass (client_read line) (plain d) after (written d) (is_again d.said) tally
+  hall_hears_line d after left tally k = by k.line_heard
+    where
+      quiet : c.said ≡ None
+      quiet = ap (λ (x : Core GameKind). x.said) r.is_core
+
+      by : HearsLine line c before k.core k.left → HearsRequest words h pass (client_read line) (plain d) after (written d) (is_again d.said) tally
+      by (inl e) =
+          let x = hears named c.rooms c.at (client_read line) (next_action before.words).left before.seed in
+          let settled : IsSettled k.core.call k.core.request k.core.said = subst (λ (y : Core GameKind). IsSettled y.call y.request y.said) (sym e.0) (moved_settled c x quiet) in
+          let rooms_are : k.core.rooms ≡ length books = ap (λ (y : Core GameKind). y.rooms) e.0 ∙ (moved_keeps c x).0 ∙ many in
+          served k.core d after tally e.0 (hall_runs k.core h.rooms books tally d after r.are_books settled rooms_are k.runs)
+      by (inr e) =
+          let none : k.core.call ≡ None = ap (λ (y : Core GameKind). y.call) e.0 in
+          let stays : side after d ≡ side books k.core = none_made calls_book (side books k.core) k.runs.makes.all (side after d) none k.runs.makes.made in
+          let zero_made = none_called calls_book (side books k.core) k.runs.makes.all (side after d) none k.runs.makes.made in
+          let is : d ≡ starved c None = ap (λ (y : Side Books). y.core) stays ∙ e.0 in
+          subst (λ bs. HearsRequest words h pass (client_read line) (plain d) bs (written d) (is_again d.said) tally) (sym (ap (λ (y : Side Books). y.rooms) stays))
+          (hears_unread words h pass (client_read line) c books (next_action before.words).left before.seed r d is tally
+          (k.runs.makes.accepted ∙ ap (counted accepts) zero_made) (k.runs.makes.refused ∙ ap (counted refuses) zero_made))

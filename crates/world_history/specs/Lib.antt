@@ -1,0 +1,5 @@
+pub mod Words
+pub mod Workload
+pub mod World
+pub mod WorldScript
+pub mod WorldTold
