@@ -17,7 +17,10 @@ use serde_json::Value;
 use std::alloc::Global;
 
 /// What a client holds: the snapshot that the server settled last, and the one that is shown.
-pub(crate) fn show_client<X: Game + Drop>(alloc: Global, client: &Client<X>) -> Result<Vec<u8>, NoMemory>
+pub(crate) fn show_client<X: Game + Drop>(
+    alloc: Global,
+    client: &Client<X>,
+) -> Result<Vec<u8>, NoMemory>
     ensures { IfOk result (λ text. text.items ≡ shows (X.rules client.now.game) client.now.client) }
 {
     let Some(settled) = client.settled() else {
