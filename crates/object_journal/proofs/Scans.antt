@@ -17,25 +17,27 @@ module _ (may_follow : List (List ℕ) → List ℕ → Bool) where
   follow_more before (r ∷ records) payload a m = (a.0, follow_more (before ++ r ∷ []) records payload a.1 (subst (λ (l : List (List ℕ)). may_follow l payload ≡ true) (sym (append_assoc before (r ∷ []) records)) m))
 
   -- so far the object stands for the records up to a place
-  pub record Scanned {O C : Type 0} (stands_for : O → List (Entry C) → Type 0) (records : List (Entry C) → List (List ℕ)) (object : O) (file : List ℕ) (at : ℕ) : Type 0 where
+  pub record Scanned {O C : Type 0} (stands_for has_come : O → List (Entry C) → Type 0) (records : List (Entry C) → List (List ℕ)) (object : O) (file : List ℕ) (at : ℕ) : Type 0 where
     pub h : List (Entry C)
     pub stands : stands_for object h
+    pub came : has_come object h
     pub split : file ≡ open_records (records h) ++ drop at file
     pub place : at ≡ length (open_records (records h))
     pub follow : AllFollow may_follow [] (records h)
 
-  pub at_first : {O C : Type 0} (stands_for : O → List (Entry C) → Type 0) (records : List (Entry C) → List (List ℕ)) (object : O) (file : List ℕ) → records [] ≡ [] → stands_for object [] → Scanned stands_for records object file 0
-  at_first stands_for records object file none stands = record {
+  pub at_first : {O C : Type 0} (stands_for has_come : O → List (Entry C) → Type 0) (records : List (Entry C) → List (List ℕ)) (object : O) (file : List ℕ) → records [] ≡ [] → stands_for object [] → has_come object [] → Scanned stands_for has_come records object file 0
+  at_first stands_for has_come records object file none stands fresh = record {
     h = [];
     stands = stands;
+    came = fresh;
     split = sym (ap (λ (r : List (List ℕ)). open_records r ++ file) none);
     place = sym (ap (λ (r : List (List ℕ)). length (open_records r)) none);
     follow = subst (λ (r : List (List ℕ)). AllFollow may_follow [] r) (sym none) tt;
   }
 
-  module _ {O C : Type 0} (stands_for : O → List (Entry C) → Type 0) (records : List (Entry C) → List (List ℕ)) (object : O) (file : List ℕ) (at : ℕ) (s : Scanned stands_for records object file at) where
-    pub came : IsShut (drop at file) → Came stands_for records may_follow object file at s.h
-    came shut = record {
+  module _ {O C : Type 0} (stands_for has_come : O → List (Entry C) → Type 0) (records : List (Entry C) → List (List ℕ)) (object : O) (file : List ℕ) (at : ℕ) (s : Scanned stands_for has_come records object file at) where
+    pub reached : IsShut (drop at file) → Came stands_for has_come records may_follow object file at s.h
+    reached shut = record {
       stands = s.stands;
       ends = record { gate = shut.gate; rest = shut.rest; shut = shut.shut; split = s.split ∙ ap (λ (l : List ℕ). open_records (records s.h) ++ l) shut.split };
       place = s.place;
@@ -88,10 +90,11 @@ module _ (may_follow : List (List ℕ) → List ℕ → Bool) where
           differ h = cc
 
       -- one that was made again
-      pub further : (object_after : O) → HasMade stands_for records may_follow s.h (take count (drop 5 (drop at file))) object_after → Scanned stands_for records object_after file (at + 5 + count)
+      pub further : (object_after : O) → HasMade stands_for has_come records may_follow s.h (take count (drop 5 (drop at file))) object_after → Scanned stands_for has_come records object_after file (at + 5 + count)
       further object_after made = record {
         h = made.after;
         stands = made.stands;
+        came = made.came;
         split = at_gate ∙ sym (record-push (records s.h) (take count (drop 5 (drop at file))) (drop (5 + count) (drop at file)))
             ∙ ap (λ (r : List (List ℕ)). open_records r ++ drop (5 + count) (drop at file)) (sym made.adds)
             ∙ ap (λ (l : List ℕ). open_records (records made.after) ++ l) (behind_is);

@@ -8,11 +8,12 @@ use Rattle.object_journal.specs.declared.replaying.OpenNo.TheVariants as open_no
 use Rattle.object_journal.specs.declared.replaying.Replayed.{Replayed}
 use Rattle.object_journal.specs.declared.replaying.Replayed.TheVariants as replayed
 
-module _ {O C : Type 0} (stands_for : O → List (Entry C) → Type 0) (records : List (Entry C) → List (List ℕ)) (may_follow : List (List ℕ) → List ℕ → Bool) where
+module _ {O C : Type 0} (stands_for has_come : O → List (Entry C) → Type 0) (records : List (Entry C) → List (List ℕ)) (may_follow : List (List ℕ) → List ℕ → Bool) where
   -- the object stands for a longer history, whose records end with the payload
   pub record HasMade (h : List (Entry C)) (payload : List ℕ) (object : O) : Type 0 where
     pub after : List (Entry C)
     pub stands : stands_for object after
+    pub came : has_come object after
     pub adds : records after ≡ records h ++ payload ∷ []
     pub follows : may_follow (records h) payload ≡ true
 

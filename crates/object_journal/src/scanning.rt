@@ -14,8 +14,8 @@ pub fn replay_all<O: Replays>(alloc: Global, object: &mut O, bytes: &[u8]) -> Re
     requires few { length bytes.now ≤ 268435456 }
     requires fresh { O.stands_for object.old [] }
     ensures number { O.number object.new ≡ O.number object.old }
-    ensures done { IfOk result (λ end. (h : List (Entry O.Call)) × Came O.stands_for (O.records (O.number object.old)) O.may_follow object.new bytes.now end h) }
-    ensures refused { IfErr result (λ e. IsRefusal O.may_follow bytes.now e) }
+    ensures done { IfOk result (λ end. (h : List (Entry O.Call)) × Came O.stands_for O.has_come (O.records (O.number object.old)) (O.may_follow (O.number object.old)) object.new bytes.now end h) }
+    ensures refused { IfErr result (λ e. IsRefusal (O.may_follow (O.number object.old)) bytes.now e) }
 {
     let mut at = 0;
     'records: loop {

@@ -4,7 +4,7 @@ use Rattle.object_journal.proofs.scanning.replay_all.Given as goal
 
 abbrev pub invariant-records : goal.invariant-records
 invariant-records g l = record {
-  scanned : Scanned g.O.Replays.may_follow g.O.Object.stands_for (g.O.Recorded.records (g.O.Object.number l.fn.object)) l.object l.bytes l.at;
+  scanned : Scanned (g.O.Replays.may_follow (g.O.Object.number l.fn.object)) g.O.Object.stands_for g.O.Replays.has_come (g.O.Recorded.records (g.O.Object.number l.fn.object)) l.object l.bytes l.at;
   within : l.at < length l.bytes;
   same : g.O.Object.number l.object ≡ g.O.Object.number l.fn.object;
 }

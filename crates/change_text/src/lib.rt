@@ -1,0 +1,10 @@
+//! The text of a change that a room accepted: the payload of its record, written and read back.
+#![tactic(auto)]
+
+mod call_write;
+mod change_read;
+mod change_write;
+
+pub use call_write::put_asked_change;
+pub use change_read::read_change;
+pub use change_write::put_change;
