@@ -17,8 +17,9 @@ use std::rt::Clock;
 use std::sync::Arc;
 
 /// A door that listens at this address, or at any free port where its port is 0, and for each of so many workers what tells it which of its
-/// links are ready, at so many places. The door's links have lines of at most `limit` bytes. An Err is the system's: the address is taken, or
-/// there are no descriptors left, of which each worker needs two, or no memory.
+/// links are ready, at so many places: each worker's bench has just as many, since a worker without a free place leaves the next link to
+/// another. The door's links have lines of at most `limit` bytes. An Err is the system's: the address is taken, or there are no descriptors
+/// left, of which each worker needs two, or no memory.
 pub fn open<N: Net + Clock + Copy + Drop>(
     net: N,
     alloc: Global,
