@@ -1,0 +1,3 @@
+pub mod Coming
+pub mod Kept
+pub mod Laws
