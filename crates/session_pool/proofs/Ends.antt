@@ -7,7 +7,8 @@ use Rattle.board_links.specs.Pieces.{told_bytes}
 use Rattle.board_links.specs.declared.link.SessionEnd.{SessionEnd}
 use Rattle.board_links.specs.declared.link.SessionEnd.TheVariants as end
 use Rattle.board_links.specs.declared.link.Stage.{Stage}
-use Rattle.session_pool.specs.Ends.{ByeSent, ShowsEnd, ShowsWhy}
+use Rattle.link_rounds.specs.Ends.{ByeSent, ShowsEnd}
+use Rattle.session_pool.specs.Ends.{ShowsWhy}
 use Rattle.session_pool.specs.Lines.{IsSendEnd}
 
 pub risen : (old mid new : ℕ) → old ≤ mid → HasRisen mid new → HasRisen old new

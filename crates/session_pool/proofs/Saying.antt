@@ -6,8 +6,9 @@ use Rattle.board_links.specs.Pieces.{told_bytes}
 use Rattle.board_links.specs.declared.link.Came.{Came}
 use Rattle.board_links.specs.declared.link.SessionEnd.{SessionEnd}
 use Rattle.game_hall.specs.Core.{plain, written}
+use Rattle.link_rounds.specs.Turns.{told_answers}
 use Rattle.session_pool.specs.Lines.{IsSendEnd, SentAs}
-use Rattle.session_pool.specs.Turn.{Goes, Says, Side, Stand, Takes, Turn, side, told_answers}
+use Rattle.session_pool.specs.Turn.{Goes, Says, Side, Stand, Takes, Turn, side}
 use Rattle.session_pool.proofs.Turns.{some_told}
 
 -- a session that isn't attached is sent its direct answer alone

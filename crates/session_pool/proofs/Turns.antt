@@ -3,19 +3,20 @@ use Rattle.std.proofs.Common.{◌≡◌, ℕ, List, Option, Some, None, refl, su
 use Rattle.std.specs.Prelude.{IsSome, suc, unwrap_or}
 use Rattle.board_links.specs.Pieces.{told_bytes}
 use Rattle.board_links.specs.declared.link.Came.{Came}
-use Rattle.session_pool.specs.Runs.{Runs}
-use Rattle.session_pool.specs.Turn.{Stand, Turn, told_answers}
+use Rattle.link_rounds.specs.Turns.{Runs, told_answers}
+use Rattle.session_pool.specs.Sittings.{Leaves}
+use Rattle.session_pool.specs.Turn.{Stand, Turn}
 
 pub some_told : {A : Type 0} (o : Option A) (d : A) → IsSome o → o ≡ Some (unwrap_or o d)
 some_told None d is = absurd (cc)
 some_told (Some x) d is = refl
 
 pub runs_more : (n : ℕ) (s m t : Stand) (heard : List Came) (sent : List ℕ) (answers later : Option (List Came)) (after last : Option (List ℕ)) → IsSome answers → IsSome after
-    → Runs n s heard sent m answers after → Turn m (told_answers answers) (told_bytes after) None t later last → Runs (suc n) s heard sent t later last
+    → Runs Turn Leaves n s heard sent m answers after → Turn m (told_answers answers) (told_bytes after) None t later last → Runs Turn Leaves (suc n) s heard sent t later last
 runs_more n s m t heard sent answers later after last a b runs turn =
-    (m, told_answers answers, told_bytes after, subst (λ o. Runs n s heard sent m (Some (told_answers answers)) o) (some_told after _ b) (subst (λ o. Runs n s heard sent m o after) (some_told answers _ a) runs), turn)
+    (m, told_answers answers, told_bytes after, subst (λ o. Runs Turn Leaves n s heard sent m (Some (told_answers answers)) o) (some_told after _ b) (subst (λ o. Runs Turn Leaves n s heard sent m o after) (some_told answers _ a) runs), turn)
 
 pub runs_told : (n : ℕ) (s m : Stand) (heard : List Came) (sent : List ℕ) (answers : Option (List Came)) (after : Option (List ℕ)) → IsSome answers → IsSome after
-    → Runs n s heard sent m answers after → Runs n s heard sent m (Some (told_answers answers)) (Some (told_bytes after))
+    → Runs Turn Leaves n s heard sent m answers after → Runs Turn Leaves n s heard sent m (Some (told_answers answers)) (Some (told_bytes after))
 runs_told n s m heard sent answers after a b runs =
-    subst (λ o. Runs n s heard sent m (Some (told_answers answers)) o) (some_told after _ b) (subst (λ o. Runs n s heard sent m o after) (some_told answers _ a) runs)
+    subst (λ o. Runs Turn Leaves n s heard sent m (Some (told_answers answers)) o) (some_told after _ b) (subst (λ o. Runs Turn Leaves n s heard sent m o after) (some_told answers _ a) runs)

@@ -1,12 +1,8 @@
--- How a link shows the end of its session, whether it tells its bytes or not.
-use Rattle.std.specs.Prelude.{◌≡◌, ℕ, List, Option, Some, IfSome}
-use Rattle.board_links.specs.ByeLine.{bye_line}
-use Rattle.board_links.specs.Doors.{EndsWith}
+-- What sends show of the end of a session, whether a link tells its bytes or not.
+use Rattle.std.specs.Prelude.{ℕ, Option, Some}
 use Rattle.board_links.specs.Faults.{HasRisen}
 use Rattle.board_links.specs.declared.link.SessionEnd.{SessionEnd}
 use Rattle.board_links.specs.declared.link.SessionEnd.TheVariants as end
-use Rattle.board_links.specs.declared.link.Stage.{Stage}
-use Rattle.board_links.specs.declared.link.Stage.TheVariants as stage
 
 -- after sends: no end is told, and a fault of the link is answered only where its count rose
 abbrev pub ShowsWhy : ℕ → ℕ → Option SessionEnd → Type 0
@@ -14,15 +10,3 @@ ShowsWhy old new (Some end.LinkFault) = HasRisen old new
 ShowsWhy old new (Some end.Ended) = ⊥
 ShowsWhy old new (Some end.TooLong) = ⊥
 ShowsWhy old new why = Unit {0}
-
--- after a turn: an end is answered only where the link told it, and a fault only where its count rose
-abbrev pub ShowsEnd : ℕ → ℕ → Stage → Option SessionEnd → Type 0
-ShowsEnd old new at (Some end.LinkFault) = HasRisen old new
-ShowsEnd old new at (Some end.Ended) = at ≡ stage.Ended
-ShowsEnd old new at (Some end.TooLong) = at ≡ stage.TooLong
-ShowsEnd old new at why = Unit {0}
-
--- where the stream ended, its bye line was sent last
-abbrev pub ByeSent : Option SessionEnd → Option (List ℕ) → Type 0
-ByeSent (Some (end.Bye bye)) sent = IfSome sent (EndsWith (bye_line bye))
-ByeSent why sent = Unit {0}

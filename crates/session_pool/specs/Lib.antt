@@ -4,7 +4,7 @@ pub mod Lines
 pub mod Passes
 pub mod Placed
 pub mod Rooms
-pub mod Runs
+pub mod Sittings
 pub mod Taken
 pub mod Turn
 pub mod Workers

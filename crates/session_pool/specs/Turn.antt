@@ -1,5 +1,5 @@
 -- One turn of a session: what came, the calls that its line made, what was sent, and the Take.
-use Rattle.std.specs.Prelude.{◌≡◌, ◌⊎◌, ℕ, List, [], ◌∷◌, ◌++◌, if◌then◌else◌, Option, Some, None, unwrap_or}
+use Rattle.std.specs.Prelude.{◌≡◌, ◌⊎◌, ℕ, List, [], ◌∷◌, ◌++◌, if◌then◌else◌, Option, Some, None}
 use Rattle.std.specs.List.{concat}
 use Rattle.any_game.specs.AnyRules.{named}
 use Rattle.any_game.specs.GameKind.{GameKind}
@@ -121,9 +121,6 @@ Goes came.Ended s sent why new after = Stops end.Ended s sent why new after
 Goes came.TooLong s sent why new after = Stops end.TooLong s sent why new after
 Goes came.Failed s sent why new after = Stops end.LinkFault s sent why new after
 Goes came.NoMemory s sent why new after = Stops end.NoMemory s sent why new after
-
-abbrev pub told_answers : Option (List Came) → List Came
-told_answers told = unwrap_or told []
 
 -- one turn over a link that tells its answers and its bytes: those before it, how it ended the session if it did, and those after it
 abbrev pub Turn : Stand → List Came → List ℕ → Option SessionEnd → Stand → Option (List Came) → Option (List ℕ) → Type 0

@@ -8,6 +8,7 @@ mod link;
 mod request;
 mod rooms;
 mod say;
+mod sitting;
 mod take;
 mod turn;
 
@@ -15,4 +16,5 @@ pub use door::serve_door;
 pub use gate::{DoorEnd, Gate, Next, Shift};
 pub use link::serve_link;
 pub use rooms::set_up_rooms;
+pub use sitting::{Hall, Seeded, Sitting};
 pub use turn::serve_turn;

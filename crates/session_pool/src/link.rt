@@ -3,11 +3,12 @@
 ghost use Rattle.std.specs.Prelude.{◌≡◌, ◌<◌, ◌≤◌, Some, None, IsSome, length};
 ghost use Rattle.board_links.specs.Doors.{Shows};
 ghost use Rattle.board_links.specs.Pieces.{told_bytes};
-ghost use Rattle.session_pool.specs.Ends.{ShowsEnd};
+ghost use Rattle.link_rounds.specs.Ends.{ShowsEnd};
+ghost use Rattle.link_rounds.specs.Turns.{Session, told_answers};
 ghost use Rattle.session_pool.specs.Passes.{Belong, number_of};
 ghost use Rattle.session_pool.specs.Placed.{AttachedBy, IsIdle};
-ghost use Rattle.session_pool.specs.Runs.{Detaches, Session};
-ghost use Rattle.session_pool.specs.Turn.{side, told_answers};
+ghost use Rattle.session_pool.specs.Sittings.{Detaches, Leaves, begins};
+ghost use Rattle.session_pool.specs.Turn.{Turn, side};
 
 use crate::request::ask;
 use crate::turn::serve_turn;
@@ -22,7 +23,7 @@ use std::alloc::Global;
 use std::sync::Wait;
 
 /// Detaches the session where it is attached.
-fn detach<R: Wait>(
+pub(crate) fn detach<R: Wait>(
     rt: &R,
     desks: &[Desk<Book<AnyGame>>],
     passes: &mut [Pass<Book<AnyGame>>],
@@ -33,6 +34,7 @@ fn detach<R: Wait>(
     requires attached { AttachedBy passes.old core.old.at }
     ensures belong { Belong desks.now core.old.pass passes.new }
     ensures free { AttachedBy passes.new None }
+    ensures pass { core.new.pass ≡ core.old.pass }
     ensures detaches { Detaches (side passes.old core.old) (side passes.new core.new) }
 {
     let Some(room) = core.attached() else {
@@ -65,8 +67,8 @@ fn talk<L: Link, R: Wait>(
     ensures shown { Shows result (L.stage link.new) (L.faults link.new) (L.sent link.new) }
     ensures is_bot { L.is_bot link.new ≡ L.is_bot link.old }
     ensures session { IsSome (L.answers link.old) → IsSome (L.sent link.old)
-        → Session (length desks.now) passes.old words.old (told_answers (L.answers link.old)) (told_bytes (L.sent link.old)) result
-        passes.new words.new (L.answers link.new) (L.sent link.new) }
+        → Session Turn Leaves (begins (length desks.now) passes.old words.old) (told_answers (L.answers link.old)) (told_bytes (L.sent link.old)) result
+        (begins (length desks.now) passes.new words.new) (L.answers link.new) (L.sent link.new) }
 {
     let mut core = SessionCore::new(passes[0].number(), desks.len() as u8);
     for _ in rt.forever() {
@@ -105,8 +107,8 @@ pub fn serve_link<L: Link, R: Wait>(
     ensures finished { L.finished link.new ≡ Some result }
     ensures is_bot { L.is_bot link.new ≡ L.is_bot link.old }
     ensures session { IsSome (L.answers link.old) → IsSome (L.sent link.old)
-        → Session (length desks.now) passes.old words.old (told_answers (L.answers link.old)) (told_bytes (L.sent link.old)) result
-        passes.new words.new (L.answers link.new) (L.sent link.new) }
+        → Session Turn Leaves (begins (length desks.now) passes.old words.old) (told_answers (L.answers link.old)) (told_bytes (L.sent link.old)) result
+        (begins (length desks.now) passes.new words.new) (L.answers link.new) (L.sent link.new) }
 {
     let end = talk(rt, alloc, desks, passes, link, words);
     link.finish(end);

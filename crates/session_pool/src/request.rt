@@ -18,6 +18,18 @@ use room_history::{RoomCall, RoomReply};
 use std::alloc::Global;
 use std::sync::Wait;
 
+/// The bit of a room, if a call of this kind may change what its sessions are shown.
+fn change_of<X>(room: u8, call: &RoomCall<X>) -> u64 {
+    match call {
+        RoomCall::Create { .. }
+        | RoomCall::Join { .. }
+        | RoomCall::Rename { .. }
+        | RoomCall::Leave { .. }
+        | RoomCall::Submit { .. } => 1u64.checked_shl(u32::from(room)).unwrap_or(0),
+        _ => 0,
+    }
+}
+
 /// Makes a call in a room, by the pass of that room.
 pub(crate) fn ask<R: Wait>(
     rt: &R,
@@ -47,13 +59,14 @@ fn hear_reply(alloc: Global, core: &mut SessionCore, reply: RoomReply)
     let _answered = core.answered(alloc, reply);
 }
 
-/// Makes the next call of the open request; false where there is none.
+/// Makes the next call of the open request; false where there is none. It adds the room that the call may have changed.
 fn next<R: Wait>(
     rt: &R,
     alloc: Global,
     desks: &[Desk<Book<AnyGame>>],
     passes: &mut [Pass<Book<AnyGame>>],
     core: &mut SessionCore,
+    changed: &mut u64,
 ) -> bool
     requires belong { Belong desks.now core.old.pass passes.old }
     requires ready { IsReady (length desks.now) core.old }
@@ -67,6 +80,7 @@ fn next<R: Wait>(
     let Some((room, call)) = core.wants() else {
         return false;
     };
+    *changed |= change_of(room, &call);
     let reply = ask(rt, desks, passes, room, call);
     hear_reply(alloc, core, reply);
     true
@@ -79,6 +93,7 @@ fn request<R: Wait>(
     desks: &[Desk<Book<AnyGame>>],
     passes: &mut [Pass<Book<AnyGame>>],
     core: &mut SessionCore,
+    changed: &mut u64,
 )
     requires belong { Belong desks.now core.old.pass passes.old }
     requires ready { IsReady (length desks.now) core.old }
@@ -91,7 +106,7 @@ fn request<R: Wait>(
     ensures done { core.new.call ≡ None }
 {
     for _ in rt.forever() {
-        if !next(rt, alloc, desks, passes, core) {
+        if !next(rt, alloc, desks, passes, core, changed) {
             return;
         }
     }
@@ -158,7 +173,8 @@ fn give_back(words: &mut Tape, core: &SessionCore, place: u64)
     words.rewind(place);
 }
 
-/// Hears a line and makes the calls of its request. The words that it drew are given back where it is answered `again`.
+/// Hears a line and makes the calls of its request. The words that it drew are given back where it is answered `again`. The rooms that the calls
+/// may have changed are added, one bit each.
 pub(crate) fn heed<R: Wait>(
     rt: &R,
     alloc: Global,
@@ -167,6 +183,7 @@ pub(crate) fn heed<R: Wait>(
     words: &mut Tape,
     core: &mut SessionCore,
     line: &Bytes,
+    changed: &mut u64,
 )
     requires belong { Belong desks.now core.old.pass passes.old }
     requires idle { IsIdle (length desks.now) core.old }
@@ -182,6 +199,6 @@ pub(crate) fn heed<R: Wait>(
 {
     let place = words.place();
     hear_line(alloc, words, core, line);
-    request(rt, alloc, desks, passes, core);
+    request(rt, alloc, desks, passes, core, changed);
     give_back(words, core, place);
 }

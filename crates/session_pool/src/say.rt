@@ -3,7 +3,8 @@
 ghost use Rattle.std.specs.Prelude.{◌≡◌, ◌≤◌, [], Some, IsSome, is_some};
 ghost use Rattle.board_links.specs.Answers.{AreLines};
 ghost use Rattle.board_links.specs.Pieces.{told_bytes};
-ghost use Rattle.session_pool.specs.Ends.{ByeSent, ShowsWhy};
+ghost use Rattle.link_rounds.specs.Ends.{ByeSent};
+ghost use Rattle.session_pool.specs.Ends.{ShowsWhy};
 ghost use Rattle.session_pool.specs.Lines.{AreWhole, IsSendEnd, SentAs};
 ghost use Rattle.session_pool.specs.Turn.{Hands};
 

@@ -2,7 +2,8 @@
 
 ghost use Rattle.std.specs.Prelude.{◌≡◌, ◌<◌, ◌≤◌, Some, None, IsSome, is_some, length};
 ghost use Rattle.board_links.specs.Pieces.{told_bytes};
-ghost use Rattle.session_pool.specs.Ends.{ByeSent, ShowsWhy};
+ghost use Rattle.link_rounds.specs.Ends.{ByeSent};
+ghost use Rattle.session_pool.specs.Ends.{ShowsWhy};
 ghost use Rattle.session_pool.specs.Passes.{Belong};
 ghost use Rattle.session_pool.specs.Placed.{AttachedBy, IsIdle, IsReady};
 ghost use Rattle.session_pool.specs.Taken.{IsTaken, core_by};

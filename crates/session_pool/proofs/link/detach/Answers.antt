@@ -1,6 +1,6 @@
 use Rattle.std.proofs.Common.{◌≡◌, ◌<◌, ◌∙◌, Some, None, refl, sym, subst}
 use Rattle.session_pool.specs.Placed.{AttachedBy}
-use Rattle.session_pool.specs.Runs.{DetachesAt}
+use Rattle.session_pool.specs.Sittings.{DetachesAt}
 use Rattle.session_pool.specs.Turn.{side}
 use Rattle.session_pool.proofs.Placing.{freed}
 use Rattle.session_pool.proofs.link.detach.Goals as goal
@@ -18,6 +18,7 @@ returns-in_default g c =
     record {
       belong = c.requires.belong;
       free = subst (AttachedBy c.args.passes.now) none c.requires.attached;
+      pass = refl;
       detaches = subst (λ o. DetachesAt o (side c.args.passes.now c.args.core.now) (side c.args.passes.now c.args.core.now)) (sym none) refl;
     }
 

@@ -1,8 +1,10 @@
-use Rattle.std.proofs.Common.{length, arith, ◌∙◌, refl, subst, sym}
+use Rattle.std.proofs.Common.{length, ap, arith, ◌∙◌, subst, sym}
 use Rattle.std.specs.Prelude.{suc}
 use Rattle.board_links.specs.Pieces.{told_bytes}
 use Rattle.game_hall.specs.Core.{fresh}
-use Rattle.session_pool.specs.Turn.{side, stand, told_answers}
+use Rattle.link_rounds.specs.Turns.{told_answers}
+use Rattle.session_pool.specs.Sittings.{begins}
+use Rattle.session_pool.specs.Turn.{side, stand}
 use Rattle.session_pool.specs.Passes.{Belong, number_of}
 use Rattle.session_pool.proofs.Passes.{number_is}
 use Rattle.session_pool.proofs.Turns.{runs_more, runs_told}
@@ -27,7 +29,7 @@ loop-preserved g c =
             turn.tells_sent ∙ before.1,
             (
               suc before.2.0,
-              runs_more before.2.0 (stand c.args.passes.now (fresh (number_of c.args.passes.now) (length c.args.desks.now)) c.args.words.now) (stand c.loop.passes c.loop.core c.loop.words)
+              runs_more before.2.0 (begins (length c.args.desks.now) c.args.passes.now c.args.words.now) (stand c.loop.passes c.loop.core c.loop.words)
                   (stand c.serve_turn.new.passes c.serve_turn.new.core c.serve_turn.new.words) (told_answers (g.L.Link.answers c.args.link.now)) (told_bytes (g.L.Link.sent c.args.link.now))
                   (g.L.Link.answers c.loop.link) (g.L.Link.answers c.serve_turn.new.link) (g.L.Link.sent c.loop.link) (g.L.Link.sent c.serve_turn.new.link)
                   before.0 before.1 before.2.1 (turn.turn before.0 before.1),
@@ -38,20 +40,26 @@ loop-preserved g c =
 pub returns-in-Some-serve_turn-clause-session : goal.returns-in-Some-serve_turn-clause-session
 returns-in-Some-serve_turn-clause-session g c told_a told_s =
     let before = c.loop.invariant.9 told_a told_s in
-    record {
-      turns = before.2.0;
-      before = stand c.loop.passes c.loop.core c.loop.words;
-      came = told_answers (g.L.Link.answers c.loop.link);
-      bytes = told_bytes (g.L.Link.sent c.loop.link);
-      last = stand c.serve_turn.new.passes c.serve_turn.new.core c.serve_turn.new.words;
-      end = side c.detach.new.passes c.detach.new.core;
-      runs = runs_told before.2.0 (stand c.args.passes.now (fresh (number_of c.args.passes.now) (length c.args.desks.now)) c.args.words.now) (stand c.loop.passes c.loop.core c.loop.words)
-          (told_answers (g.L.Link.answers c.args.link.now)) (told_bytes (g.L.Link.sent c.args.link.now)) (g.L.Link.answers c.loop.link) (g.L.Link.sent c.loop.link) before.0 before.1 before.2.1;
-      ends = c.in-Some-serve_turn.ensures.turn before.0 before.1;
-      detaches = c.detach.ensures.detaches;
-      passes_are = refl;
-      words_are = refl;
-    }
+    let turn = c.in-Some-serve_turn.ensures in
+    let same = turn.pass ∙ c.loop.invariant.5 in
+    let number = number_is c.args.desks.now (number_of c.args.passes.now) c.detach.new.passes c.requires.rooms.0 (subst (λ n. Belong c.args.desks.now n c.detach.new.passes) same c.detach.ensures.belong) in (
+      before.2.0,
+      stand c.loop.passes c.loop.core c.loop.words,
+      told_answers (g.L.Link.answers c.loop.link),
+      told_bytes (g.L.Link.sent c.loop.link),
+      runs_told before.2.0 (begins (length c.args.desks.now) c.args.passes.now c.args.words.now) (stand c.loop.passes c.loop.core c.loop.words)
+          (told_answers (g.L.Link.answers c.args.link.now)) (told_bytes (g.L.Link.sent c.args.link.now)) (g.L.Link.answers c.loop.link) (g.L.Link.sent c.loop.link) before.0 before.1 before.2.1,
+      (
+        stand c.serve_turn.new.passes c.serve_turn.new.core c.serve_turn.new.words,
+        turn.turn before.0 before.1,
+        (
+          side c.detach.new.passes c.detach.new.core,
+          c.detach.ensures.detaches,
+          ap (λ n. stand c.detach.new.passes (fresh n (length c.args.desks.now)) c.serve_turn.new.words) (number ∙ sym same)
+              ∙ ap (λ n. stand c.detach.new.passes (fresh c.serve_turn.new.core.pass n) c.serve_turn.new.words) (sym turn.idle.rooms_are),
+        ),
+      ),
+    )
 
 pub returns-in-Some-serve_turn-clause-number : goal.returns-in-Some-serve_turn-clause-number
 returns-in-Some-serve_turn-clause-number g c =

@@ -1,11 +1,11 @@
 use Rattle.std.proofs.Common.{◌≡◌, ◌≤◌, length, ℕ}
 use Rattle.std.specs.Prelude.{IsSome}
 use Rattle.board_links.specs.Pieces.{told_bytes}
-use Rattle.game_hall.specs.Core.{fresh}
 use Rattle.session_pool.specs.Passes.{Belong, number_of}
 use Rattle.session_pool.specs.Placed.{AttachedBy, IsIdle}
-use Rattle.session_pool.specs.Runs.{Runs}
-use Rattle.session_pool.specs.Turn.{stand, told_answers}
+use Rattle.link_rounds.specs.Turns.{Runs, told_answers}
+use Rattle.session_pool.specs.Sittings.{Leaves, begins}
+use Rattle.session_pool.specs.Turn.{Turn, stand}
 use Rattle.session_pool.proofs.link.talk.Given as goal
 
 abbrev pub invariant-loop : goal.invariant-loop
@@ -16,5 +16,5 @@ invariant-loop g l =
     × (g.L.Link.is_bot l.link ≡ g.L.Link.is_bot l.fn.link)
     × (IsSome (g.L.Link.answers l.fn.link) → IsSome (g.L.Link.sent l.fn.link) →
     IsSome (g.L.Link.answers l.link) × IsSome (g.L.Link.sent l.link)
-    × ((n : ℕ) × Runs n (stand l.fn.passes (fresh (number_of l.fn.passes) (length l.desks)) l.fn.words)
+    × ((n : ℕ) × Runs Turn Leaves n (begins (length l.desks) l.fn.passes l.fn.words)
     (told_answers (g.L.Link.answers l.fn.link)) (told_bytes (g.L.Link.sent l.fn.link)) (stand l.passes l.core l.words) (g.L.Link.answers l.link) (g.L.Link.sent l.link)))

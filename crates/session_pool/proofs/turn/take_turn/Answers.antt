@@ -5,7 +5,7 @@ use Rattle.session_pool.specs.Turn.{stand}
 use Rattle.session_pool.proofs.Ends.{shows_end}
 use Rattle.session_pool.proofs.Placing.{idle_ready}
 use Rattle.session_pool.proofs.Saying.{stopped_at, turned}
-use Rattle.session_pool.proofs.turn.serve_turn.Goals as goal
+use Rattle.session_pool.proofs.turn.take_turn.Goals as goal
 
 -- a line was heeded, and then the session spoke
 pub returns-in-Line-clause-shows : goal.returns-in-Line-clause-shows

@@ -1,0 +1,181 @@
+//! A place at which sessions of rooms are served, one after another.
+
+ghost use Rattle.std.specs.Prelude.{◌≡◌, ◌≤◌, ◌<◌, length, vec_len};
+ghost use Rattle.dice_words.specs.Strip.{live};
+ghost use Rattle.session_pool.specs.Passes.{number_of};
+ghost use Rattle.session_pool.specs.Sittings.{begins};
+
+use crate::link::detach;
+use crate::turn::take_turn;
+use any_game::AnyGame;
+use board_links::{Link, SessionEnd};
+use dice_words::Tape;
+use game_hall::SessionCore;
+use link_rounds::{Service, Stir};
+use match_master::Book;
+use room_desk::{Desk, Pass};
+use std::alloc::Global;
+use std::marker::{Brand, Model, PhantomData};
+use std::sync::Wait;
+
+/// The seed of a server's words, which proofs alone see.
+pub trait Seeded {
+    ghost use Rattle.std.specs.Prelude.{ℕ, List};
+
+    /// The seed.
+    ghost seed: { List ℕ };
+}
+
+impl Seeded for Brand {
+    ghost use Rattle.std.specs.Prelude.{[]};
+
+    ghost seed = { [] };
+}
+
+/// The rooms of a server, which its sessions share.
+#[derive(Drop)]
+pub struct Hall<'a> {
+    /// Where its memory comes from.
+    pub alloc: Global,
+    /// A desk for each room, in their order.
+    pub desks: &'a [Desk<Book<AnyGame>>],
+}
+
+/// A place of sessions: a pass for each room, the core of the session that is there, and the words that its lines draw. The words come from the
+/// seed of `K`. Contracts see where the session stands.
+pub struct Sitting<'a, K: Seeded> {
+    passes: Vec<Pass<Book<AnyGame>>>,
+    core: SessionCore,
+    words: Tape,
+    stir: Stir,
+    seed: PhantomData<K>,
+    hall: PhantomData<&'a ()>,
+}
+
+impl<'a, K: Seeded> Drop for Sitting<'a, K> {
+    fn drop(self) {
+        let Sitting {
+            passes,
+            core,
+            words,
+            stir: _,
+            seed: _,
+            hall: _,
+        } = self;
+        drop(passes);
+        drop(core);
+        drop(words);
+    }
+}
+
+impl<'a, K: Seeded> Model for Sitting<'a, K> {
+    ghost use Rattle.session_pool.specs.Turn.{Stand, stand};
+
+    ghost Value = { Stand };
+
+    ghost view = { λ s. stand s.passes.items s.core s.words };
+}
+
+impl<'a, K: Seeded> Sitting<'a, K> {
+    /// A place without a session, of these passes over so many rooms. Its words are those of the stream of the passes' number, from the first on.
+    pub fn new(passes: Vec<Pass<Book<AnyGame>>>, rooms: u8, seed: [u8; 32]) -> Sitting<'a, K>
+        requires some { 0 < vec_len passes }
+        requires rooms { (1 ≤ rooms) × (rooms ≤ 64) }
+        ensures { result ≡ begins rooms passes.items (live seed (number_of passes.items) 0) }
+    {
+        let number = passes[0].number();
+        Sitting {
+            passes,
+            core: SessionCore::new(number, rooms),
+            words: Tape::live(seed, u64::from(number), 0),
+            stir: Stir {
+                at: None,
+                changed: 0,
+                more: false,
+            },
+            seed: PhantomData,
+            hall: PhantomData,
+        }
+    }
+
+    /// Its passes.
+    pub fn into_passes(self) -> Vec<Pass<Book<AnyGame>>>
+        ensures { result.items ≡ self.entry.passes }
+    {
+        let Sitting {
+            passes,
+            core,
+            words,
+            stir: _,
+            seed: _,
+            hall: _,
+        } = self;
+        drop(core);
+        drop(words);
+        passes
+    }
+}
+
+impl<'a, K: Seeded> Service for Sitting<'a, K> {
+    ghost use Rattle.session_pool.specs.Sittings.{Fits, Leaves, Rests};
+    ghost use Rattle.session_pool.specs.Turn.{Turn};
+
+    type Hall = Hall<'a>;
+
+    ghost fits = { λ hall s. Fits hall.desks.now K.seed s };
+
+    ghost rests = { λ s. Rests K.seed s };
+
+    ghost turn = { Turn };
+
+    ghost leave = { Leaves };
+
+    fn turn<L: Link, R: Wait>(
+        &mut self,
+        rt: &R,
+        hall: &Hall<'a>,
+        link: &mut L,
+    ) -> Option<SessionEnd> {
+        let Sitting {
+            passes,
+            core,
+            words,
+            stir,
+            seed: _,
+            hall: _,
+        } = self;
+        stir.changed = 0;
+        stir.more = false;
+        take_turn(
+            rt,
+            hall.alloc,
+            hall.desks,
+            passes.as_mut_slice(),
+            link,
+            words,
+            core,
+            stir,
+        )
+    }
+
+    fn stir(&self) -> Stir {
+        Stir {
+            at: self.core.attached(),
+            changed: self.stir.changed,
+            more: self.stir.more,
+        }
+    }
+
+    fn leave<R: Wait>(&mut self, rt: &R, hall: &Hall<'a>) {
+        let Sitting {
+            passes,
+            core,
+            words: _,
+            stir: _,
+            seed: _,
+            hall: _,
+        } = self;
+        detach(rt, hall.desks, passes.as_mut_slice(), core);
+        *core = SessionCore::new(core.pass(), hall.desks.len() as u8);
+    }
+}
