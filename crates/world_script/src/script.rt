@@ -1,6 +1,6 @@
 //! Runs scripts.
 
-ghost use Rattle.std.specs.Prelude.{◌≤◌, IsSome};
+ghost use Rattle.std.specs.Prelude.{◌≡◌, ◌≤◌, IsSome};
 ghost use Rattle.board_links.specs.Faults.{HasRisen};
 ghost use Rattle.board_links.specs.Pieces.{told_bytes};
 ghost use Rattle.line_runner.specs.Running.{AreInForm, Ends, ExitRaises, IsComplete};
@@ -12,6 +12,7 @@ use board_links::{Sink, Source};
 use line_runner::{Exit, Interpreter, LineNo, ended, run_lines};
 use session_hall::SessionHall;
 use std::alloc::Global;
+use std::marker::Model;
 
 /// How many rooms a script has.
 const ROOMS: u8 = 8;
@@ -33,16 +34,45 @@ pub fn run_script<S: Source, K: Sink>(alloc: Global, source: &mut S, sink: &mut 
         → (HasRisen (S.faults source.old) (S.faults source.new) → ⊥) → (HasRisen (K.faults sink.old) (K.faults sink.new) → ⊥) → IsComplete result }
 {
     match SessionHall::new(alloc, ROOMS, [0; 32]) {
-        Ok(mut hall) => {
-            let exit = run_lines(alloc, &mut hall, source, sink);
-            drop(hall);
+        Ok(hall) => {
+            let mut player = ScriptHall::new(hall);
+            let exit = run_lines(alloc, &mut player, source, sink);
+            drop(player);
             exit
         }
         Err(_) => Exit::NoMemory,
     }
 }
 
-impl Interpreter for SessionHall {
+/// A hall that plays a script. Contracts see the hall.
+struct ScriptHall {
+    hall: SessionHall,
+}
+
+impl Drop for ScriptHall {
+    fn drop(self) {
+        let ScriptHall { hall } = self;
+        drop(hall);
+    }
+}
+
+impl Model for ScriptHall {
+    ghost use Rattle.session_hall.specs.Held.{HeldHall};
+
+    ghost Value = { HeldHall };
+
+    ghost view = { λ s. s.hall };
+}
+
+impl ScriptHall {
+    fn new(hall: SessionHall) -> Self
+        ensures { result ≡ hall }
+    {
+        ScriptHall { hall }
+    }
+}
+
+impl Interpreter for ScriptHall {
     ghost use Rattle.any_game.specs.GameKind.{GameKind};
     ghost use Rattle.hall_history.specs.Hall.{Hall};
     ghost use Rattle.hall_history.specs.Mark.{Mark as LineMark};
@@ -65,7 +95,7 @@ impl Interpreter for SessionHall {
 
     fn run_line(&mut self, _alloc: Global, line: &[u8], text: &mut Vec<u8>) -> Result<(), LineNo> {
         match step_of(line) {
-            Some(step) => ended(do_step(self, text, step)),
+            Some(step) => ended(do_step(&mut self.hall, text, step)),
             None => Err(LineNo::BadLine),
         }
     }

@@ -1,6 +1,6 @@
 //! Runs worlds.
 
-ghost use Rattle.std.specs.Prelude.{◌≤◌, ℕ, List, IsSome, OnOk};
+ghost use Rattle.std.specs.Prelude.{◌≡◌, ◌≤◌, ℕ, List, IsSome, OnOk};
 ghost use Rattle.any_game.specs.GameKind.{GameKind};
 ghost use Rattle.any_game.specs.declared.any_g.AnyG.{AnyG};
 ghost use Rattle.board_links.specs.Faults.{HasRisen};
@@ -22,6 +22,7 @@ use client_world::{ClientWorld, WorldStep, read_world_step};
 use game_sheet::NoMemory;
 use line_runner::{Exit, Interpreter, LineNo, ended, run_lines};
 use std::alloc::Global;
+use std::marker::Model;
 use world_convergence::worlds_of_all_games_converge;
 
 /// How many rooms a world has.
@@ -44,16 +45,45 @@ pub fn run_world<S: Source, K: Sink>(alloc: Global, source: &mut S, sink: &mut K
 {
     worlds_of_all_games_converge();
     match ClientWorld::new(alloc, ROOMS, [0; 32]) {
-        Ok(mut world) => {
-            let exit = run_lines(alloc, &mut world, source, sink);
-            drop(world);
+        Ok(world) => {
+            let mut player = WorldPlayer::new(world);
+            let exit = run_lines(alloc, &mut player, source, sink);
+            drop(player);
             exit
         }
         Err(_) => Exit::NoMemory,
     }
 }
 
-impl Interpreter for ClientWorld {
+/// A world that is played line by line. Contracts see the world.
+struct WorldPlayer {
+    world: ClientWorld,
+}
+
+impl Drop for WorldPlayer {
+    fn drop(self) {
+        let WorldPlayer { world } = self;
+        drop(world);
+    }
+}
+
+impl Model for WorldPlayer {
+    ghost use Rattle.client_world.specs.IsWorld.{HeldWorld};
+
+    ghost Value = { HeldWorld };
+
+    ghost view = { λ p. p.world };
+}
+
+impl WorldPlayer {
+    fn new(world: ClientWorld) -> Self
+        ensures { result ≡ world }
+    {
+        WorldPlayer { world }
+    }
+}
+
+impl Interpreter for WorldPlayer {
     ghost use Rattle.any_game.specs.GameKind.{GameKind};
     ghost use Rattle.any_game.specs.declared.any_g.AnyG.{AnyG};
     ghost use Rattle.world_history.specs.World.{Step as WorldLine, World};
@@ -76,7 +106,7 @@ impl Interpreter for ClientWorld {
 
     fn run_line(&mut self, alloc: Global, line: &[u8], text: &mut Vec<u8>) -> Result<(), LineNo> {
         match read_world_step(alloc, line) {
-            Ok(Some(step)) => ended(do_step(self, text, step)),
+            Ok(Some(step)) => ended(do_step(&mut self.world, text, step)),
             Ok(None) => Err(LineNo::BadLine),
             Err(_) => Err(LineNo::NoMemory),
         }

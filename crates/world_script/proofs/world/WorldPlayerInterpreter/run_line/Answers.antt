@@ -4,7 +4,7 @@ use Rattle.line_runner.specs.Play.{RunsLine}
 use Rattle.world_script.specs.WorldDoing.{world_doing}
 use Rattle.world_script.specs.WorldPlay.{world_play}
 use Rattle.world_script.proofs.LineLaws.{world_bad, world_line}
-use Rattle.world_script.proofs.world.ClientWorldInterpreter.run_line.Goals as goal
+use Rattle.world_script.proofs.world.WorldPlayerInterpreter.run_line.Goals as goal
 
 pub returns-in-Ok-Some : goal.returns-in-Ok-Some
 returns-in-Ok-Some c = λ w s.

@@ -4,7 +4,7 @@ use Rattle.world_script.specs.ScriptDoing.{script_doing}
 use Rattle.world_script.specs.ScriptPlay.{script_play}
 use Rattle.world_script.specs.StepIs.{step_is}
 use Rattle.world_script.proofs.LineLaws.{script_bad, script_line}
-use Rattle.world_script.proofs.script.SessionHallInterpreter.run_line.Goals as goal
+use Rattle.world_script.proofs.script.ScriptHallInterpreter.run_line.Goals as goal
 
 pub returns-in-Some : goal.returns-in-Some
 returns-in-Some c = λ h s.
