@@ -1,1 +1,3 @@
 pub mod ActForms
+pub mod ActWriting
+pub mod BackLaws

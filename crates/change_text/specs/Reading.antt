@@ -1,5 +1,5 @@
 -- The change that a payload is the text of; none where it is the text of no change.
-use Rattle.std.specs.Prelude.{ℕ, List, if◌then◌else◌, codes, bytes_eq, Option, Some, None, option_map, option_and_then, Result, Ok, Err}
+use Rattle.std.specs.Prelude.{◌≡◌, ◌≤◌, length, IsUtf8, ℕ, List, if◌then◌else◌, codes, bytes_eq, Option, Some, None, option_map, option_and_then, Result, Ok, Err}
 use Rattle.std.specs.Result.{result_ok}
 use Rattle.serde_json.specs.Data.{Data, object, Members}
 use Rattle.serde_json.specs.Find.{get}
@@ -9,7 +9,9 @@ use Rattle.json_tree.specs.declared.lines.LineFault.{LineFault}
 use Rattle.any_game.specs.AnyRules.{any_rules, named}
 use Rattle.any_game.specs.GameKind.{GameKind}
 use Rattle.wire_json.specs.Acts.{asked_in}
-use Rattle.wire_json.specs.KeyText.{key_from, lower_hex}
+use Rattle.hex.specs.Hex.{IsBytes}
+use Rattle.wire_json.specs.Asking.{AskedFits, AskedIsUtf8}
+use Rattle.wire_json.specs.KeyText.{IsKey, key_from, lower_hex}
 use Rattle.room_changes.specs.declared.change.Change.{Change}
 use Rattle.room_changes.specs.declared.change.Change.TheVariants as change
 use Rattle.change_text.specs.Payload.{payload}
@@ -68,3 +70,12 @@ change_of_line text (Err fault) = None
 
 unfoldable pub change_read : List ℕ → Found
 change_read text = change_of_line text (text_read text)
+
+-- what the types of a change and its call see to, so that its text reads back
+abbrev pub IsReadable : Change GameKind → Type 0
+IsReadable (change.Create game seats seed) = (named (any_rules game).sheet.name ≡ Some game) × (seats ≤ 255) × (length seed ≡ 32) × IsBytes seed
+IsReadable (change.Join seat name key) = (seat ≤ 255) × IsUtf8 name × IsKey key
+IsReadable (change.Rename seat key name) = (seat ≤ 255) × IsUtf8 name × IsKey key
+IsReadable (change.Leave seat key) = (seat ≤ 255) × IsKey key
+IsReadable change.Clear = Unit {0}
+IsReadable (change.Act seat asked) = (seat ≤ 255) × AskedFits asked × AskedIsUtf8 asked

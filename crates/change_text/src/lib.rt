@@ -4,7 +4,9 @@
 mod call_write;
 mod change_read;
 mod change_write;
+mod laws;
 
 pub use call_write::put_asked_change;
 pub use change_read::read_change;
 pub use change_write::put_change;
+pub use laws::written_changes_read_back;

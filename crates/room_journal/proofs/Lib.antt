@@ -1,1 +1,4 @@
+pub mod Acting
 pub mod Adding
+pub mod Made
+pub mod Steps

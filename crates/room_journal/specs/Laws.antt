@@ -1,10 +1,15 @@
--- A call that met a want of memory wasn't accepted.
-use Rattle.std.specs.Prelude.{◌≡◌, Bool, true, false, refl}
+-- What every room's book keeps as an object whose records are read back.
+use Rattle.std.specs.Prelude.{◌≡◌, ℕ, List, [], Bool, true, false, Option, refl}
 use Rattle.std.proofs.Common.{sym, subst}
 use Rattle.match_master.specs.Held.{is_starved}
 use Rattle.room_history.specs.declared.reply.RoomReply.{RoomReply}
 use Rattle.room_history.specs.declared.reply.RoomReply.TheVariants as answer
 use Rattle.room_changes.specs.ChangesOf.{is_accepted}
+use Rattle.room_journal.specs.Coming.{HasCome}
+
+-- where nothing has happened
+pub fresh : (room : ℕ) (keys : List (Option (List ℕ))) → HasCome room keys []
+fresh room keys = record { told = refl; fits = tt }
 
 abbrev Is : Bool → Type 0
 Is true = Unit {0}

@@ -11,7 +11,7 @@ ghost use Rattle.room_journal.specs.Kept.{IsInForm, room_payload, room_records};
 
 use any_game::AnyGame;
 use change_text::put_asked_change;
-use game_sheet::NoMemory;
+use game_sheet::{Key, NoMemory};
 use match_master::Book;
 use object_journal::Recorded;
 use room_history::{RoomCall, RoomReply};
@@ -19,17 +19,24 @@ use room_object::Object;
 use std::alloc::Global;
 use wire_json::Verdict;
 
-/// The book of one room.
+/// The book of one room, and the keys of its seats, by which its records make its actions again.
 pub struct RoomBook {
     /// The number of the room.
     pub(crate) room: u8,
     pub(crate) book: Book<AnyGame>,
+    /// One for each seat of the match that stands. They are kept while records are read.
+    pub(crate) keys: Vec<Option<Key>>,
 }
 
 impl Drop for RoomBook {
     fn drop(self) {
-        let RoomBook { room: _, book } = self;
+        let RoomBook {
+            room: _,
+            book,
+            keys,
+        } = self;
         drop(book);
+        drop(keys);
     }
 }
 
@@ -41,7 +48,11 @@ impl RoomBook {
         ensures stands { IfOk result (λ b. StandsIn b.room b.book []) }
     {
         let book = Book::new(alloc, room)?;
-        Ok(RoomBook { room, book })
+        Ok(RoomBook {
+            room,
+            book,
+            keys: Vec::new(alloc),
+        })
     }
 }
 
