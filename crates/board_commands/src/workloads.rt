@@ -7,9 +7,9 @@ ghost use Rattle.line_runner.specs.Running.{ExitRaises, IsComplete};
 ghost use Rattle.board_commands.specs.Workloads.{Prints, workload_text};
 
 use board_links::{Put, Sink};
+use line_runner::Exit;
 use std::alloc::Global;
 use workload::workload;
-use world_script::Exit;
 
 /// Runs so many steps of a workload, which draw their words by a seed, and prints the six lines that it tells at its end.
 ///

@@ -15,7 +15,7 @@ use std::{env, io};
 
 fn main(rt: HostRuntime) -> ExitCode {
     let exit = match keep_standard(&rt) {
-        Ok(()) => perform_words(&rt),
+        Ok(()) => perform_words(&rt, &rt),
         Err(_) => Exit::ReadFault,
     };
     let (status, report) = exit.told();
@@ -25,9 +25,9 @@ fn main(rt: HostRuntime) -> ExitCode {
 }
 
 /// Does what the words of the call ask for.
-fn perform_words(rt: &HostRuntime) -> Exit {
+fn perform_words<R: Threads + Wait + Sync>(leave: &R, rt: &HostRuntime) -> Exit {
     match words(rt) {
-        Ok(words) => perform(rt, rt, after_name(words.as_slice())),
+        Ok(words) => perform(leave, rt, after_name(words.as_slice())),
         Err(error) if error.kind() == io::ErrorKind::OutOfMemory => Exit::NoMemory,
         Err(_) => Exit::Usage,
     }
