@@ -1,5 +1,5 @@
 -- What holds of each element of a list holds of each of its reverse.
-use Rattle.std.proofs.Common.{◌≡◌, ◌<◌, ◌-◌, ℕ, List, All, length, arith, sym, subst}
+use Rattle.std.proofs.Common.{◌<◌, ◌-◌, ℕ, List, All, length, arith, sym, subst}
 use Rattle.std.specs.Prelude.{reverse}
 use Rattle.std.proofs.lemmas.List.{get_or-reverse, length-reverse}
 
