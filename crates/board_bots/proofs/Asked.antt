@@ -1,5 +1,5 @@
 -- What a receive makes of the answer of the bot that it asked.
-use Rattle.std.proofs.Common.{◌≡◌, ◌≤◌, ◌++◌, ℕ, List, [], ◌∷◌, length, slice_get, Option, Some, None, true, IfOk, Result, Ok, Err, arith, absurd, refl, ap, subst, sym, ◌∙◌}
+use Rattle.std.proofs.Common.{◌≡◌, ◌≤◌, ◌++◌, ℕ, List, [], ◌∷◌, length, slice_get, Option, Some, None, true, IfOk, Result, Ok, Err, arith, refl, ap, subst, sym, ◌∙◌}
 use Rattle.any_game.specs.AnyRules.{any_rules}
 use Rattle.any_game.specs.GameKind.{GameKind}
 use Rattle.any_game.specs.declared.any_g.AnyG.{AnyG}
@@ -14,10 +14,12 @@ use Rattle.bot_sitter.specs.Sitting.{Sitting, Stays, bot_seat_of, is_above, sett
 use Rattle.client_predict.specs.Following.{followed}
 use Rattle.game_sheet.specs.Lines.{lines}
 use Rattle.board_bots.proofs.Seeing.{sees_on, sees_one}
-use Rattle.board_bots.specs.Bots.{Asks, AsksBy, Chooses, ChosenOn, IsPlay, Moment, PlaysBy, SeesTo, asked, last_after, moment, options_on}
+use Rattle.board_bots.specs.Bots.{Asks, AsksBy, Chooses, ChosenOn, IsPlay, Moment, PlaysBy, SeesTo, asked, came_of, last_after, moment, options_on}
 use Rattle.board_bots.specs.Glances.{glance_of}
 use Rattle.board_bots.specs.Sight.{Sees}
 use Rattle.board_bots.specs.declared.bot_link.Choice.{Choice}
+use Rattle.board_bots.specs.declared.bot_link.Said.{Said}
+use Rattle.board_bots.specs.declared.bot_link.Said.TheVariants as said
 use Rattle.board_bots.specs.declared.bot_link.Choice.TheVariants as choice
 use Rattle.board_bots.specs.declared.glance.Glance.{Glance}
 
@@ -147,3 +149,22 @@ stays_on old mid new a b = record {
   asked_out = b.asked_out ∙ a.asked_out;
   seat = b.seat ∙ a.seat;
 }
+
+-- ---- by the choice that was made
+
+pub passed_as : (c : Choice) (answer : Said) (sitting mid after : Sitting GameKind AnyG) (seen seen2 seen3 : List Glance) (chosen chosen2 chosen3 : List (Option ℕ)) (number : ℕ)
+    → c ≡ choice.Passes number → Chooses c sitting seen chosen seen2 chosen2 → mid ≡ with_last sitting number
+    → answer ≡ said.Quiet → after ≡ mid → seen3 ≡ seen2 → chosen3 ≡ chosen2
+    → Asks (settled_in sitting.client) (moment sitting seen chosen) (came_of answer) (moment after seen3 chosen3)
+passed_as c answer sitting mid after seen seen2 seen3 chosen chosen2 chosen3 number is h a quiet same saw kept =
+    subst (λ x. Asks (settled_in sitting.client) (moment sitting seen chosen) (came_of x) (moment after seen3 chosen3)) (sym quiet)
+    (subst (λ l. Asks (settled_in sitting.client) (moment sitting seen chosen) came.Quiet (moment after l chosen3)) (sym saw)
+    (subst (λ l. Asks (settled_in sitting.client) (moment sitting seen chosen) came.Quiet (moment after seen2 l)) (sym kept)
+    (passed sitting after seen seen2 chosen chosen2 number (subst (λ x. Chooses x sitting seen chosen seen2 chosen2) is h) (same ∙ a))))
+
+pub played_as : (c : Choice) (sitting mid next : Sitting GameKind AnyG) (seen seen2 : List Glance) (chosen chosen2 : List (Option ℕ)) (number id : ℕ) (args : List Arg) (line : List ℕ)
+    → c ≡ choice.Plays number id args → Chooses c sitting seen chosen seen2 chosen2 → mid ≡ with_last sitting number
+    → GivesAct (any_rules mid.game) mid.starved (option_asked (any_rules mid.game) (id, args)) line mid next
+    → Asks (settled_in sitting.client) (moment sitting seen chosen) (came.Line line) (moment next seen2 chosen2)
+played_as c sitting mid next seen seen2 chosen chosen2 number id args line is h a act =
+    played sitting mid next seen seen2 chosen chosen2 number id args line (subst (λ x. Chooses x sitting seen chosen seen2 chosen2) is h) a act

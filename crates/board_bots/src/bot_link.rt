@@ -121,6 +121,43 @@ impl<R: Rest> BotLink<R> {
         }
     }
 
+    /// The answer of its next step, which is what `receive` gives.
+    pub fn answer(&mut self) -> Came
+        ensures receives { Receives result (moment self.old.sitter (seen self.old.bot) (chosen self.old.bot))
+            (moment self.new.sitter (seen self.new.bot) (chosen self.new.bot)) }
+        ensures sight { (opening : List Seen) → SeesTo opening (moment self.old.sitter (seen self.old.bot) (chosen self.old.bot))
+            → SeesTo opening (moment self.new.sitter (seen self.new.bot) (chosen self.new.bot)) }
+        ensures stays { Stays self.old.sitter self.new.sitter }
+        ensures raises { CameRaises result 0 0 }
+        ensures stage { self.new.stage ≡ stage_after result self.old.stage }
+        ensures within { IsWithin 65536 result }
+        ensures told { self.new.answers ≡ with_answer result self.old.answers }
+        ensures finished { self.new.finished ≡ self.old.finished }
+    {
+        match self.say() {
+            Ok(came) => came,
+            Err(NoMemory) => {
+                self.sitter.starve();
+                Came::NoMemory
+            }
+        }
+    }
+
+    /// Keeps and hears what it is sent, which is what `send` does.
+    pub fn hear(&mut self, bytes: &[u8]) -> Out
+        requires lines { AreLines bytes.now }
+        ensures hears { Hears (any_rules self.old.sitter.game) result bytes.now self.old.sitter self.new.sitter }
+        ensures sight { (opening : List Seen) → SeesTo opening (moment self.old.sitter (seen self.old.bot) (chosen self.old.bot))
+            → SeesTo opening (moment self.new.sitter (seen self.new.bot) (chosen self.new.bot)) }
+        ensures raises { OutRaises result 0 0 }
+        ensures told { Sends result bytes.now self.old.sitter.sent (Some self.new.sitter.sent) }
+        ensures asked_out { self.new.sitter.asked_out ≡ self.old.sitter.asked_out }
+        ensures bot_seat { IsSome (bot_seat_of self.old.sitter) → bot_seat_of self.new.sitter ≡ bot_seat_of self.old.sitter }
+        ensures kept { (self.new.answers ≡ self.old.answers) × (self.new.stage ≡ self.old.stage) × (self.new.finished ≡ self.old.finished) }
+    {
+        self.sitter.send(bytes)
+    }
+
     /// Gives the answer of its next step, and keeps it.
     fn say(&mut self) -> Result<Came, NoMemory>
         ensures receives { IfOk result (λ answer. Receives answer (moment self.old.sitter (seen self.old.bot) (chosen self.old.bot))
@@ -356,10 +393,6 @@ impl<R: Rest> Link for BotLink<R> {
     }
 
     fn receive<W: Wait>(&mut self, _rt: &W) -> Came
-        ensures receives { Receives result (moment self.old.sitter (seen self.old.bot) (chosen self.old.bot))
-            (moment self.new.sitter (seen self.new.bot) (chosen self.new.bot)) }
-        ensures sight { (opening : List Seen) → SeesTo opening (moment self.old.sitter (seen self.old.bot) (chosen self.old.bot))
-            → SeesTo opening (moment self.new.sitter (seen self.new.bot) (chosen self.new.bot)) }
         ensures stays { Stays self.old.sitter self.new.sitter }
         ensures raises { CameRaises result 0 0 }
         ensures stage { self.new.stage ≡ stage_after result self.old.stage }
@@ -367,27 +400,19 @@ impl<R: Rest> Link for BotLink<R> {
         ensures told { self.new.answers ≡ with_answer result self.old.answers }
         ensures finished { self.new.finished ≡ self.old.finished }
     {
-        match self.say() {
-            Ok(came) => came,
-            Err(NoMemory) => {
-                self.sitter.starve();
-                Came::NoMemory
-            }
-        }
+        self.answer()
     }
 
     fn send<W: Wait>(&mut self, _rt: &W, bytes: &[u8]) -> Out
         requires lines { AreLines bytes.now }
         ensures hears { Hears (any_rules self.old.sitter.game) result bytes.now self.old.sitter self.new.sitter }
-        ensures sight { (opening : List Seen) → SeesTo opening (moment self.old.sitter (seen self.old.bot) (chosen self.old.bot))
-            → SeesTo opening (moment self.new.sitter (seen self.new.bot) (chosen self.new.bot)) }
         ensures raises { OutRaises result 0 0 }
         ensures told { Sends result bytes.now self.old.sitter.sent (Some self.new.sitter.sent) }
         ensures asked_out { self.new.sitter.asked_out ≡ self.old.sitter.asked_out }
         ensures bot_seat { IsSome (bot_seat_of self.old.sitter) → bot_seat_of self.new.sitter ≡ bot_seat_of self.old.sitter }
         ensures kept { (self.new.answers ≡ self.old.answers) × (self.new.stage ≡ self.old.stage) × (self.new.finished ≡ self.old.finished) }
     {
-        self.sitter.send(bytes)
+        self.hear(bytes)
     }
 
     fn flush(&mut self) -> bool {
