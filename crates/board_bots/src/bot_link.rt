@@ -33,17 +33,17 @@ use std::sync::Wait;
 const LIMIT: u32 = 65_536;
 
 /// The link of a bot, which sits at a match as a player does.
-pub struct BotLink<R> {
+pub struct BotLink<B, R> {
     alloc: Global,
     sitter: Sitter<AnyGame>,
-    bot: Box<dyn Bot + Send>,
+    bot: B,
     answers: Answers,
     stage: Stage,
     finished: Option<SessionEnd>,
     rest: R,
 }
 
-impl<R: Drop> Drop for BotLink<R> {
+impl<B: Drop, R: Drop> Drop for BotLink<B, R> {
     fn drop(self) {
         let BotLink {
             alloc: _,
@@ -83,24 +83,24 @@ pub(crate) enum Choice {
     Plays(Number, MoveId, Args),
 }
 
-impl<R: Rest> BotLink<R> {
+impl<B: Bot, R: Rest> BotLink<B, R> {
     /// A link whose bot is to sit at this seat of a match of this game.
     pub fn new(
         alloc: Global,
         game: AnyGame,
         name: MatchName,
         seat: Seat,
-        bot: Box<dyn Bot + Send>,
+        bot: B,
         rest: R,
-    ) -> Result<BotLink<R>, NoMemory>
+    ) -> Result<BotLink<B, R>, NoMemory>
         ensures sitting { IfOk result (λ l. l.sitter ≡ new_sitting game name seat) }
-        ensures bot { IfOk result (λ l. (seen l.bot ≡ seen bot) × (chosen l.bot ≡ chosen bot)) }
+        ensures bot { IfOk result (λ l. (B.seen l.bot ≡ B.seen bot) × (B.chosen l.bot ≡ B.chosen bot)) }
         ensures answers { IfOk result (λ l. l.answers ≡ []) }
         ensures stage { IfOk result (λ l. l.stage ≡ at.Open) }
         ensures finished { IfOk result (λ l. l.finished ≡ None) }
-        ensures fresh { IfOk result (λ l. IsFresh (⟦<BotLink<R> as Link>⟧.faults l) (⟦<BotLink<R> as Link>⟧.finished l)
-            (⟦<BotLink<R> as Link>⟧.answers l) (⟦<BotLink<R> as Link>⟧.sent l)) }
-        ensures sight { IfOk result (λ l. SeesTo (seen bot) (moment l.sitter (seen l.bot) (chosen l.bot))) }
+        ensures fresh { IfOk result (λ l. IsFresh (⟦<BotLink<B, R> as Link>⟧.faults l) (⟦<BotLink<B, R> as Link>⟧.finished l)
+            (⟦<BotLink<B, R> as Link>⟧.answers l) (⟦<BotLink<B, R> as Link>⟧.sent l)) }
+        ensures sight { IfOk result (λ l. SeesTo (B.seen bot) (moment l.sitter (B.seen l.bot) (B.chosen l.bot))) }
     {
         match game.copy_game(alloc) {
             Ok(spare) => Ok(BotLink {
@@ -123,10 +123,10 @@ impl<R: Rest> BotLink<R> {
 
     /// The answer of its next step, which is what `receive` gives.
     pub fn answer(&mut self) -> Came
-        ensures receives { Receives result (moment self.old.sitter (seen self.old.bot) (chosen self.old.bot))
-            (moment self.new.sitter (seen self.new.bot) (chosen self.new.bot)) }
-        ensures sight { (opening : List Seen) → SeesTo opening (moment self.old.sitter (seen self.old.bot) (chosen self.old.bot))
-            → SeesTo opening (moment self.new.sitter (seen self.new.bot) (chosen self.new.bot)) }
+        ensures receives { Receives result (moment self.old.sitter (B.seen self.old.bot) (B.chosen self.old.bot))
+            (moment self.new.sitter (B.seen self.new.bot) (B.chosen self.new.bot)) }
+        ensures sight { (opening : List Seen) → SeesTo opening (moment self.old.sitter (B.seen self.old.bot) (B.chosen self.old.bot))
+            → SeesTo opening (moment self.new.sitter (B.seen self.new.bot) (B.chosen self.new.bot)) }
         ensures stays { Stays self.old.sitter self.new.sitter }
         ensures raises { CameRaises result 0 0 }
         ensures stage { self.new.stage ≡ stage_after result self.old.stage }
@@ -147,8 +147,8 @@ impl<R: Rest> BotLink<R> {
     pub fn hear(&mut self, bytes: &[u8]) -> Out
         requires lines { AreLines bytes.now }
         ensures hears { Hears (any_rules self.old.sitter.game) result bytes.now self.old.sitter self.new.sitter }
-        ensures sight { (opening : List Seen) → SeesTo opening (moment self.old.sitter (seen self.old.bot) (chosen self.old.bot))
-            → SeesTo opening (moment self.new.sitter (seen self.new.bot) (chosen self.new.bot)) }
+        ensures sight { (opening : List Seen) → SeesTo opening (moment self.old.sitter (B.seen self.old.bot) (B.chosen self.old.bot))
+            → SeesTo opening (moment self.new.sitter (B.seen self.new.bot) (B.chosen self.new.bot)) }
         ensures raises { OutRaises result 0 0 }
         ensures told { Sends result bytes.now self.old.sitter.sent (Some self.new.sitter.sent) }
         ensures asked_out { self.new.sitter.asked_out ≡ self.old.sitter.asked_out }
@@ -160,10 +160,10 @@ impl<R: Rest> BotLink<R> {
 
     /// Gives the answer of its next step, and keeps it.
     fn say(&mut self) -> Result<Came, NoMemory>
-        ensures receives { IfOk result (λ answer. Receives answer (moment self.old.sitter (seen self.old.bot) (chosen self.old.bot))
-            (moment self.new.sitter (seen self.new.bot) (chosen self.new.bot))) }
-        ensures sight { (opening : List Seen) → SeesTo opening (moment self.old.sitter (seen self.old.bot) (chosen self.old.bot))
-            → SeesTo opening (moment self.new.sitter (seen self.new.bot) (chosen self.new.bot)) }
+        ensures receives { IfOk result (λ answer. Receives answer (moment self.old.sitter (B.seen self.old.bot) (B.chosen self.old.bot))
+            (moment self.new.sitter (B.seen self.new.bot) (B.chosen self.new.bot))) }
+        ensures sight { (opening : List Seen) → SeesTo opening (moment self.old.sitter (B.seen self.old.bot) (B.chosen self.old.bot))
+            → SeesTo opening (moment self.new.sitter (B.seen self.new.bot) (B.chosen self.new.bot)) }
         ensures stays { Stays self.old.sitter self.new.sitter }
         ensures told { IfOk result (λ answer. self.new.answers ≡ with_answer answer self.old.answers) }
         ensures untold { OnErr result (self.new.answers ≡ self.old.answers) }
@@ -194,10 +194,10 @@ impl<R: Rest> BotLink<R> {
 
     /// Makes its next step.
     fn next(&mut self) -> Result<Said, NoMemory>
-        ensures does { IfOk result (λ said. DoesStep (step_of self.old.sitter) (moment self.old.sitter (seen self.old.bot) (chosen self.old.bot)) (came_of said)
-            (moment self.new.sitter (seen self.new.bot) (chosen self.new.bot))) }
-        ensures sight { (opening : List Seen) → SeesTo opening (moment self.old.sitter (seen self.old.bot) (chosen self.old.bot))
-            → SeesTo opening (moment self.new.sitter (seen self.new.bot) (chosen self.new.bot)) }
+        ensures does { IfOk result (λ said. DoesStep (step_of self.old.sitter) (moment self.old.sitter (B.seen self.old.bot) (B.chosen self.old.bot)) (came_of said)
+            (moment self.new.sitter (B.seen self.new.bot) (B.chosen self.new.bot))) }
+        ensures sight { (opening : List Seen) → SeesTo opening (moment self.old.sitter (B.seen self.old.bot) (B.chosen self.old.bot))
+            → SeesTo opening (moment self.new.sitter (B.seen self.new.bot) (B.chosen self.new.bot)) }
         ensures stays { Stays self.old.sitter self.new.sitter }
         ensures kept { (self.new.answers ≡ self.old.answers) × (self.new.stage ≡ self.old.stage) × (self.new.finished ≡ self.old.finished) }
     {
@@ -207,10 +207,10 @@ impl<R: Rest> BotLink<R> {
 
     fn take(&mut self, step: Step) -> Result<Said, NoMemory>
         requires asked { step ≡ steps.Ask → (self.old.sitter.starved ≡ false) × (may_ask self.old.sitter.last self.old.sitter.client ≡ true) }
-        ensures does { IfOk result (λ said. DoesStep step (moment self.old.sitter (seen self.old.bot) (chosen self.old.bot)) (came_of said)
-            (moment self.new.sitter (seen self.new.bot) (chosen self.new.bot))) }
-        ensures sight { (opening : List Seen) → SeesTo opening (moment self.old.sitter (seen self.old.bot) (chosen self.old.bot))
-            → SeesTo opening (moment self.new.sitter (seen self.new.bot) (chosen self.new.bot)) }
+        ensures does { IfOk result (λ said. DoesStep step (moment self.old.sitter (B.seen self.old.bot) (B.chosen self.old.bot)) (came_of said)
+            (moment self.new.sitter (B.seen self.new.bot) (B.chosen self.new.bot))) }
+        ensures sight { (opening : List Seen) → SeesTo opening (moment self.old.sitter (B.seen self.old.bot) (B.chosen self.old.bot))
+            → SeesTo opening (moment self.new.sitter (B.seen self.new.bot) (B.chosen self.new.bot)) }
         ensures stays { Stays self.old.sitter self.new.sitter }
         ensures kept { (self.new.answers ≡ self.old.answers) × (self.new.stage ≡ self.old.stage) × (self.new.finished ≡ self.old.finished) }
     {
@@ -240,7 +240,7 @@ impl<R: Rest> BotLink<R> {
     /// One rest.
     fn quiet(&mut self) -> Said
         ensures quiet { result ≡ said.Quiet }
-        ensures same { (self.new.sitter ≡ self.old.sitter) × (seen self.new.bot ≡ seen self.old.bot) × (chosen self.new.bot ≡ chosen self.old.bot) }
+        ensures same { (self.new.sitter ≡ self.old.sitter) × (B.seen self.new.bot ≡ B.seen self.old.bot) × (B.chosen self.new.bot ≡ B.chosen self.old.bot) }
         ensures kept { (self.new.answers ≡ self.old.answers) × (self.new.stage ≡ self.old.stage) × (self.new.finished ≡ self.old.finished) }
     {
         self.rest.rest();
@@ -250,10 +250,10 @@ impl<R: Rest> BotLink<R> {
     /// Asks the bot, and makes the act that it chose.
     fn ask(&mut self) -> Result<Said, NoMemory>
         requires asked { (self.old.sitter.starved ≡ false) × (may_ask self.old.sitter.last self.old.sitter.client ≡ true) }
-        ensures does { IfOk result (λ said. DoesStep steps.Ask (moment self.old.sitter (seen self.old.bot) (chosen self.old.bot)) (came_of said)
-            (moment self.new.sitter (seen self.new.bot) (chosen self.new.bot))) }
-        ensures sight { (opening : List Seen) → SeesTo opening (moment self.old.sitter (seen self.old.bot) (chosen self.old.bot))
-            → SeesTo opening (moment self.new.sitter (seen self.new.bot) (chosen self.new.bot)) }
+        ensures does { IfOk result (λ said. DoesStep steps.Ask (moment self.old.sitter (B.seen self.old.bot) (B.chosen self.old.bot)) (came_of said)
+            (moment self.new.sitter (B.seen self.new.bot) (B.chosen self.new.bot))) }
+        ensures sight { (opening : List Seen) → SeesTo opening (moment self.old.sitter (B.seen self.old.bot) (B.chosen self.old.bot))
+            → SeesTo opening (moment self.new.sitter (B.seen self.new.bot) (B.chosen self.new.bot)) }
         ensures stays { Stays self.old.sitter self.new.sitter }
         ensures kept { (self.new.answers ≡ self.old.answers) × (self.new.stage ≡ self.old.stage) × (self.new.finished ≡ self.old.finished) }
     {
@@ -290,16 +290,12 @@ fn keep_line(alloc: Global, answers: &mut Answers, line: Vec<u8>) -> Result<Byte
 }
 
 /// Asks a bot for one of the options that its game offers it, if there are any.
-fn ask_bot(
-    alloc: Global,
-    sitter: &Sitter<AnyGame>,
-    bot: &mut Box<dyn Bot + Send>,
-) -> Result<Choice, NoMemory>
+fn ask_bot<B: Bot>(alloc: Global, sitter: &Sitter<AnyGame>, bot: &mut B) -> Result<Choice, NoMemory>
     requires asked { (sitter.now.starved ≡ false) × (may_ask sitter.now.last sitter.now.client ≡ true) }
-    ensures chooses { IfOk result (λ choice. Chooses choice sitter.now (seen bot.old) (chosen bot.old) (seen bot.new) (chosen bot.new)) }
-    ensures unchanged { OnErr result ((seen bot.new ≡ seen bot.old) × (chosen bot.new ≡ chosen bot.old)) }
-    ensures sight { IfOk result (λ choice. (opening : List Seen) → SeesTo opening (moment sitter.now (seen bot.old) (chosen bot.old))
-        → Sees (any_rules sitter.now.game) opening (lines sitter.now.sent) (last_after choice sitter.now.last) (seen bot.new)) }
+    ensures chooses { IfOk result (λ choice. Chooses choice sitter.now (B.seen bot.old) (B.chosen bot.old) (B.seen bot.new) (B.chosen bot.new)) }
+    ensures unchanged { OnErr result ((B.seen bot.new ≡ B.seen bot.old) × (B.chosen bot.new ≡ B.chosen bot.old)) }
+    ensures sight { IfOk result (λ choice. (opening : List Seen) → SeesTo opening (moment sitter.now (B.seen bot.old) (B.chosen bot.old))
+        → Sees (any_rules sitter.now.game) opening (lines sitter.now.sent) (last_after choice sitter.now.last) (B.seen bot.new)) }
 {
     let Some(settled) = sitter.settled() else {
         return Err(NoMemory);
@@ -311,15 +307,15 @@ fn ask_bot(
 }
 
 /// Asks a bot for one of some options, if there are any, and copies it.
-fn choose(
+fn choose<B: Bot>(
     alloc: Global,
     game: &AnyGame,
-    bot: &mut Box<dyn Bot + Send>,
+    bot: &mut B,
     settled: &Snapshot<AnyG>,
     options: &[(MoveId, Args)],
 ) -> Result<Choice, NoMemory>
-    ensures chooses { IfOk result (λ choice. ChosenOn settled.now options.now choice (seen bot.old) (chosen bot.old) (seen bot.new) (chosen bot.new)) }
-    ensures unchanged { OnErr result ((seen bot.new ≡ seen bot.old) × (chosen bot.new ≡ chosen bot.old)) }
+    ensures chooses { IfOk result (λ choice. ChosenOn settled.now options.now choice (B.seen bot.old) (B.chosen bot.old) (B.seen bot.new) (B.chosen bot.new)) }
+    ensures unchanged { OnErr result ((B.seen bot.new ≡ B.seen bot.old) × (B.chosen bot.new ≡ B.chosen bot.old)) }
 {
     if options.is_empty() {
         return Ok(Choice::NoOption);
@@ -364,7 +360,7 @@ fn glance(alloc: Global, game: &AnyGame, settled: &Snapshot<AnyG>) -> Result<Gla
     }
 }
 
-impl<R: Rest> Link for BotLink<R> {
+impl<B: Bot, R: Rest> Link for BotLink<B, R> {
     ghost use Rattle.std.specs.Prelude.{Some, true};
     ghost use Rattle.bot_sitter.specs.Sitting.{bot_seat_of};
 
@@ -393,6 +389,10 @@ impl<R: Rest> Link for BotLink<R> {
     }
 
     fn receive<W: Wait>(&mut self, _rt: &W) -> Came
+        ensures receives { Receives result (moment self.old.sitter (B.seen self.old.bot) (B.chosen self.old.bot))
+            (moment self.new.sitter (B.seen self.new.bot) (B.chosen self.new.bot)) }
+        ensures sight { (opening : List Seen) → SeesTo opening (moment self.old.sitter (B.seen self.old.bot) (B.chosen self.old.bot))
+            → SeesTo opening (moment self.new.sitter (B.seen self.new.bot) (B.chosen self.new.bot)) }
         ensures stays { Stays self.old.sitter self.new.sitter }
         ensures raises { CameRaises result 0 0 }
         ensures stage { self.new.stage ≡ stage_after result self.old.stage }
@@ -406,6 +406,8 @@ impl<R: Rest> Link for BotLink<R> {
     fn send<W: Wait>(&mut self, _rt: &W, bytes: &[u8]) -> Out
         requires lines { AreLines bytes.now }
         ensures hears { Hears (any_rules self.old.sitter.game) result bytes.now self.old.sitter self.new.sitter }
+        ensures sight { (opening : List Seen) → SeesTo opening (moment self.old.sitter (B.seen self.old.bot) (B.chosen self.old.bot))
+            → SeesTo opening (moment self.new.sitter (B.seen self.new.bot) (B.chosen self.new.bot)) }
         ensures raises { OutRaises result 0 0 }
         ensures told { Sends result bytes.now self.old.sitter.sent (Some self.new.sitter.sent) }
         ensures asked_out { self.new.sitter.asked_out ≡ self.old.sitter.asked_out }
