@@ -10,11 +10,11 @@ use Rattle.player_sight.specs.declared.shown.Snapshot.{Snapshot}
 use Rattle.bot_sitter.specs.Given.{GivesAct, option_asked, with_last}
 use Rattle.bot_sitter.specs.Hearing.{Grows, IsKept}
 use Rattle.bot_sitter.specs.Seen.{settled_of}
-use Rattle.bot_sitter.specs.Sitting.{Sitting, Stays, bot_seat_of, is_above, settled_in}
+use Rattle.bot_sitter.specs.Sitting.{Sitting, is_above, settled_in}
 use Rattle.client_predict.specs.Following.{followed}
 use Rattle.game_sheet.specs.Lines.{lines}
 use Rattle.board_bots.proofs.Seeing.{sees_on, sees_one}
-use Rattle.board_bots.specs.Bots.{Asks, AsksBy, Chooses, ChosenOn, IsPlay, Moment, PlaysBy, SeesTo, asked, came_of, last_after, moment, options_on}
+use Rattle.board_bots.specs.Bots.{ActsOn, Asks, AsksBy, Chooses, ChosenOn, IsChoice, IsPlay, Moment, PlaysBy, SeesTo, asked, came_of, last_after, moment, options_on}
 use Rattle.board_bots.specs.Glances.{glance_of}
 use Rattle.board_bots.specs.Sight.{Sees}
 use Rattle.board_bots.specs.declared.bot_link.Choice.{Choice}
@@ -39,14 +39,20 @@ some_offer : (offers : List (ℕ × List Arg)) (place : ℕ) (offer : ℕ × Lis
 some_offer [] place offer e = cc
 some_offer (first ∷ offers) place offer e = omega arith
 
-pub chosen_play : (s : Snapshot AnyG) (offers : List (ℕ × List Arg)) (number place : ℕ) (c : Choice) (seen seen2 : List Glance) (chosen chosen2 : List (Option ℕ))
-    → IsPlay (slice_get offers place) number c → number ≡ s.number → seen2 ≡ seen ++ glance_of s ∷ [] → chosen2 ≡ chosen ++ Some place ∷ []
+play_on : (s : Snapshot AnyG) (offers : List (ℕ × List Arg)) (found : Option (ℕ × List Arg)) (number place : ℕ) (c : Choice) (seen seen2 : List Glance) (chosen chosen2 : List (Option ℕ))
+    → slice_get offers place ≡ found → IsPlay found number c → number ≡ s.number → seen2 ≡ seen ++ glance_of s ∷ [] → chosen2 ≡ chosen ++ Some place ∷ []
     → ChosenOn s offers c seen chosen seen2 chosen2
-chosen_play s offers number place c seen seen2 chosen chosen2 play n saw kept = by (slice_get offers place) refl play
-  where
-    by : (found : Option (ℕ × List Arg)) → slice_get offers place ≡ found → IsPlay found number c → ChosenOn s offers c seen chosen seen2 chosen2
-    by None e h = elim h [ ]
-    by (Some offer) e h = subst (λ x. ChosenOn s offers x seen chosen seen2 chosen2) (sym h) (place, e, n, saw, kept)
+play_on s offers None number place c seen seen2 chosen chosen2 e h n saw kept = elim h [ ]
+play_on s offers (Some offer) number place c seen seen2 chosen chosen2 e h n saw kept =
+    subst (λ x. ChosenOn s offers x seen chosen seen2 chosen2) (sym h) (place, e, n, saw, kept)
+
+pub chosen_at : (s : Snapshot AnyG) (offers : List (ℕ × List Arg)) (number : ℕ) (place : Option ℕ) (c : Choice) (seen seen2 : List Glance) (chosen chosen2 : List (Option ℕ))
+    → IsChoice offers number place c → number ≡ s.number → seen2 ≡ seen ++ glance_of s ∷ [] → chosen2 ≡ chosen ++ place ∷ []
+    → ChosenOn s offers c seen chosen seen2 chosen2
+chosen_at s offers number None c seen seen2 chosen chosen2 h n saw kept =
+    subst (λ x. ChosenOn s offers x seen chosen seen2 chosen2) (sym h.1) (h.0, n, saw, kept)
+chosen_at s offers number (Some place) c seen seen2 chosen chosen2 h n saw kept =
+    play_on s offers (slice_get offers place) number place c seen seen2 chosen chosen2 refl h n saw kept
 
 pub ends_as : {A : Type 0} (a b : List A) (x y : A) → a ≡ b ++ x ∷ [] → x ≡ y → a ≡ b ++ y ∷ []
 ends_as a b x y e same = e ∙ ap (λ z. b ++ z ∷ []) same
@@ -59,15 +65,7 @@ pub chooses_of : (sitting : Sitting GameKind AnyG) (s : Snapshot AnyG) (offers :
     → settled_in sitting.client ≡ Some s → offers ≡ options_on sitting s → ChosenOn s offers c seen chosen seen2 chosen2 → Chooses c sitting seen chosen seen2 chosen2
 chooses_of sitting s offers c seen seen2 chosen chosen2 e o h = (s, e, subst (λ l. ChosenOn s l c seen chosen seen2 chosen2) o h)
 
--- ---- the three answers
-
-pub no_option : (sitting after : Sitting GameKind AnyG) (seen seen2 : List Glance) (chosen chosen2 : List (Option ℕ))
-    → Chooses choice.NoOption sitting seen chosen seen2 chosen2 → after ≡ sitting
-    → Asks (settled_in sitting.client) (moment sitting seen chosen) came.Quiet (moment after seen2 chosen2)
-no_option sitting after seen seen2 chosen chosen2 h a =
-    asks_on (settled_in sitting.client) h.0 (moment sitting seen chosen) came.Quiet (moment after seen2 chosen2) h.1
-    (by_none (options_on sitting h.0) h.0 (moment sitting seen chosen) (moment after seen2 chosen2) h.2.0
-    (ap (λ x. moment x seen2 chosen2) a ∙ ap (λ l. moment sitting l chosen2) h.2.1 ∙ ap (λ l. moment sitting seen l) h.2.2))
+-- ---- the answers
 
 pub passed : (sitting after : Sitting GameKind AnyG) (seen seen2 : List Glance) (chosen chosen2 : List (Option ℕ)) (number : ℕ)
     → Chooses (choice.Passes number) sitting seen chosen seen2 chosen2 → after ≡ with_last sitting number
@@ -115,41 +113,6 @@ sight_sent old new opening seen chosen grows kept sees =
     (subst (λ n. Sees (any_rules old.game) opening (lines new.sent) n seen) (sym kept.last)
     (sees_on (any_rules old.game) opening (lines old.sent) grows.0 (lines new.sent) old.last seen grows.1 sees))
 
--- an answer leaves what was seen
-pub sight_same : (old new : Sitting GameKind AnyG) (opening seen seen2 : List Glance) (chosen chosen2 : List (Option ℕ)) → Stays old new → new.last ≡ old.last → seen2 ≡ seen
-    → SeesTo opening (moment old seen chosen) → SeesTo opening (moment new seen2 chosen2)
-sight_same old new opening seen seen2 chosen chosen2 stays last same sees =
-    subst (λ l. Sees (any_rules new.game) opening (lines new.sent) new.last l) (sym same)
-    (subst (λ (x : GameKind). Sees (any_rules x) opening (lines new.sent) new.last seen) (sym stays.game)
-    (subst (λ b. Sees (any_rules old.game) opening (lines b) new.last seen) (sym stays.sent)
-    (subst (λ n. Sees (any_rules old.game) opening (lines old.sent) n seen) (sym last) sees)))
-
--- and what a bot was asked on is seen by an act
-pub sight_acted : (old new : Sitting GameKind AnyG) (opening seen : List Glance) (last : Option ℕ) (chosen : List (Option ℕ)) → Stays old new → new.last ≡ last
-    → Sees (any_rules old.game) opening (lines old.sent) last seen → SeesTo opening (moment new seen chosen)
-sight_acted old new opening seen last chosen stays e sees =
-    subst (λ (x : GameKind). Sees (any_rules x) opening (lines new.sent) new.last seen) (sym stays.game)
-    (subst (λ b. Sees (any_rules old.game) opening (lines b) new.last seen) (sym stays.sent)
-    (subst (λ n. Sees (any_rules old.game) opening (lines old.sent) n seen) (sym e) sees))
-
--- ---- what stays
-
-pub stays_same : (old new : Sitting GameKind AnyG) → new ≡ old → Stays old new
-stays_same old new e = record {
-  game = ap (λ (s : Sitting GameKind AnyG). s.game) e;
-  sent = ap (λ (s : Sitting GameKind AnyG). s.sent) e;
-  asked_out = ap (λ (s : Sitting GameKind AnyG). s.asked_out) e;
-  seat = ap bot_seat_of e;
-}
-
-pub stays_on : (old mid new : Sitting GameKind AnyG) → Stays old mid → Stays mid new → Stays old new
-stays_on old mid new a b = record {
-  game = b.game ∙ a.game;
-  sent = b.sent ∙ a.sent;
-  asked_out = b.asked_out ∙ a.asked_out;
-  seat = b.seat ∙ a.seat;
-}
-
 -- ---- by the choice that was made
 
 pub passed_as : (c : Choice) (answer : Said) (sitting mid after : Sitting GameKind AnyG) (seen seen2 seen3 : List Glance) (chosen chosen2 chosen3 : List (Option ℕ)) (number : ℕ)
@@ -162,9 +125,12 @@ passed_as c answer sitting mid after seen seen2 seen3 chosen chosen2 chosen3 num
     (subst (λ l. Asks (settled_in sitting.client) (moment sitting seen chosen) came.Quiet (moment after seen2 l)) (sym kept)
     (passed sitting after seen seen2 chosen chosen2 number (subst (λ x. Chooses x sitting seen chosen seen2 chosen2) is h) (same ∙ a))))
 
-pub played_as : (c : Choice) (sitting mid next : Sitting GameKind AnyG) (seen seen2 : List Glance) (chosen chosen2 : List (Option ℕ)) (number id : ℕ) (args : List Arg) (line : List ℕ)
-    → c ≡ choice.Plays number id args → Chooses c sitting seen chosen seen2 chosen2 → mid ≡ with_last sitting number
-    → GivesAct (any_rules mid.game) mid.starved (option_asked (any_rules mid.game) (id, args)) line mid next
-    → Asks (settled_in sitting.client) (moment sitting seen chosen) (came.Line line) (moment next seen2 chosen2)
-played_as c sitting mid next seen seen2 chosen chosen2 number id args line is h a act =
-    played sitting mid next seen seen2 chosen chosen2 number id args line (subst (λ x. Chooses x sitting seen chosen seen2 chosen2) is h) a act
+pub acted_as : (c : Choice) (answer : Said) (sitting next : Sitting GameKind AnyG) (seen seen2 seen3 : List Glance) (chosen chosen2 chosen3 : List (Option ℕ)) (number id : ℕ) (args : List Arg)
+    → c ≡ choice.Plays number id args → Chooses c sitting seen chosen seen2 chosen2 → seen3 ≡ seen2 → chosen3 ≡ chosen2 → ActsOn sitting number id args answer next
+    → Asks (settled_in sitting.client) (moment sitting seen chosen) (came_of answer) (moment next seen3 chosen3)
+acted_as c said.Quiet sitting next seen seen2 seen3 chosen chosen2 chosen3 number id args is h saw kept act = elim act [ ]
+acted_as c said.Ended sitting next seen seen2 seen3 chosen chosen2 chosen3 number id args is h saw kept act = elim act [ ]
+acted_as c (said.Line line) sitting next seen seen2 seen3 chosen chosen2 chosen3 number id args is h saw kept act =
+    subst (λ l. Asks (settled_in sitting.client) (moment sitting seen chosen) (came.Line line.items) (moment next l chosen3)) (sym saw)
+    (subst (λ l. Asks (settled_in sitting.client) (moment sitting seen chosen) (came.Line line.items) (moment next seen2 l)) (sym kept)
+    (played sitting (with_last sitting number) next seen seen2 chosen chosen2 number id args line.items (subst (λ x. Chooses x sitting seen chosen seen2 chosen2) is h) refl act))

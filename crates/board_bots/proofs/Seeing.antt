@@ -1,5 +1,5 @@
 -- What a bot has seen stays shown by more lines; and one more glance, of what is settled by all of them.
-use Rattle.std.proofs.Common.{◌≡◌, ◌≤◌, ◌+◌, ◌++◌, ℕ, List, [], ◌∷◌, length, take, true, Option, Some, None, arith, refl, sym, ap, subst, ◌∙◌, append_assoc, length-append}
+use Rattle.std.proofs.Common.{◌≡◌, ◌≤◌, ◌++◌, ℕ, List, [], ◌∷◌, length, true, Option, Some, arith, refl, sym, ap, subst, ◌∙◌, append_assoc, length-append}
 use Rattle.std.specs.Prelude.{reverse}
 use Rattle.std.proofs.lemmas.Grind.{reverse_onto}
 use Rattle.std.proofs.lemmas.List.{take-append-le, take_all}
@@ -10,7 +10,7 @@ use Rattle.player_sight.specs.declared.shown.Snapshot.{Snapshot}
 use Rattle.bot_sitter.specs.Seen.{settled_of}
 use Rattle.bot_sitter.specs.Sitting.{is_above}
 use Rattle.board_bots.specs.Glances.{glance_of}
-use Rattle.board_bots.specs.Sight.{Sees, ShownBy, newest, settled_at}
+use Rattle.board_bots.specs.Sight.{Sees, ShownBy, settled_at}
 use Rattle.board_bots.specs.declared.glance.Glance.{Glance}
 
 module _ (rules : Rules AnyG) where

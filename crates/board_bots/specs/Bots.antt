@@ -102,6 +102,17 @@ abbrev pub IsPlay : Option (ℕ × List Arg) → ℕ → Choice → Type 0
 IsPlay None number c = ⊥
 IsPlay (Some offer) number c = c ≡ choice.Plays number offer.0 offer.1
 
+-- one of some options, or none of them, was chosen at a state number
+abbrev pub IsChoice : List (ℕ × List Arg) → ℕ → Option ℕ → Choice → Type 0
+IsChoice offers number None c = (1 ≤ length offers) × (c ≡ choice.Passes number)
+IsChoice offers number (Some place) c = IsPlay (slice_get offers place) number c
+
+-- an option that was chosen at a state number is given as an act
+abbrev pub ActsOn : Sitting GameKind AnyG → ℕ → ℕ → List Arg → Said → Sitting GameKind AnyG → Type 0
+ActsOn old number id args (said.Line line) new =
+    GivesAct (any_rules old.game) old.starved (option_asked (any_rules old.game) (id, args)) line.items (with_last old number) new
+ActsOn old number id args other new = ⊥
+
 abbrev pub Chooses : Choice → Sitting GameKind AnyG → List Glance → List (Option ℕ) → List Glance → List (Option ℕ) → Type 0
 Chooses choice sitting seen chosen seen2 chosen2 =
     (s : Snapshot AnyG) × (settled_in sitting.client ≡ Some s) × ChosenOn s (options_on sitting s) choice seen chosen seen2 chosen2

@@ -1,5 +1,4 @@
 -- What a bot is shown of a match at one state number.
-use Rattle.std.specs.Prelude.{ℕ}
 use Rattle.any_game.specs.declared.any_g.AnyG.{AnyG}
 use Rattle.player_sight.specs.declared.shown.Snapshot.{Snapshot}
 use Rattle.board_bots.specs.declared.glance.Glance.{Glance}

@@ -7,10 +7,11 @@ ghost use Rattle.board_links.specs.Doors.{IsFresh};
 ghost use Rattle.board_links.specs.declared.link.Came.TheVariants as came;
 ghost use Rattle.board_links.specs.declared.link.Stage.TheVariants as at;
 ghost use Rattle.game_sheet.specs.Lines.{lines};
+ghost use Rattle.bot_sitter.specs.Given.{gave_join, gave_leave, gave_sync, join_of, leave_of, sync_of};
 ghost use Rattle.bot_sitter.specs.Hearing.{Hears};
 ghost use Rattle.bot_sitter.specs.Sitting.{Stays, bot_seat_of, may_ask, new_sitting, step_of};
 ghost use Rattle.bot_sitter.specs.declared.step.Step.TheVariants as steps;
-ghost use Rattle.board_bots.specs.Bots.{Chooses, ChosenOn, DoesStep, IsPlay, Receives, SeesTo, came_of, last_after, moment};
+ghost use Rattle.board_bots.specs.Bots.{ActsOn, Chooses, ChosenOn, DoesStep, GivesLine, IsChoice, IsPlay, Moment, Receives, SeesTo, came_of, last_after, moment};
 ghost use Rattle.board_bots.specs.Sight.{Sees};
 ghost use Rattle.board_bots.specs.declared.bot_link.Said.TheVariants as said;
 ghost use Rattle.board_bots.specs.Glances.{glance_of};
@@ -33,7 +34,7 @@ use std::sync::Wait;
 const LIMIT: u32 = 65_536;
 
 /// The link of a bot, which sits at a match as a player does.
-pub struct BotLink<B, R> {
+pub struct BotLink<R, B = Box<dyn Bot + Send>> {
     alloc: Global,
     sitter: Sitter<AnyGame>,
     bot: B,
@@ -43,7 +44,7 @@ pub struct BotLink<B, R> {
     rest: R,
 }
 
-impl<B: Drop, R: Drop> Drop for BotLink<B, R> {
+impl<B: Drop, R: Drop> Drop for BotLink<R, B> {
     fn drop(self) {
         let BotLink {
             alloc: _,
@@ -83,7 +84,7 @@ pub(crate) enum Choice {
     Plays(Number, MoveId, Args),
 }
 
-impl<B: Bot, R: Rest> BotLink<B, R> {
+impl<B: Bot, R: Rest> BotLink<R, B> {
     /// A link whose bot is to sit at this seat of a match of this game.
     pub fn new(
         alloc: Global,
@@ -92,14 +93,14 @@ impl<B: Bot, R: Rest> BotLink<B, R> {
         seat: Seat,
         bot: B,
         rest: R,
-    ) -> Result<BotLink<B, R>, NoMemory>
+    ) -> Result<BotLink<R, B>, NoMemory>
         ensures sitting { IfOk result (λ l. l.sitter ≡ new_sitting game name seat) }
         ensures bot { IfOk result (λ l. (B.seen l.bot ≡ B.seen bot) × (B.chosen l.bot ≡ B.chosen bot)) }
         ensures answers { IfOk result (λ l. l.answers ≡ []) }
         ensures stage { IfOk result (λ l. l.stage ≡ at.Open) }
         ensures finished { IfOk result (λ l. l.finished ≡ None) }
-        ensures fresh { IfOk result (λ l. IsFresh (⟦<BotLink<B, R> as Link>⟧.faults l) (⟦<BotLink<B, R> as Link>⟧.finished l)
-            (⟦<BotLink<B, R> as Link>⟧.answers l) (⟦<BotLink<B, R> as Link>⟧.sent l)) }
+        ensures fresh { IfOk result (λ l. IsFresh (⟦<BotLink<R, B> as Link>⟧.faults l) (⟦<BotLink<R, B> as Link>⟧.finished l)
+            (⟦<BotLink<R, B> as Link>⟧.answers l) (⟦<BotLink<R, B> as Link>⟧.sent l)) }
         ensures sight { IfOk result (λ l. SeesTo (B.seen bot) (moment l.sitter (B.seen l.bot) (B.chosen l.bot))) }
     {
         match game.copy_game(alloc) {
@@ -173,23 +174,8 @@ impl<B: Bot, R: Rest> BotLink<B, R> {
         ensures raises { IfOk result (λ answer. CameRaises answer 0 0) }
         ensures finished { self.new.finished ≡ self.old.finished }
     {
-        match self.next()? {
-            Said::Quiet => {
-                self.answers.quiet()?;
-                self.stage = Stage::Open;
-                Ok(Came::Quiet)
-            }
-            Said::Ended => {
-                self.answers.ended()?;
-                self.stage = Stage::Ended;
-                Ok(Came::Ended)
-            }
-            Said::Line(line) => {
-                let line = keep_line(self.alloc, &mut self.answers, line)?;
-                self.stage = Stage::Open;
-                Ok(Came::Line(line))
-            }
-        }
+        let said = self.next()?;
+        tell(self.alloc, said, &mut self.answers, &mut self.stage)
     }
 
     /// Makes its next step.
@@ -218,21 +204,9 @@ impl<B: Bot, R: Rest> BotLink<B, R> {
             Step::Starve => Err(NoMemory),
             Step::End => Ok(Said::Ended),
             Step::Rest => Ok(self.quiet()),
-            Step::Leave(key) => {
-                let line = self.sitter.leave(key)?;
-                self.sitter.leaves();
-                Ok(Said::Line(line))
-            }
-            Step::Join => {
-                let line = self.sitter.join()?;
-                self.sitter.joins();
-                Ok(Said::Line(line))
-            }
-            Step::Sync(key) => {
-                let line = self.sitter.sync(key)?;
-                self.sitter.syncs();
-                Ok(Said::Line(line))
-            }
+            Step::Leave(key) => give_leave(&mut self.sitter, key),
+            Step::Join => give_join(&mut self.sitter),
+            Step::Sync(key) => give_sync(&mut self.sitter, key),
             Step::Ask => self.ask(),
         }
     }
@@ -263,15 +237,94 @@ impl<B: Bot, R: Rest> BotLink<B, R> {
                 self.sitter.asks_at(number);
                 Ok(self.quiet())
             }
-            Choice::Plays(number, id, args) => {
-                self.sitter.asks_at(number);
-                let line = self.sitter.act(id, &args);
-                drop(args);
-                let line = line?;
-                Ok(Said::Line(line))
-            }
+            Choice::Plays(number, id, args) => give_act(&mut self.sitter, number, id, args),
         }
     }
+}
+
+/// Gives an answer, and keeps it.
+fn tell(
+    alloc: Global,
+    said: Said,
+    answers: &mut Answers,
+    stage: &mut Stage,
+) -> Result<Came, NoMemory>
+    ensures receives { IfOk result (λ answer. (m after : Moment) → DoesStep (step_of m.sitting) m (came_of said) after → Receives answer m after) }
+    ensures told { IfOk result (λ answer. answers.new ≡ with_answer answer answers.old) }
+    ensures untold { OnErr result (answers.new ≡ answers.old) }
+    ensures stage { IfOk result (λ answer. stage.new ≡ stage_after answer stage.old) }
+    ensures unstaged { OnErr result (stage.new ≡ stage.old) }
+    ensures within { IfOk result (IsWithin 65536) }
+    ensures raises { IfOk result (λ answer. CameRaises answer 0 0) }
+{
+    match said {
+        Said::Quiet => {
+            answers.quiet()?;
+            *stage = Stage::Open;
+            Ok(Came::Quiet)
+        }
+        Said::Ended => {
+            answers.ended()?;
+            *stage = Stage::Ended;
+            Ok(Came::Ended)
+        }
+        Said::Line(line) => {
+            let line = keep_line(alloc, answers, line)?;
+            *stage = Stage::Open;
+            Ok(Came::Line(line))
+        }
+    }
+}
+
+/// Gives the line that leaves the seat.
+fn give_leave(sitter: &mut Sitter<AnyGame>, key: Key) -> Result<Said, NoMemory>
+    ensures gives { IfOk result (λ said. GivesLine (leave_of sitter.old key) (came_of said) × (sitter.new ≡ gave_leave sitter.old)) }
+    ensures stays { Stays sitter.old sitter.new }
+    ensures last { sitter.new.last ≡ sitter.old.last }
+{
+    let line = sitter.leave(key)?;
+    sitter.leaves();
+    Ok(Said::Line(line))
+}
+
+/// Gives the line that joins the seat.
+fn give_join(sitter: &mut Sitter<AnyGame>) -> Result<Said, NoMemory>
+    ensures gives { IfOk result (λ said. GivesLine (join_of sitter.old) (came_of said) × (sitter.new ≡ gave_join sitter.old)) }
+    ensures stays { Stays sitter.old sitter.new }
+    ensures last { sitter.new.last ≡ sitter.old.last }
+{
+    let line = sitter.join()?;
+    sitter.joins();
+    Ok(Said::Line(line))
+}
+
+/// Gives the line that asks for the stream.
+fn give_sync(sitter: &mut Sitter<AnyGame>, key: Key) -> Result<Said, NoMemory>
+    ensures gives { IfOk result (λ said. GivesLine (sync_of sitter.old key) (came_of said) × (sitter.new ≡ gave_sync sitter.old)) }
+    ensures stays { Stays sitter.old sitter.new }
+    ensures last { sitter.new.last ≡ sitter.old.last }
+{
+    let line = sitter.sync(key)?;
+    sitter.syncs();
+    Ok(Said::Line(line))
+}
+
+/// Gives the line of the act that was chosen at a state number.
+fn give_act(
+    sitter: &mut Sitter<AnyGame>,
+    number: Number,
+    id: MoveId,
+    args: Args,
+) -> Result<Said, NoMemory>
+    ensures acts { IfOk result (λ said. ActsOn sitter.old number id args said sitter.new) }
+    ensures stays { Stays sitter.old sitter.new }
+    ensures last { sitter.new.last ≡ Some number }
+{
+    sitter.asks_at(number);
+    let line = sitter.act(id, &args);
+    drop(args);
+    let line = line?;
+    Ok(Said::Line(line))
 }
 
 /// Keeps a line that is answered.
@@ -325,9 +378,19 @@ fn choose<B: Bot>(
     }
     let glance = glance(alloc, game, settled)?;
     let number = settled.number;
-    match bot.choose(glance, options)? {
-        None => Ok(Choice::Passes(number)),
-        Some(place) => Ok(play_at(options, number, place)),
+    let place = bot.choose(glance, options)?;
+    Ok(choice_at(options, number, place))
+}
+
+/// What was chosen of some options at a state number.
+fn choice_at(options: &[(MoveId, Args)], number: Number, place: Option<u32>) -> Choice
+    requires some { 1 ≤ length options.now }
+    requires there { IfSome place (λ place. place < length options.now) }
+    ensures { IsChoice options.now number place result }
+{
+    match place {
+        None => Choice::Passes(number),
+        Some(place) => play_at(options, number, place),
     }
 }
 
@@ -360,7 +423,7 @@ fn glance(alloc: Global, game: &AnyGame, settled: &Snapshot<AnyG>) -> Result<Gla
     }
 }
 
-impl<B: Bot, R: Rest> Link for BotLink<B, R> {
+impl<B: Bot, R: Rest> Link for BotLink<R, B> {
     ghost use Rattle.std.specs.Prelude.{Some, true};
     ghost use Rattle.bot_sitter.specs.Sitting.{bot_seat_of};
 

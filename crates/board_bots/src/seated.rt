@@ -1,8 +1,7 @@
 //! The door of a server that seats bots: their links first, and then those of another door.
 
-use crate::bot::Bot;
 use crate::bot_link::BotLink;
 use bench_door::Bench;
 
 /// A door that gives bots' links in order, and then those of another door, which has none.
-pub type BenchDoor<D, R> = Bench<D, BotLink<Box<dyn Bot + Send>, R>>;
+pub type BenchDoor<D, R> = Bench<D, BotLink<R>>;

@@ -1,4 +1,5 @@
-use Rattle.board_bots.proofs.Asked.{passed_as, played_as}
+use Rattle.board_bots.proofs.Asked.{acted_as, if_ok, passed_as}
+use Rattle.std.proofs.Common.{refl}
 use Rattle.board_bots.proofs.bot_link.BotLink.ask.Goals as goal
 
 pub returns-in-Passes-clause-does : goal.returns-in-Passes-clause-does
@@ -7,7 +8,7 @@ returns-in-Passes-clause-does g c =
     passed_as c.in_ok-ask_bot.field-0 c.quiet-in-Passes.result c.args.self.now.sitter c.asks_at.new.self c.quiet-in-Passes.new.self.sitter _ _ _ _ _ _ c.in-Passes.number
     c.in-Passes.is c.in_ok-ask_bot.ensures.chooses c.asks_at.ensures.last c.quiet-in-Passes.ensures.quiet same.0 same.1 same.2
 
-pub returns-in_ok-line-in-Plays-clause-does : goal.returns-in_ok-line-in-Plays-clause-does
-returns-in_ok-line-in-Plays-clause-does g c =
-    played_as c.in_ok-ask_bot.field-0 c.args.self.now.sitter c.asks_at-in-Plays.new.self c.act-line.new.self _ _ _ _ c.in-Plays.number c.in-Plays.id c.in-Plays.args c.in_ok-line-in-Plays.line.items
-    c.in-Plays.is c.in_ok-ask_bot.ensures.chooses c.asks_at-in-Plays.ensures.last c.in_ok-line-in-Plays.ensures.acted
+pub returns-in-Plays-clause-does : goal.returns-in-Plays-clause-does
+returns-in-Plays-clause-does g c =
+    if_ok _ _ c.give_act.result (λ answer act. acted_as c.in_ok-ask_bot.field-0 answer c.args.self.now.sitter c.give_act.new.sitter _ _ _ _ _ _
+    c.in-Plays.number c.in-Plays.id c.in-Plays.args c.in-Plays.is c.in_ok-ask_bot.ensures.chooses refl refl act) c.give_act.ensures.acts
