@@ -11,6 +11,7 @@ use match_master::RoomReply;
 use session_hall::SessionHall;
 use std::alloc::Global;
 use std::io;
+use std::sync::Wait;
 
 /// No bot rests.
 #[derive(Drop)]
@@ -27,13 +28,13 @@ fn main(rt: HostRuntime) -> io::Result<()> {
     let text = read_input(&rt)?;
     for name in text.as_str().lines() {
         println!(rt; "== {name}")?;
-        play(&rt, name)?;
+        play(&rt, &rt, name)?;
     }
     Ok(())
 }
 
 /// Makes a match of two seats, and has two bots play it that choose the first option each time.
-fn play(rt: &HostRuntime, name: &str) -> io::Result<()> {
+fn play<W: Wait>(rt: &HostRuntime, wait: &W, name: &str) -> io::Result<()> {
     let Ok(hall) = SessionHall::new(rt.alloc(), 1, [0; 32]) else {
         return Ok(());
     };
@@ -45,7 +46,7 @@ fn play(rt: &HostRuntime, name: &str) -> io::Result<()> {
     let first = seated(rt.alloc(), name, 0, bot);
     let bot = Box::new(rt.alloc(), FirstBot::new(rt.alloc()))?;
     let second = seated(rt.alloc(), name, 1, bot);
-    play_out(rt, &mut hall, first, second)?;
+    play_out(rt, wait, &mut hall, first, second)?;
     watch(rt, &mut hall)
 }
 
@@ -66,8 +67,9 @@ fn seated(
 }
 
 /// Gives the bots their turns, until both sessions have ended.
-fn play_out(
+fn play_out<W: Wait>(
     rt: &HostRuntime,
+    wait: &W,
     hall: &mut SessionHall,
     first: Option<BotLink<NoRest>>,
     second: Option<BotLink<NoRest>>,
@@ -78,8 +80,8 @@ fn play_out(
     let mut first = first;
     let mut second = second;
     for _ in 0..16 {
-        let over = turn(rt, hall, &mut first, 0)?;
-        if turn(rt, hall, &mut second, 1)? && over {
+        let over = turn(rt, wait, hall, &mut first, 0)?;
+        if turn(rt, wait, hall, &mut second, 1)? && over {
             break;
         }
     }
@@ -87,36 +89,37 @@ fn play_out(
 }
 
 /// One turn of a bot's session: what the bot says is heard, and what waits for it is sent. Whether the session has ended.
-fn turn(
+fn turn<W: Wait>(
     rt: &HostRuntime,
+    wait: &W,
     hall: &mut SessionHall,
     link: &mut BotLink<NoRest>,
     seat: Seat,
 ) -> io::Result<bool>
     requires { seat < 32 }
 {
-    match link.receive(rt) {
+    match link.receive(wait) {
         Came::Line(line) => {
             let bytes = line.whole().unwrap_or(b"");
             print_line(rt, seat, bytes)?;
             let said = hall.on_line(seat, bytes);
-            send(rt, link, &said.line);
+            send(wait, link, &said.line);
         }
         Came::Ended => return Ok(true),
         _ => {}
     }
     if let Some(RoomReply::Taken { bytes, end: _ }) = hall.take(seat) {
-        send(rt, link, &bytes);
+        send(wait, link, &bytes);
     }
     Ok(false)
 }
 
 /// Sends lines to a bot.
-fn send(rt: &HostRuntime, link: &mut BotLink<NoRest>, lines: &Bytes) {
+fn send<W: Wait>(wait: &W, link: &mut BotLink<NoRest>, lines: &Bytes) {
     for place in 0..lines.count() {
         let line = lines.piece(place);
         if let [.., b'\n'] = line {
-            let _taken: Out = link.send(rt, line);
+            let _taken: Out = link.send(wait, line);
         }
     }
 }
