@@ -30,3 +30,17 @@ pub trait Bot: Drop {
         ensures unseen { OnErr result (seen self.new ≡ seen self.old) }
         ensures unanswered { OnErr result (chosen self.new ≡ chosen self.old) };
 }
+
+impl Bot for Box<dyn Bot + Send> {
+    ghost seen = { λ b. (Bot-box b).seen b.value };
+
+    ghost chosen = { λ b. (Bot-box b).chosen b.value };
+
+    fn choose(
+        &mut self,
+        glance: Glance,
+        options: &[(MoveId, Args)],
+    ) -> Result<Option<u32>, NoMemory> {
+        (**self).choose(glance, options)
+    }
+}

@@ -1,0 +1,4 @@
+pub mod Bots
+pub mod Glances
+pub mod Runs
+pub mod Sight

@@ -1,0 +1,7 @@
+//! The door of a server that seats bots: their links first, and then those of another door.
+
+use crate::bot_link::BotLink;
+use bench_door::Bench;
+
+/// A door that gives bots' links in order, and then those of another door, which has none.
+pub type BenchDoor<D, R> = Bench<D, BotLink<R>>;
