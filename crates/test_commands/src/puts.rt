@@ -4,9 +4,9 @@ use crate::runs::words;
 use board_commands::run;
 use board_links::{MemorySink, MemorySource};
 use game_sheet::{List, NoMemory};
+use line_runner::Exit;
 use std::alloc::Global;
 use std::test::Fail;
-use line_runner::Exit;
 
 /// Two players click until one of them has a row, and one click comes too late; both take what waits for them after each line. The opening,
 /// two syncs, five updates for each and the refusal are put, one after the other.

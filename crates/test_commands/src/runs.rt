@@ -3,10 +3,10 @@
 use board_commands::run;
 use board_links::{MemorySink, MemorySource};
 use game_sheet::{List, NoMemory};
+use line_runner::Exit;
 use std::alloc::Global;
 use std::process::Abort;
 use std::test::Fail;
-use line_runner::Exit;
 
 const SCRIPT: &[u8] = b"open tic-tac-toe 2
 s0 {\"key\":\"00000000000000000000000000000000\",\"match\":\"0-1\",\"seat\":0,\"type\":\"sync\"}

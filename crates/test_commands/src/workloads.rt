@@ -3,10 +3,10 @@
 use board_commands::run;
 use board_links::{MemorySink, MemorySource};
 use game_sheet::{List, NoMemory};
+use line_runner::Exit;
 use std::alloc::Global;
 use std::process::Abort;
 use std::test::Fail;
-use line_runner::Exit;
 
 /// A run, and what comes of it.
 #[derive(Clone, Copy)]
