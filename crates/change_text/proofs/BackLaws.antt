@@ -22,7 +22,7 @@ use Rattle.room_changes.specs.declared.change.Change.{Change}
 use Rattle.room_changes.specs.declared.change.Change.TheVariants as change
 use Rattle.change_text.specs.Payload.{change_members, payload}
 use Rattle.change_text.specs.Reading.{IsReadable, change_in, change_read}
-use Rattle.change_text.proofs.ActWriting.{asked_shallow, asked_writable}
+use Rattle.wire_json.proofs.ClientWriting.{asked_shallow, asked_writable}
 
 name_utf8 : (game : GameKind) → IsUtf8 (any_rules game).sheet.name
 name_utf8 TicTacToe = ascii _ refl

@@ -1,3 +1,2 @@
 pub mod ActForms
-pub mod ActWriting
 pub mod BackLaws

@@ -1,4 +1,3 @@
 pub mod KeptAct
 pub mod Outline
 pub mod Redact
-pub mod Way

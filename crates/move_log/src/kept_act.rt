@@ -3,11 +3,9 @@
 ghost use Rattle.std.specs.Prelude.{◌≡◌, ◌≤◌, IfOk, length};
 ghost use Rattle.move_log.specs.Outline.{args_of, outline_of};
 ghost use Rattle.move_log.specs.Redact.{is_redacted};
-ghost use Rattle.move_log.specs.Way.{way_of};
 
 use crate::entry::hides_args;
 use crate::outline::Outline;
-use crate::way::Way;
 use game_sheet::{Act, Arg, Args, Event, MoveId, NoMemory, Sheet};
 use std::alloc::Global;
 use std::marker::Model;
@@ -109,17 +107,6 @@ impl KeptAct {
         match &self.kept {
             Kept::Move { id, .. } => hides_args(sheet, *id),
             Kept::Event(_) | Kept::Undo | Kept::Redo => false,
-        }
-    }
-
-    /// Which way the action takes a match.
-    pub fn way(&self) -> Way
-        ensures { result ≡ way_of self.now }
-    {
-        match &self.kept {
-            Kept::Undo => Way::Back,
-            Kept::Redo => Way::Again,
-            Kept::Move { .. } | Kept::Event(_) => Way::On,
         }
     }
 }

@@ -5,10 +5,8 @@ mod entry;
 mod kept_act;
 mod kept_entry;
 mod outline;
-mod way;
 
 pub use entry::Entry;
 pub use kept_act::KeptAct;
 pub use kept_entry::KeptEntry;
 pub use outline::{Outline, Seen};
-pub use way::Way;

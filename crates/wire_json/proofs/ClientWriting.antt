@@ -46,7 +46,7 @@ aim_writable EndStage (Seat seat) h u = absurd h
 aim_writable SetStage (Seat seat) h u = absurd h
 aim_writable EndGame (Seat seat) h u = absurd h
 
-asked_writable : (a : Asked) → AskedFits a → AskedIsUtf8 a → MembersAreWritable (asked_members a)
+pub asked_writable : (a : Asked) → AskedFits a → AskedIsUtf8 a → MembersAreWritable (asked_members a)
 asked_writable (Move name args) h u = fixed (asked_members (Move name args)) refl (arguments_writable args h.1, (ascii _ refl, (u, tt)))
 asked_writable (Event kind to) h u = fixed (asked_members (Event kind to)) refl (event_utf8 kind, (ascii _ refl, (aim_writable kind to h u, tt)))
 asked_writable Undo h u = fixed (asked_members Undo) refl (ascii _ refl, tt)
@@ -57,7 +57,7 @@ aim_flat Nothing = refl
 aim_flat (Seat seat) = refl
 aim_flat (Name name) = refl
 
-asked_shallow : (a : Asked) → depth (object (asked_members a)) ≤ 2
+pub asked_shallow : (a : Asked) → depth (object (asked_members a)) ≤ 2
 asked_shallow (Move name args) = rw (flat args) (lit≤ tt)
 asked_shallow (Event kind to) = rw (aim_flat to) (lit≤ tt)
 asked_shallow Undo = lit≤ tt
