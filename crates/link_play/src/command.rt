@@ -1,7 +1,7 @@
 //! The commands that the lines of a source ask for.
 
-ghost use Rattle.std.specs.Prelude.{◌≡◌, IfOk, IfSome, Some, option_map};
-ghost use Rattle.link_play.specs.Commands.{Acts, asked_of, by_words, command_is, command_of};
+ghost use Rattle.std.specs.Prelude.{◌≡◌, ◌==◌, IfNone, IfOk, IfSome, Some, option_map, position};
+ghost use Rattle.link_play.specs.Commands.{Acts, act_in_short, acts_in_short, asked_of, by_words, command_is, command_of, move_at, move_in_short, move_text};
 ghost use Rattle.link_play.specs.Asking.{MayAsk};
 ghost use Rattle.wire_json.specs.Asking.{IsAskable};
 
@@ -58,8 +58,68 @@ fn by_words(alloc: Global, line: &[u8]) -> Result<Option<Command>, NoMemory>
     } else if line.starts_with(b"act ") {
         acting(alloc, &line[4..])
     } else {
-        Ok(None)
+        in_short(alloc, line)
     }
+}
+
+/// The action that a line says in short.
+fn in_short(alloc: Global, line: &[u8]) -> Result<Option<Command>, NoMemory>
+    ensures command { IfOk result (λ c. option_map command_is c ≡ acts_in_short (act_in_short line.now)) }
+    ensures askable { IfOk result (λ c. IfSome c MayAsk) }
+{
+    if let Some(text) = word_in_short(line) {
+        return acting(alloc, text);
+    }
+    if !line.starts_with(b"move ") {
+        return Ok(None);
+    }
+    let text = text_of_move(alloc, &line[5..])?;
+    let command = acting(alloc, text.as_slice());
+    drop(text);
+    command
+}
+
+/// The act of a line that is an event, `undo` or `redo`.
+fn word_in_short(line: &[u8]) -> Option<&'static [u8]>
+    ensures { IfSome result (λ text. act_in_short line.now ≡ Some text.now) }
+    ensures none { IfNone result (act_in_short line.now ≡ move_in_short line.now) }
+{
+    if line == b"end turn".as_slice() {
+        Some(b"{\"event\":\"endTurn\",\"kind\":\"event\",\"to\":null}")
+    } else if line == b"end stage".as_slice() {
+        Some(b"{\"event\":\"endStage\",\"kind\":\"event\",\"to\":null}")
+    } else if line == b"end phase".as_slice() {
+        Some(b"{\"event\":\"endPhase\",\"kind\":\"event\",\"to\":null}")
+    } else if line == b"undo".as_slice() {
+        Some(b"{\"kind\":\"undo\"}")
+    } else if line == b"redo".as_slice() {
+        Some(b"{\"kind\":\"redo\"}")
+    } else {
+        None
+    }
+}
+
+/// The act of a move: its name stands before the first blank, and its arguments behind it, as the items of an array.
+fn text_of_move(alloc: Global, text: &[u8]) -> Result<Vec<u8>, NoMemory>
+    ensures { IfOk result (λ act. act.items ≡ move_at text.now (position (λ b. b == 32) text.now)) }
+{
+    match text.iter().position(|byte| *byte == b' ') {
+        Some(place) => move_act(alloc, &text[..place], &text[place + 1..]),
+        None => move_act(alloc, text, &[]),
+    }
+}
+
+/// The act of a move of this name with these arguments.
+fn move_act(alloc: Global, name: &[u8], args: &[u8]) -> Result<Vec<u8>, NoMemory>
+    ensures { IfOk result (λ act. act.items ≡ move_text name.now args.now) }
+{
+    let mut act = Vec::new(alloc);
+    act.extend_from_slice(b"{\"args\":[")?;
+    act.extend_from_slice(args)?;
+    act.extend_from_slice(b"],\"kind\":\"move\",\"move\":\"")?;
+    act.extend_from_slice(name)?;
+    act.extend_from_slice(b"\"}")?;
+    Ok(act)
 }
 
 /// The action that a text is.
