@@ -2,7 +2,6 @@
 use Rattle.std.specs.Prelude.{◌≡◌, ℕ, List, Bool, Option, IsSome}
 use Rattle.any_game.specs.GameKind.{GameKind}
 use Rattle.any_game.specs.declared.any_g.AnyG.{AnyG}
-use Rattle.board_links.specs.Doors.{Returned}
 use Rattle.board_links.specs.Pieces.{told_bytes}
 use Rattle.command_words.specs.declared.serve.ServeWords.{ServeWords}
 use Rattle.door_serve.specs.Ends.{EndsBy, Reports}
@@ -11,7 +10,6 @@ use Rattle.door_serve.specs.declared.serving.ServeEnd.TheVariants as end
 use Rattle.line_runner.specs.declared.exit.Exit.{Exit}
 use Rattle.line_runner.specs.declared.exit.Exit.TheVariants.{Done, WriteFault, NoMemory, DoorFault}
 use Rattle.match_master.specs.Held.{Held as Book}
-use Rattle.session_pool.specs.Sittings.{AreServed}
 
 -- the end of a run that served
 abbrev pub exit_of : ServeEnd → Exit
@@ -21,12 +19,10 @@ exit_of end.WriteFault = WriteFault
 exit_of end.NoMemory = NoMemory
 
 -- The serving that was asked for. The door had so many faults and held so many links, where it told them; afterwards it is shut or not, has so
--- many faults, has given so many links, and tells so of those that came back. The sink had so many faults and held this before, and so afterwards.
--- Each place, one for each link at once, drew its words from its own stream of the seed.
+-- many faults, and has given so many links. The sink had so many faults and held this before, and so afterwards.
 pub record Serves (asked : ServeWords) (exit : Exit) (books : List (Book GameKind AnyG)) (faults : ℕ) (links : Option ℕ) (shut : Bool) (faults_after given : ℕ)
-    (sink_faults sink_faults_after : ℕ) (held held_after : Option (List ℕ)) (seed : List ℕ) (returned : Option (List Returned)) : Type 0 where
+    (sink_faults sink_faults_after : ℕ) (held held_after : Option (List ℕ)) : Type 0 where
   pub how : ServeEnd
   pub exits : exit ≡ exit_of how
   pub ended : EndsBy how asked.sessions faults links shut faults_after given sink_faults sink_faults_after
-  pub served : AreServed seed asked.links returned
   pub reports : IsSome held → Reports asked.rooms given books how (told_bytes held) held_after

@@ -5,6 +5,7 @@ ghost use Rattle.board_links.specs.Faults.{HasRisen};
 ghost use Rattle.command_words.specs.Serve.{serve_from};
 ghost use Rattle.command_words.specs.declared.serve.ServeWords.{ServeWords as Asked};
 ghost use Rattle.link_play.specs.Ends.{IsComplete};
+ghost use Rattle.session_pool.specs.Sittings.{AreServed};
 ghost use Rattle.line_runner.specs.declared.exit.Exit.TheVariants.{Usage};
 ghost use Rattle.board_commands.specs.Playing.{IsRefused};
 ghost use Rattle.board_commands.specs.Serving.{Serves, exit_of};
@@ -52,7 +53,8 @@ where
     ensures untouched_sink { serve_from (map string_bytes words.now) ≡ None → sink.new ≡ sink.old }
     ensures serves { (asked : Asked) → serve_from (map string_bytes words.now) ≡ Some asked
         → Serves asked result.0 result.2.items (D.faults door) (D.left door) (D.shut result.1) (D.faults result.1) (D.given result.1)
-        (K.faults sink.old) (K.faults sink.new) (K.held sink.old) (K.held sink.new) seed (D.returned result.1) }
+        (K.faults sink.old) (K.faults sink.new) (K.held sink.old) (K.held sink.new) }
+    ensures served { (asked : Asked) → serve_from (map string_bytes words.now) ≡ Some asked → AreServed seed asked.links (D.returned result.1) }
     ensures completes { (asked : Asked) → serve_from (map string_bytes words.now) ≡ Some asked
         → (HasRisen (D.faults door) (D.faults result.1) → ⊥) → (HasRisen (K.faults sink.old) (K.faults sink.new) → ⊥) → IsComplete result.0 }
 {
@@ -88,8 +90,9 @@ where
     requires none_back { IfSome (D.returned door) (λ told. told ≡ []) }
     ensures out { (D.out result.1 ≡ 0) × (D.bots_out result.1 ≡ 0) }
     ensures sink_never_falls { K.faults sink.old ≤ K.faults sink.new }
+    ensures served { AreServed seed asked.links (D.returned result.1) }
     ensures serves { Serves asked result.0 result.2.items (D.faults door) (D.left door) (D.shut result.1) (D.faults result.1) (D.given result.1)
-        (K.faults sink.old) (K.faults sink.new) (K.held sink.old) (K.held sink.new) seed (D.returned result.1) }
+        (K.faults sink.old) (K.faults sink.new) (K.held sink.old) (K.held sink.new) }
 {
     let ServeWords {
         listen,

@@ -65,11 +65,11 @@ same_passes desks seed places before after e fit fits =
     let number : Stand → ℕ = λ s. number_of s.passes in
     let many = as_many_mapped number number after before e in
     same_map (λ s. map unseen s.passes) before after (sym many) (λ k d low.
-        let there : k < length after = omega (arith, low, many) in
-        let same : number (slice_index_or after k d) ≡ number (slice_index_or before k d) =
-        sym (get_or-map number after k d (number d) there) ∙ (ap (λ l. slice_index_or l k (number d)) e ∙ get_or-map number before k d (number d) low) in
-        passes_of desks seed places (slice_index_or after k d) (fits k d there)
-        ∙ (ap (λ n. map (dealt_by n) desks) same ∙ sym (passes_of desks seed places (slice_index_or before k d) (fit k d low))))
+    let there : k < length after = omega (arith, low, many) in
+    let same : number (slice_index_or after k d) ≡ number (slice_index_or before k d) =
+    sym (get_or-map number after k d (number d) there) ∙ (ap (λ l. slice_index_or l k (number d)) e ∙ get_or-map number before k d (number d) low) in
+    passes_of desks seed places (slice_index_or after k d) (fits k d there)
+    ∙ (ap (λ n. map (dealt_by n) desks) same ∙ sym (passes_of desks seed places (slice_index_or before k d) (fit k d low))))
 
 -- at a place without a session no pass is attached
 free_at : (desks : List SetUp) (seed : List ℕ) (places : ℕ) (s : Stand) → Fits desks seed places s → Rests seed places s → AttachedBy s.passes None

@@ -63,10 +63,7 @@ fn raise<'a, K: Seeded>(
 }
 
 /// The places' passes, in order.
-fn dismiss<'a, K: Seeded>(
-    sittings: Vec<Sitting<'a, K>>,
-    back: &mut Vec<Vec<Pass<Book<AnyGame>>>>,
-)
+fn dismiss<'a, K: Seeded>(sittings: Vec<Sitting<'a, K>>, back: &mut Vec<Vec<Pass<Book<AnyGame>>>>)
     requires room { vec_len back.old + vec_len sittings ≤ vec_capacity back.old }
     requires empty { back.old.items ≡ [] }
     ensures back { map (λ p. p.items) back.new.items ≡ map (λ s. s.passes) sittings.items }
@@ -77,13 +74,7 @@ fn dismiss<'a, K: Seeded>(
 }
 
 /// Serves the door at these places, and hands their passes back.
-fn serve_at<
-    'a,
-    K: Seeded + Send,
-    D: Door + Send,
-    W: Ready<D::L> + Send,
-    R: Threads + Wait + Sync,
->(
+fn serve_at<'a, K: Seeded + Send, D: Door + Send, W: Ready<D::L> + Send, R: Threads + Wait + Sync>(
     rt: &R,
     alloc: Global,
     desks: &'a [Desk<Book<AnyGame>>],
@@ -155,9 +146,7 @@ where
         return (DoorEnd::NoMemory, 0, passes, door);
     };
     match raise::<K>(alloc, desks, passes, seed) {
-        Ok(sittings) => serve_at(
-            rt, alloc, desks, sittings, readies, door, sessions, back,
-        ),
+        Ok(sittings) => serve_at(rt, alloc, desks, sittings, readies, door, sessions, back),
         Err(passes) => {
             drop(readies);
             (DoorEnd::NoMemory, 0, passes, door)
@@ -201,7 +190,5 @@ where
     ensures handed { map (λ p. map unseen p.items) result.2.items ≡ map (λ p. map unseen p.items) passes.items }
     ensures free { All (λ p. AttachedBy p.items None) result.2.items }
 {
-    run::<Brand, D, W, R>(
-        rt, alloc, desks, passes, readies, seed, door, sessions,
-    )
+    run::<Brand, D, W, R>(rt, alloc, desks, passes, readies, seed, door, sessions)
 }
