@@ -1,4 +1,5 @@
 pub mod Benches
+pub mod Dealing
 pub mod Returns
 pub mod Rounds
 pub mod Sittings
