@@ -1,5 +1,5 @@
 pub mod Benches
-pub mod Dealing
+pub mod Deals
 pub mod Returns
 pub mod Rounds
 pub mod Sittings

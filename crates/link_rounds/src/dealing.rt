@@ -49,6 +49,15 @@ fn seat_from<S: Service, L: Link, W: Ready<L>>(
     }
 }
 
+/// How many of these services the last of so many workers gets: the others, who come before it, get what can't be divided.
+fn last_part(services: usize, workers: usize) -> usize
+    requires { 0 < workers }
+    ensures within { result ≤ services }
+    ensures whole { workers ≡ 1 → result ≡ services }
+{
+    services / workers
+}
+
 /// A bench for each of these workers, from the last to the first, with the services dealt out as evenly as can be; false where there is no memory.
 fn deal<S: Service, L: Link, W: Ready<L>>(
     alloc: Global,
@@ -72,8 +81,7 @@ fn deal<S: Service, L: Link, W: Ready<L>>(
     ensures capacity { vec_capacity services.old ≤ vec_capacity services.new }
 {
     while let Some(ready) = readies.pop() {
-        // This worker's part of those that it shares with the workers before it, who get what can't be divided.
-        let part = services.len() / (readies.len() + 1);
+        let part = last_part(services.len(), readies.len() + 1);
         let kept = services.len() - part;
         let Some(bench) = seat_from(alloc, hall, services, kept, ready) else {
             return false;
