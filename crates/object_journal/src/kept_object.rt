@@ -91,6 +91,7 @@ impl<O: Recorded, D: Disk + Drop> KeptObject<O, D> {
             → IsKeeping O.stands_for (O.records (O.number self.old.object)) D.is_told D.seen D.may_leave self.old.object self.old.file.disk self.old.file.end h
             → LeavesOnly D.moment D.left_since self.old.file.disk self.new.file.disk
             (HasEither (O.records (O.number self.old.object) h) (O.records (O.number self.old.object) (entry pass call false ∷ h))) }
+        ensures usable { IsUnlessKept self.new.broken ((h : List (Entry O.Call)) × O.stands_for self.new.object h) }
     {
         if let Some(place) = self.broken {
             drop(call);
