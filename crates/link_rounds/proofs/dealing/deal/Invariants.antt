@@ -1,4 +1,4 @@
-use Rattle.std.proofs.Common.{◌≡◌, ◌+◌, ◌<◌, ◌≤◌, ◌++◌, [], map, false, is_some}
+use Rattle.std.proofs.Common.{◌≡◌, ◌+◌, ◌<◌, ◌≤◌, ◌++◌, map, false, is_some}
 use Rattle.std.specs.Prelude.{All, vec_len, vec_capacity}
 use Rattle.link_rounds.specs.Dealing.{dealt}
 use Rattle.link_rounds.specs.Places.{Sits, about}

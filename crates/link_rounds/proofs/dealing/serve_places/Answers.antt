@@ -1,7 +1,6 @@
-use Rattle.std.proofs.Common.{◌≡◌, ◌+◌, ◌≤◌, [], length, map, rules, subst, sym}
+use Rattle.std.proofs.Common.{◌≡◌, ◌+◌, ◌≤◌, [], map, rules, subst, sym}
 use Rattle.std.proofs.lemmas.List.Elements.{All-map}
 use Rattle.std.proofs.lemmas.Simd.{map-map}
-use Rattle.link_rounds.specs.Dealing.{dealt}
 use Rattle.link_rounds.specs.Places.{about}
 use Rattle.link_rounds.proofs.Deals.{all_back, all_rest, length_kept, numbers_back, room_back}
 use Rattle.link_rounds.proofs.dealing.serve_places.Goals as goal
