@@ -1,5 +1,7 @@
 //! Every place in turn, for links that are in memory or block.
 
+ghost use Rattle.std.specs.Prelude.{None};
+
 use crate::ready::Ready;
 use crate::service::Stir;
 use board_links::Link;
