@@ -193,7 +193,7 @@ where
     D::L: Send,
     requires rooms { (0 < spare.rooms) × (spare.rooms ≤ 64) }
     requires some { 0 < vec_len readies }
-    requires enough { vec_len readies ≤ spare.places }
+    requires enough { (vec_len readies ≤ spare.places) × (spare.places ≤ 4096) }
     requires many { (vec_len desks ≡ spare.rooms) × (vec_len rows ≡ spare.places) }
     requires objects { map (λ d. d.desk.object) desks.items ≡ numbers 0 spare.rooms }
     requires counts { All (λ d. d.passes ≡ spare.places) desks.items }

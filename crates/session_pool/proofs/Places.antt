@@ -1,7 +1,7 @@
 -- Places of sessions: what holds of each, as they are made from passes and taken apart again.
 use Rattle.std.proofs.Common.{◌≡◌, ◌<◌, ◌+◌, refl, ℕ, zero, List, [], ◌∷◌, ◌++◌, map, length, ap, sym, ◌∙◌, subst, arith, slice_index_or, Option, Some, None}
-use Rattle.std.specs.Prelude.{All, IfSome, suc}
-use Rattle.std.proofs.lemmas.List.{append_assoc, get_or-map, length-map, map-append}
+use Rattle.std.specs.Prelude.{All, IfSome, drop, suc, take}
+use Rattle.std.proofs.lemmas.List.{append_assoc, get_or-map, length-map, map-append, take_at}
 use Rattle.std.proofs.lemmas.List.Elements.{All-append, All-map}
 use Rattle.board_links.specs.Doors.{Returned}
 use Rattle.room_desk.specs.History.{SetUp}
@@ -22,6 +22,10 @@ all_one P x here (suc k) d low = absurd (omega arith)
 
 pub all_more : {X : Type 0} (P : X → Type 0) (xs after : List X) (x : X) → after ≡ xs ++ x ∷ [] → All P xs → P x → All P after
 all_more P xs after x push all here = subst (All P) (sym push) (All-append P xs (x ∷ []) all (all_one P x here))
+
+-- what a call wrote over a whole list
+pub written : {X : Type 0} (n : ℕ) (xs ys : List X) → length ys ≡ n → take n (ys ++ drop (length ys) xs) ≡ ys
+written n xs ys len = take_at ys (drop (length ys) xs) n len
 
 -- one more that was taken from those still to come, by what both have
 pub moved_on : {X Y Z : Type 0} (f : X → Z) (g : Y → Z) (done after : List X) (x : X) (coming rest : List Y) (y : Y) (all : List Z) → after ≡ done ++ x ∷ [] → coming ≡ y ∷ rest → f x ≡ g y

@@ -66,7 +66,7 @@ fn raise<'a, K: Seeded>(
 fn dismiss<'a, K: Seeded>(sittings: Vec<Sitting<'a, K>>, back: &mut Vec<Vec<Pass<Book<AnyGame>>>>)
     requires room { vec_len back.old + vec_len sittings ≤ vec_capacity back.old }
     requires empty { back.old.items ≡ [] }
-    ensures back { map (λ p. p.items) back.new.items ≡ map (λ s. s.passes) sittings.items }
+    ensures back { map (λ p. p.items) back.new.items ≡ map (λ s. s.passes) sittings.entry.items }
 {
     for sitting in sittings {
         back.push_reserved(sitting.into_passes());
@@ -99,7 +99,7 @@ where
     ensures given { D.given result.3 ≡ result.1 }
     ensures ended { Ended sessions (D.faults door) (D.left door) (D.shut result.3) (D.faults result.3) result.1 (Some result.0) }
     ensures served { AreServed K.seed K.places (D.returned result.3) }
-    ensures handed { map (λ p. map unseen p.items) result.2.items ≡ map (λ s. map unseen s.passes) sittings.items }
+    ensures handed { map (λ p. map unseen p.items) result.2.items ≡ map (λ s. map unseen s.passes) sittings.entry.items }
     ensures free { All (λ p. AttachedBy p.items None) result.2.items }
 {
     let hall = Hall { alloc, desks };
