@@ -1,12 +1,16 @@
-use Rattle.std.proofs.Common.{◌∙◌, arith, map}
+use Rattle.std.proofs.Common.{◌∙◌, ◌+◌, ◌≤◌, ap, arith, length, map}
+use Rattle.std.specs.Prelude.{vec_capacity, vec_len}
 use Rattle.session_pool.specs.Passes.{number_of, unseen}
 use Rattle.session_pool.proofs.Places.{all_free, as_many_mapped, same_passes, through}
 use Rattle.session_pool.proofs.door.serve_at.Goals as goal
 
 pub dismiss-requires-clause-room : goal.dismiss-requires-clause-room
 dismiss-requires-clause-room g c =
-    let many = as_many_mapped (λ s. number_of s.passes) (λ s. number_of s.passes) c.serve_places-end.result.2.items c.args.sittings.items c.serve_places-end.ensures.numbers in
-    omega (arith, many, c.requires.room)
+    let after = c.serve_places-end.result.2 in
+    let many = as_many_mapped (λ s. number_of s.passes) (λ s. number_of s.passes) after.items c.args.sittings.items c.serve_places-end.ensures.numbers in
+    let none = ap length c.requires.empty in
+    let room : vec_len c.args.back + vec_len after ≤ vec_capacity c.args.back = omega (arith, many, none, c.requires.room, c.args.back.ok, after.ok, c.args.sittings.ok) in
+    room
 
 pub returns-clause-handed : goal.returns-clause-handed
 returns-clause-handed g c =
