@@ -1,4 +1,4 @@
-use Rattle.std.proofs.Common.{◌≡◌, ◌-◌, ◌+◌, ◌≤◌, length, IsSome}
+use Rattle.std.proofs.Common.{◌≡◌, ◌-◌, ◌≤◌, length, IsSome}
 use Rattle.board_links.specs.Pieces.{told_bytes}
 use Rattle.journal_bytes.proofs.Gives.{Front}
 use Rattle.journal_bytes.proofs.given.all_bytes.Given as goal
