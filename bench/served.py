@@ -1,10 +1,8 @@
 #!/usr/bin/env python3
-"""Plays against a served port over sockets, and compares or measures. It starts the server itself, on a free port.
+"""Plays against a served port over sockets, and compares. It starts the server itself, on a free port.
 
   served.py same PROGRAM ACTS           Eight players in four matches at a time make so many actions in all, over sockets and all at
                                         once. What each of them read must be, byte for byte, what the same history prints as a script.
-  served.py speed PROGRAM SESSIONS ACTS So many players make so many actions each, every one as soon as the verdict on the last one
-                                        came. Prints how many actions a second were answered.
 
 `same` plays the games that draw no random words, so that it needs to know nothing of the server's seed. Behind `same`, `zeros` plays
 all games: it starts the server where /dev/urandom reads as zeros, for which it has to be root.
@@ -16,7 +14,6 @@ import struct
 import subprocess
 import sys
 import threading
-import time
 
 WORDLESS = ["tic-tac-toe", "countdown", "blind-bid", "captions"]
 GAMES = WORDLESS + ["pig", "high-hand"]
@@ -308,61 +305,12 @@ def chacha_words(stream, count):
     return words[:count]
 
 
-class Boaster(threading.Thread):
-    """A player of Blind Bid who boasts so often, each time as soon as the verdict came."""
-
-    def __init__(self, server, name, seat, key, acts):
-        super().__init__()
-        self.session = Session(server)
-        self.name, self.seat, self.key, self.acts = name, seat, key, acts
-
-    def sync(self):
-        sync = {"key": self.key, "match": self.name, "seat": self.seat, "type": "sync"}
-        self.session.ask(sync, "sync")
-
-    def run(self):
-        number = 0
-        for ticket in range(self.acts):
-            move = {"args": [ticket % 10], "kind": "move", "move": "boast"}
-            self.session.say({"act": move, "key": self.key, "match": self.name, "number": number, "ticket": ticket, "type": "act"})
-            while True:
-                message = self.session.hear()
-                number = message.get("number", number)
-                if message["type"] in ("ok", "no"):
-                    break
-
-
-def speed(program, sessions, acts):
-    """Each two players boast in a match of their own."""
-    server = Server(program, min(32, sessions + 1), False)
-    host = Session(server)
-    players = []
-    for place in range(sessions):
-        if place % 2 == 0:
-            name = host.ask({"game": "blind-bid", "seats": 2, "type": "create"}, "created")["match"]
-        key = host.ask(join_of(name, place % 2), "joined")["key"]
-        players.append(Boaster(server, name, place % 2, key, acts))
-    host.close()
-    for player in players:
-        player.sync()
-    start = time.monotonic()
-    for player in players:
-        player.start()
-    for player in players:
-        player.join()
-    spent = time.monotonic() - start
-    server.stop()
-    print(f"{sessions} sessions: {sessions * acts} actions in {spent:.2f} s, {sessions * acts / spent:.0f} a second")
-
-
 def main(words):
     match words:
         case ["same", program, acts]:
             same(program, int(acts), False)
         case ["same", "zeros", program, acts]:
             same(program, int(acts), True)
-        case ["speed", program, sessions, acts]:
-            speed(program, int(sessions), int(acts))
         case _:
             sys.exit(__doc__)
 

@@ -135,4 +135,4 @@ if __name__ == "__main__":
     try:
         main(*sys.argv[1:]) if sys.argv[2:] else sys.exit(__doc__)
     except TimeoutError:
-        sys.exit("no answer in 10 seconds: all workers of the server may be busy")
+        sys.exit("no answer in 10 seconds: the server may have as many connections as it serves at once")

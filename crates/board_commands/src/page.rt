@@ -10,8 +10,8 @@ use line_runner::Exit;
 /// The page of help.
 pub const HELP: &str = "board_server: matches of turn-based games
 
-board_server serve --listen ADDRESS [--rooms 16] [--workers 8] [--sessions 1000000] [--ws]
-    serves matches over TCP, or over WebSockets, until so many sessions are over, and reports
+board_server serve --listen ADDRESS [--rooms 16] [--workers 8] [--links N] [--sessions 1000000] [--ws]
+    serves matches over TCP, or over WebSockets, N at once or as many as workers, until so many sessions are over, and reports
 board_server play --connect ADDRESS --game NAME --match MATCH [--seat SEAT --key KEY]
     plays a match by the commands on standard input: act ACT, read, wait, show, end
 board_server script

@@ -1,12 +1,18 @@
 //! Where the program meets the system: standard input and output, sockets, and the words for seeds. `rt` is the system; `leave` is the leave to
 //! wait and to start threads, which `main` is given.
 
-ghost use Rattle.std.specs.Prelude.{◌≡◌, false};
+ghost use Rattle.std.specs.Prelude.{◌≡◌, [], IfOk, IfSome, Some, false, map, string_bytes, vec_len};
+ghost use Rattle.command_words.specs.Serve.{serve_from};
+ghost use Rattle.command_words.specs.declared.serve.ServeWords.{ServeWords as Asked};
 
+use crate::outspoken::Outspoken;
 use board_commands::{play, print_page, run, serve};
 use board_links::{Door, ReaderSource, WriterSink};
 use command_words::{WordsNo, play_words, serve_words};
 use line_runner::Exit;
+use link_rounds::{InTurn, Ready};
+use poll_links::open;
+use std::alloc::{AllocError, Global};
 use std::fs::File;
 use std::io::{self, Read};
 use std::mem;
@@ -14,7 +20,7 @@ use std::net::SocketAddr;
 use std::os::fd::AsRawFd;
 use std::sync::Wait;
 use std::thread::Threads;
-use tcp_links::{TcpDoor, TcpLink};
+use tcp_links::TcpLink;
 use ws_link::{TcpStreamDoor, WsDoor};
 
 /// Opens the null device where standard input, output or error is closed, so that no socket takes its place and is read or written for it.
@@ -87,70 +93,111 @@ pub fn serve_there<R: Threads + Wait + Sync>(
     rt: &HostRuntime,
     words: &[String],
 ) -> Exit {
-    let (addr, ws) = match serve_words(rt.alloc(), words) {
-        Ok(asked) => {
-            let addr = asked.listen.as_str().parse::<SocketAddr>();
-            let ws = asked.ws;
-            drop(asked);
-            (addr, ws)
-        }
+    let asked = match serve_words(rt.alloc(), words) {
+        Ok(asked) => asked,
         Err(no) => return refused(no),
     };
+    let addr = asked.listen.as_str().parse::<SocketAddr>();
+    let (workers, links, sessions) = (asked.workers, asked.links, asked.sessions);
+    let ws = asked.ws;
+    drop(asked);
     let Ok(addr) = addr else {
         return Exit::DoorFault;
     };
     if ws {
-        return serve_sockets(leave, rt, words, addr);
+        return serve_sockets(leave, rt, words, addr, workers);
     }
-    match TcpDoor::bind(*rt, rt.alloc(), addr, CLIENT_LINE) {
-        Ok(door) => {
+    let opened = open(
+        *rt,
+        rt.alloc(),
+        addr,
+        CLIENT_LINE,
+        usize::from(workers),
+        u32::from(links),
+        sessions,
+    );
+    match opened {
+        Ok((door, readies)) => {
             announce(rt, door.addr());
-            serve_at(leave, rt, words, door)
+            serve_at(leave, rt, words, readies, Outspoken::new(*rt, door))
         }
         Err(error) => fault(&error, Exit::DoorFault),
     }
 }
 
-/// Serves matches over WebSockets at this address.
+/// Serves matches over WebSockets at this address, with so many workers of one link each.
 fn serve_sockets<R: Threads + Wait + Sync>(
     leave: &R,
     rt: &HostRuntime,
     words: &[String],
     addr: SocketAddr,
-) -> Exit {
+    workers: u8,
+) -> Exit
+    requires { (asked : Asked) → serve_from (map string_bytes words.now) ≡ Some asked → asked.workers ≡ workers }
+{
+    let Ok(readies) = in_turn(rt.alloc(), workers) else {
+        return Exit::NoMemory;
+    };
     match TcpStreamDoor::bind(*rt, rt.alloc(), addr) {
         Ok(door) => {
             announce(rt, door.addr());
-            serve_at(leave, rt, words, WsDoor::new(rt.alloc(), door))
+            let door = WsDoor::new(rt.alloc(), door);
+            serve_at(leave, rt, words, readies, Outspoken::new(*rt, door))
         }
-        Err(error) => fault(&error, Exit::DoorFault),
+        Err(error) => {
+            drop(readies);
+            fault(&error, Exit::DoorFault)
+        }
     }
 }
 
+/// For each of so many workers what gives its one place turn after turn, since a link over a WebSocket waits itself.
+fn in_turn(alloc: Global, workers: u8) -> Result<Vec<InTurn>, AllocError>
+    ensures { IfOk result (λ r. vec_len r ≡ workers) }
+{
+    let mut readies = Vec::with_capacity(alloc, usize::from(workers))?;
+    for _worker in 0..workers {
+        readies.push_reserved(InTurn::new(1));
+    }
+    Ok(readies)
+}
+
 /// Serves matches at this door.
-fn serve_at<D: Door + Send, R: Threads + Wait + Sync>(
+fn serve_at<D: Door + Send, W: Ready<D::L> + Send, R: Threads + Wait + Sync>(
     leave: &R,
     rt: &HostRuntime,
     words: &[String],
+    readies: Vec<W>,
     door: D,
 ) -> Exit
 where
     D::L: Send,
+    requires workers { (asked : Asked) → serve_from (map string_bytes words.now) ≡ Some asked → vec_len readies ≡ asked.workers }
     requires given { D.given door ≡ 0 }
     requires out { D.out door ≡ 0 }
     requires bots_out { D.bots_out door ≡ 0 }
     requires shut { D.shut door ≡ false }
+    requires none_back { IfSome (D.returned door) (λ told. told ≡ []) }
 {
     match seed(rt) {
         Ok(seed) => {
             let mut sink = WriterSink::new(rt.stdout());
-            let (exit, door, books) = serve(leave, rt.alloc(), words, door, &mut sink, seed);
+            let (exit, door, books) = serve(
+                leave,
+                rt.alloc(),
+                words,
+                readies,
+                door,
+                &mut sink,
+                seed,
+            );
             drop(door);
             // The process ends with this run, and its memory goes with it.
             mem::forget(books);
             exit
         }
         Err(error) => {
+            drop(readies);
             drop(door);
             fault(&error, Exit::DoorFault)
         }

@@ -4,6 +4,7 @@
 #![tactic(auto)]
 
 mod edge;
+mod outspoken;
 
 use board_commands::{HELP, Mode, VERSION, after_name, mode_of};
 use edge::{keep_standard, play_there, print_here, run_here, serve_there};

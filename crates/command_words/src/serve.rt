@@ -1,4 +1,4 @@
-//! The words of `serve`: where it listens, and how many rooms, workers and sessions it has.
+//! The words of `serve`: where it listens, and how many rooms, workers, links at once and sessions it has.
 
 ghost use Rattle.std.specs.Prelude.{◌≡◌, ◌≤◌, IfOk, codes, map, option_map, string_bytes};
 ghost use Rattle.clap.specs.Words.{FailsBy, HasMatchesOf, fault_of, first_value, found_of};
@@ -19,8 +19,10 @@ pub struct ServeWords {
     pub listen: Text,
     /// How many rooms it has, 1 to 64.
     pub rooms: u8,
-    /// How many workers serve sessions, 1 to 32.
+    /// How many workers serve them, each in a thread: 1 to 32, and no more than there are links.
     pub workers: u8,
+    /// How many sessions it serves at once, 1 to 4,096.
+    pub links: u16,
     /// How many sessions it serves before it ends, 1 to 1,000,000.
     pub sessions: u32,
     /// Whether its links are WebSockets.
@@ -29,11 +31,11 @@ pub struct ServeWords {
 
 /// What the words of `serve` ask for; the first word is the command's own.
 ///
-/// `Usage` comes exactly where the words are in no form: an option that isn't there or stands twice, no `--listen`, or a
-/// number that has a sign or a leading zero or is out of its bounds.
+/// `Usage` comes exactly where the words are in no form: an option that isn't there or stands twice, no `--listen`, a
+/// number that has a sign or a leading zero or is out of its bounds, or more links than workers over WebSockets.
 pub fn serve_words(alloc: Global, words: &[String]) -> Result<ServeWords, WordsNo>
     ensures asked { Answers (serve_from (map string_bytes words.now)) result }
-    ensures bounds { IfOk result (λ asked. (1 ≤ asked.rooms) × (asked.rooms ≤ 64) × (1 ≤ asked.workers) × (asked.workers ≤ 32)) }
+    ensures bounds { IfOk result (λ asked. (1 ≤ asked.rooms) × (asked.rooms ≤ 64) × (1 ≤ asked.workers) × (asked.workers ≤ 32) × (asked.workers ≤ asked.links) × (asked.links ≤ 4096)) }
 {
     match matches_of(alloc, words) {
         Ok(matches) => words_in(alloc, &matches),
@@ -50,6 +52,7 @@ fn matches_of<'a>(alloc: Global, words: &'a [String]) -> Result<ArgMatches<'a>, 
         .arg(needed(alloc, "listen"))?
         .arg(option(alloc, "rooms"))?
         .arg(option(alloc, "workers"))?
+        .arg(option(alloc, "links"))?
         .arg(option(alloc, "sessions"))?
         .arg(flag(alloc, "ws"))?;
     command.try_get_matches_from(words)
@@ -58,22 +61,29 @@ fn matches_of<'a>(alloc: Global, words: &'a [String]) -> Result<ArgMatches<'a>, 
 /// What the matches ask for.
 fn words_in(alloc: Global, matches: &ArgMatches) -> Result<ServeWords, WordsNo>
     ensures asked { Answers (serve_of (first_value (found_of matches.now) (codes "listen")) (first_value (found_of matches.now) (codes "rooms"))
-        (first_value (found_of matches.now) (codes "workers")) (first_value (found_of matches.now) (codes "sessions")) (first_value (found_of matches.now) (codes "ws"))) result }
-    ensures bounds { IfOk result (λ asked. (1 ≤ asked.rooms) × (asked.rooms ≤ 64) × (1 ≤ asked.workers) × (asked.workers ≤ 32)) }
+        (first_value (found_of matches.now) (codes "workers")) (first_value (found_of matches.now) (codes "links")) (first_value (found_of matches.now) (codes "sessions")) (first_value (found_of matches.now) (codes "ws"))) result }
+    ensures bounds { IfOk result (λ asked. (1 ≤ asked.rooms) × (asked.rooms ≤ 64) × (1 ≤ asked.workers) × (asked.workers ≤ 32) × (asked.workers ≤ asked.links) × (asked.links ≤ 4096)) }
 {
     let listen = matches.get_str("listen").ok_or(WordsNo::Usage)?;
     let rooms = number_or(matches.get_str("rooms"), 1, 64, 16).ok_or(WordsNo::Usage)?;
     let workers = number_or(matches.get_str("workers"), 1, 32, 8).ok_or(WordsNo::Usage)?;
+    let links = number_or(matches.get_str("links"), 1, 4_096, workers).ok_or(WordsNo::Usage)?;
     let sessions = number_or(matches.get_str("sessions"), 1, 1_000_000, 1_000_000).ok_or(
         WordsNo::Usage,
     )?;
+    let ws = is_said(matches.get_str("ws"));
+    // Over WebSockets a worker has one link at a time.
+    if ws && workers < links {
+        return Err(WordsNo::Usage);
+    }
     let listen = Text::from_str(alloc, listen)?;
     Ok(ServeWords {
         listen,
         rooms: rooms as u8,
-        workers: workers as u8,
+        workers: workers.min(links) as u8,
+        links: links as u16,
         sessions,
-        ws: is_said(matches.get_str("ws")),
+        ws,
     })
 }
 

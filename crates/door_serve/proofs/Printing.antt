@@ -4,8 +4,8 @@ use Rattle.std.proofs.Math.Seq.{take-append-add}
 use Rattle.board_links.specs.Pieces.{Writes, told_bytes}
 use Rattle.board_links.specs.declared.sink.Put.{Put}
 use Rattle.board_links.specs.declared.sink.Put.TheVariants as put
-use Rattle.session_pool.specs.declared.gate.DoorEnd.{DoorEnd}
-use Rattle.session_pool.specs.declared.gate.DoorEnd.TheVariants as door
+use Rattle.link_rounds.specs.declared.gate.DoorEnd.{DoorEnd}
+use Rattle.link_rounds.specs.declared.gate.DoorEnd.TheVariants as door
 use Rattle.door_serve.specs.Ends.{Printed, end_of}
 
 first_part : (n : ℕ) (text more : List ℕ) → (m : ℕ) × (take n text ≡ take m (text ++ more))

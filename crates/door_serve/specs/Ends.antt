@@ -4,11 +4,11 @@ use Rattle.any_game.specs.GameKind.{GameKind}
 use Rattle.any_game.specs.declared.any_g.AnyG.{AnyG}
 use Rattle.board_links.specs.Faults.{HasRisen}
 use Rattle.match_master.specs.Held.{Held as Book}
-use Rattle.session_pool.specs.Gate.{Ended}
+use Rattle.link_rounds.specs.Gate.{Ended}
 use Rattle.board_links.specs.declared.sink.Put as sink
 use Rattle.board_links.specs.declared.sink.Put.TheVariants as put
-use Rattle.session_pool.specs.declared.gate.DoorEnd.{DoorEnd}
-use Rattle.session_pool.specs.declared.gate.DoorEnd.TheVariants as door
+use Rattle.link_rounds.specs.declared.gate.DoorEnd.{DoorEnd}
+use Rattle.link_rounds.specs.declared.gate.DoorEnd.TheVariants as door
 use Rattle.door_serve.specs.Report.{report}
 use Rattle.door_serve.specs.Rooms.{History, Numbered, Stand}
 use Rattle.door_serve.specs.declared.serving.ServeEnd.{ServeEnd}

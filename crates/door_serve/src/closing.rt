@@ -7,7 +7,7 @@ use any_game::AnyGame;
 use match_master::Book;
 use room_desk::{Desk, Pass};
 
-/// Takes the last pass of each worker.
+/// Takes the last pass of each place.
 fn take_last(
     desks: &[Desk<Book<AnyGame>>],
     desk: &Desk<Book<AnyGame>>,

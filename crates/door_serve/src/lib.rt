@@ -1,4 +1,4 @@
-//! A server of matches: rooms and workers over a door, and the report when the last session is over.
+//! A server of matches: rooms, places and workers over a door, and the report when the last session is over.
 #![tactic(auto)]
 
 mod closing;

@@ -1,10 +1,11 @@
 //! Serves the links of a door, closes the rooms, and reports.
 
-ghost use Rattle.std.specs.Prelude.{◌≡◌, ◌≤◌, ◌<◌, [], All, IfOk, IsSome, None, false, length, map, vec_capacity, vec_len};
+ghost use Rattle.std.specs.Prelude.{◌≡◌, ◌≤◌, ◌<◌, [], All, IfOk, IfSome, IsSome, None, false, length, map, vec_capacity, vec_len};
 ghost use Rattle.board_links.specs.Pieces.{told_bytes};
 ghost use Rattle.session_pool.specs.Passes.{Belong, number_of};
 ghost use Rattle.session_pool.specs.Placed.{AttachedBy};
 ghost use Rattle.session_pool.specs.Rooms.{numbers};
+ghost use Rattle.session_pool.specs.Sittings.{AreServed};
 ghost use Rattle.door_serve.specs.Ends.{EndsBy, Reports, end_of};
 
 use crate::closing::close_all;
@@ -12,9 +13,10 @@ use crate::reporting::print_report;
 use any_game::AnyGame;
 use board_links::{Door, Put, Sink};
 use game_sheet::NoMemory;
+use link_rounds::{DoorEnd, Ready};
 use match_master::Book;
 use room_desk::{Desk, Pass};
-use session_pool::{DoorEnd, serve_door, set_up_rooms};
+use session_pool::{serve_door, set_up_rooms};
 use std::alloc::Global;
 use std::sync::Wait;
 use std::thread::Threads;
@@ -36,11 +38,11 @@ pub enum ServeEnd {
 #[derive(Drop)]
 struct Spare {
     rooms: u8,
-    workers: u8,
+    places: u16,
     lists: Vec<Vec<Pass<Book<AnyGame>>>>,
     books: Vec<Book<AnyGame>>,
     ghost many: { vec_len lists ≡ rooms },
-    ghost empty: { All (λ v. (v.items ≡ []) × (workers ≤ vec_capacity v)) lists.items },
+    ghost empty: { All (λ v. (v.items ≡ []) × (places ≤ vec_capacity v)) lists.items },
     ghost none: { books.items ≡ [] },
     ghost room: { rooms ≤ vec_capacity books },
 }
@@ -49,29 +51,29 @@ struct Spare {
 fn lists_for(
     alloc: Global,
     rooms: u8,
-    workers: u8,
+    places: u16,
 ) -> Result<Vec<Vec<Pass<Book<AnyGame>>>>, NoMemory>
     ensures many { IfOk result (λ s. vec_len s ≡ rooms) }
-    ensures empty { IfOk result (λ s. All (λ v. (v.items ≡ []) × (workers ≤ vec_capacity v)) s.items) }
+    ensures empty { IfOk result (λ s. All (λ v. (v.items ≡ []) × (places ≤ vec_capacity v)) s.items) }
 {
     let mut lists = Vec::with_capacity(alloc, rooms as usize)?;
     for _room in 0..rooms {
-        let list = Vec::with_capacity(alloc, workers as usize)?;
+        let list = Vec::with_capacity(alloc, places as usize)?;
         lists.push_reserved(list);
     }
     Ok(lists)
 }
 
 /// What it takes to close so many rooms, of so many passes each.
-fn spare_for(alloc: Global, rooms: u8, workers: u8) -> Result<Spare, NoMemory>
+fn spare_for(alloc: Global, rooms: u8, places: u16) -> Result<Spare, NoMemory>
     ensures rooms { IfOk result (λ s. s.rooms ≡ rooms) }
-    ensures workers { IfOk result (λ s. s.workers ≡ workers) }
+    ensures places { IfOk result (λ s. s.places ≡ places) }
 {
-    let lists = lists_for(alloc, rooms, workers)?;
+    let lists = lists_for(alloc, rooms, places)?;
     let books = Vec::with_capacity(alloc, rooms as usize)?;
     Ok(Spare {
         rooms,
-        workers,
+        places,
         lists,
         books,
     })
@@ -91,16 +93,19 @@ fn end_of(end: DoorEnd, printed: Put) -> ServeEnd
     }
 }
 
-/// Serves the links of a door with rooms and workers, until the door is shut, has given so many sessions, or fails; then closes the rooms, and
-/// reports. The books come back in the order of the rooms, or none where there was no memory to set them up.
+/// Serves the links of a door with rooms, at 1 to 4,096 places, which are dealt over as many workers as there are of `readies`; until the door is
+/// shut, has given so many sessions, or fails. Then closes the rooms, and reports. The books come back in the order of the rooms, or none where
+/// there was no memory to set them up.
 ///
-/// The door has given no link and hasn't answered that it is shut. Worker w draws its words from stream w of the seed. No link is out when it
-/// returns.
-pub fn serve_rooms<D: Door + Send, K: Sink, R: Threads + Wait + Sync>(
+/// There is a worker or more, and a place for each. The door has given no link, hasn't answered that it is shut, and tells of none that came back.
+/// Place p draws its words from stream p of the seed, one session after another. No link is out when it returns; a door that tells what came back
+/// tells only links that were served at these places.
+pub fn serve_rooms<D: Door + Send, W: Ready<D::L> + Send, K: Sink, R: Threads + Wait + Sync>(
     rt: &R,
     alloc: Global,
     rooms: u8,
-    workers: u8,
+    places: u16,
+    readies: Vec<W>,
     sessions: u32,
     door: D,
     sink: &mut K,
@@ -109,25 +114,35 @@ pub fn serve_rooms<D: Door + Send, K: Sink, R: Threads + Wait + Sync>(
 where
     D::L: Send,
     requires rooms { (0 < rooms) × (rooms ≤ 64) }
-    requires workers { (0 < workers) × (workers ≤ 32) }
+    requires places { (0 < places) × (places ≤ 4096) }
+    requires some { 0 < vec_len readies }
+    requires enough { vec_len readies ≤ places }
     requires fresh { (D.given door ≡ 0) × (D.out door ≡ 0) × (D.bots_out door ≡ 0) × (D.shut door ≡ false) }
+    requires none_back { IfSome (D.returned door) (λ told. told ≡ []) }
     ensures out { (D.out result.1 ≡ 0) × (D.bots_out result.1 ≡ 0) }
+    ensures served { AreServed seed places (D.returned result.1) }
     ensures sink_never_falls { K.faults sink.old ≤ K.faults sink.new }
     ensures ended { EndsBy result.0 sessions (D.faults door) (D.left door) (D.shut result.1) (D.faults result.1) (D.given result.1) (K.faults sink.old) (K.faults sink.new) }
     ensures reports { IsSome (K.held sink.old) → Reports rooms (D.given result.1) result.2.items result.0 (told_bytes (K.held sink.old)) (K.held sink.new) }
 {
-    match spare_for(alloc, rooms, workers) {
-        Ok(spare) => serve_with(rt, alloc, rooms, workers, spare, sessions, door, sink, seed),
-        Err(NoMemory) => (ServeEnd::NoMemory, door, Vec::new(alloc)),
+    match spare_for(alloc, rooms, places) {
+        Ok(spare) => serve_with(
+            rt, alloc, rooms, places, readies, spare, sessions, door, sink, seed,
+        ),
+        Err(NoMemory) => {
+            drop(readies);
+            (ServeEnd::NoMemory, door, Vec::new(alloc))
+        }
     }
 }
 
 /// Sets the rooms up, and serves.
-fn serve_with<D: Door + Send, K: Sink, R: Threads + Wait + Sync>(
+fn serve_with<D: Door + Send, W: Ready<D::L> + Send, K: Sink, R: Threads + Wait + Sync>(
     rt: &R,
     alloc: Global,
     rooms: u8,
-    workers: u8,
+    places: u16,
+    readies: Vec<W>,
     spare: Spare,
     sessions: u32,
     door: D,
@@ -137,29 +152,37 @@ fn serve_with<D: Door + Send, K: Sink, R: Threads + Wait + Sync>(
 where
     D::L: Send,
     requires rooms { (0 < rooms) × (rooms ≤ 64) }
-    requires workers { (0 < workers) × (workers ≤ 32) }
-    requires spare { (spare.rooms ≡ rooms) × (spare.workers ≡ workers) }
+    requires places { (0 < places) × (places ≤ 4096) }
+    requires some { 0 < vec_len readies }
+    requires enough { vec_len readies ≤ places }
+    requires spare { (spare.rooms ≡ rooms) × (spare.places ≡ places) }
     requires fresh { (D.given door ≡ 0) × (D.out door ≡ 0) × (D.bots_out door ≡ 0) × (D.shut door ≡ false) }
+    requires none_back { IfSome (D.returned door) (λ told. told ≡ []) }
     ensures out { (D.out result.1 ≡ 0) × (D.bots_out result.1 ≡ 0) }
+    ensures served { AreServed seed places (D.returned result.1) }
     ensures sink_never_falls { K.faults sink.old ≤ K.faults sink.new }
     ensures ended { EndsBy result.0 sessions (D.faults door) (D.left door) (D.shut result.1) (D.faults result.1) (D.given result.1) (K.faults sink.old) (K.faults sink.new) }
     ensures reports { IsSome (K.held sink.old) → Reports rooms (D.given result.1) result.2.items result.0 (told_bytes (K.held sink.old)) (K.held sink.new) }
 {
-    match set_up_rooms(alloc, rooms, u32::from(workers)) {
-        Ok((desks, rows)) => serve_hall(rt, alloc, desks, rows, spare, sessions, door, sink, seed),
+    match set_up_rooms(alloc, rooms, u32::from(places)) {
+        Ok((desks, rows)) => serve_hall(
+            rt, alloc, desks, rows, readies, spare, sessions, door, sink, seed,
+        ),
         Err(NoMemory) => {
             drop(spare);
+            drop(readies);
             (ServeEnd::NoMemory, door, Vec::new(alloc))
         }
     }
 }
 
 /// Serves rooms that were set up.
-fn serve_hall<D: Door + Send, K: Sink, R: Threads + Wait + Sync>(
+fn serve_hall<D: Door + Send, W: Ready<D::L> + Send, K: Sink, R: Threads + Wait + Sync>(
     rt: &R,
     alloc: Global,
     desks: Vec<Desk<Book<AnyGame>>>,
     rows: Vec<Vec<Pass<Book<AnyGame>>>>,
+    readies: Vec<W>,
     spare: Spare,
     sessions: u32,
     door: D,
@@ -168,14 +191,19 @@ fn serve_hall<D: Door + Send, K: Sink, R: Threads + Wait + Sync>(
 ) -> (ServeEnd, D, Vec<Book<AnyGame>>)
 where
     D::L: Send,
-    requires rooms { (0 < spare.rooms) × (spare.rooms ≤ 64) × (0 < spare.workers) }
-    requires many { (vec_len desks ≡ spare.rooms) × (vec_len rows ≡ spare.workers) }
+    requires rooms { (0 < spare.rooms) × (spare.rooms ≤ 64) }
+    requires some { 0 < vec_len readies }
+    requires enough { (vec_len readies ≤ spare.places) × (spare.places ≤ 4096) }
+    requires many { (vec_len desks ≡ spare.rooms) × (vec_len rows ≡ spare.places) }
     requires objects { map (λ d. d.desk.object) desks.items ≡ numbers 0 spare.rooms }
-    requires counts { All (λ d. d.passes ≡ spare.workers) desks.items }
+    requires counts { All (λ d. d.passes ≡ spare.places) desks.items }
     requires belong { All (λ p. Belong desks.items (number_of p.items) p.items) rows.items }
     requires free { All (λ p. AttachedBy p.items None) rows.items }
+    requires within { All (λ p. number_of p.items < spare.places) rows.items }
     requires fresh { (D.given door ≡ 0) × (D.out door ≡ 0) × (D.bots_out door ≡ 0) × (D.shut door ≡ false) }
+    requires none_back { IfSome (D.returned door) (λ told. told ≡ []) }
     ensures out { (D.out result.1 ≡ 0) × (D.bots_out result.1 ≡ 0) }
+    ensures served { AreServed seed spare.places (D.returned result.1) }
     ensures sink_never_falls { K.faults sink.old ≤ K.faults sink.new }
     ensures ended { EndsBy result.0 sessions (D.faults door) (D.left door) (D.shut result.1) (D.faults result.1) (D.given result.1) (K.faults sink.old) (K.faults sink.new) }
     ensures reports { IsSome (K.held sink.old) → Reports spare.rooms (D.given result.1) result.2.items result.0 (told_bytes (K.held sink.old)) (K.held sink.new) }
@@ -183,7 +211,7 @@ where
     let mut desks = desks;
     let Spare {
         rooms: _,
-        workers: _,
+        places: _,
         mut lists,
         mut books,
     } = spare;
@@ -192,9 +220,10 @@ where
         alloc,
         desks.as_slice(),
         rows,
+        readies,
+        seed,
         door,
         sessions,
-        seed,
     );
     close_all(&mut desks, rows.as_mut_slice(), &mut lists, &mut books);
     drop(desks);

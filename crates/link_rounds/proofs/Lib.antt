@@ -1,4 +1,5 @@
 pub mod Benches
+pub mod Deals
 pub mod Returns
 pub mod Rounds
 pub mod Sittings

@@ -3,6 +3,7 @@ use Rattle.std.proofs.Common.{◌≡◌, ℕ, zero, suc, List, [], ◌∷◌, �
 use Rattle.std.specs.Prelude.{All}
 use Rattle.link_rounds.proofs.Benches.{written}
 use Rattle.std.proofs.lemmas.List.{append_assoc, get_or-map, length-map, map-append}
+use Rattle.std.proofs.lemmas.Simd.{map-map}
 use Rattle.std.proofs.lemmas.List.Elements.{All-append, All-map}
 
 pub all_next : {X : Type 0} (P : X → Type 0) (xs ys : List X) (x : X) → xs ≡ x ∷ ys → All P xs → P x × All P ys
@@ -45,3 +46,10 @@ written_all P n xs ys len all = subst (All P) (sym (written n xs ys len)) all
 -- what holds of what each worker has, after a call wrote over all of them, holds of what is taken from them
 pub handed : {X Y : Type 0} (P : Y → Type 0) (f : X → Y) (n : ℕ) (xs ys : List X) (last : List Y) → length ys ≡ n → All (λ x. P (f x)) ys → last ≡ map f (take n (ys ++ drop (length ys) xs)) → All P last
 handed P f n xs ys last len all e = subst (All P) (sym e) (All-map P f _ (written_all (λ x. P (f x)) n xs ys len all))
+
+-- what is told of what each worker has is told of what is taken from them
+pub map_through : {X Y Z : Type 0} (f : Y → Z) (h : X → Y) (xs : List X) (ys : List Y) → map h xs ≡ ys → map (λ x. f (h x)) xs ≡ map f ys
+map_through f h xs ys e = sym (map-map f h xs) ∙ ap (map f) e
+
+pub handed_map : {X Y Z : Type 0} (f : Y → Z) (h : X → Y) (n : ℕ) (xs ys : List X) (last : List Y) → length ys ≡ n → last ≡ map h (take n (ys ++ drop (length ys) xs)) → map f last ≡ map (λ x. f (h x)) ys
+handed_map f h n xs ys last len e = sym (map_through f h (take n (ys ++ drop (length ys) xs)) last (sym e)) ∙ ap (map (λ x. f (h x))) (written n xs ys len)

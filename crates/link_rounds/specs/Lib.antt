@@ -1,3 +1,4 @@
+pub mod Dealing
 pub mod Ends
 pub mod Gate
 pub mod Places

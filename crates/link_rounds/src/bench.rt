@@ -1,6 +1,6 @@
 //! A worker's places, and the links that come to them and go.
 
-ghost use Rattle.std.specs.Prelude.{◌≡◌, ◌+◌, ◌<◌, All, IfErr, IfOk, IfSome, None, Some, false, is_some, length, map, true, vec_len};
+ghost use Rattle.std.specs.Prelude.{◌≡◌, ◌+◌, ◌<◌, ◌≤◌, ◌++◌, All, IfErr, IfOk, IfSome, None, Some, false, is_some, length, map, true, vec_capacity, vec_len};
 ghost use Rattle.board_links.specs.Doors.{IsNew, IsOut, Shows, one_bot, one_other, sort_of};
 ghost use Rattle.link_rounds.specs.Gate.{TakesFresh, takes_bot, takes_other};
 ghost use Rattle.link_rounds.specs.Places.{IsFree, Served, Sits, about, seated_bots, seated_others};
@@ -60,6 +60,24 @@ impl<S: Service, L: Link, W: Ready<L>> Bench<S, L, W> {
             due,
             ready,
         })
+    }
+
+    /// Its services, in order, behind those of the list, which has room for them.
+    pub(crate) fn give_up(self, services: &mut Vec<S>)
+        requires room { vec_len services.old + vec_len self.places ≤ vec_capacity services.old }
+        ensures services { services.new.items ≡ services.old.items ++ map (λ p. p.service) self.places.items }
+        ensures len { vec_len services.new ≡ vec_len services.old + vec_len self.places }
+        ensures capacity { vec_capacity services.new ≡ vec_capacity services.old }
+    {
+        let Bench {
+            places,
+            free: _,
+            due: _,
+            ready: _,
+        } = self;
+        for place in places {
+            services.push_reserved(place.into_service());
+        }
     }
 }
 
@@ -143,6 +161,7 @@ fn sit<S: Service, D: Door, W: Ready<D::L>>(
     requires sit { All (Sits S.turn S.leave (about D.L.Link.answers D.L.Link.sent D.L.Link.faults D.L.Link.stage D.L.Link.clear D.L.Link.is_bot) S.rests) places.old }
     ensures fit { All (λ p. S.fits hall.now p.service) places.new }
     ensures sit { All (Sits S.turn S.leave (about D.L.Link.answers D.L.Link.sent D.L.Link.faults D.L.Link.stage D.L.Link.clear D.L.Link.is_bot) S.rests) places.new }
+    ensures numbers { map (λ p. S.number p.service) places.new ≡ map (λ p. S.number p.service) places.old }
     ensures others { seated_others D.has_bots D.L.Link.is_bot places.new ≡ seated_others D.has_bots D.L.Link.is_bot places.old + one_other (sort_of D.has_bots D.L.Link.is_bot link) }
     ensures bots { seated_bots D.has_bots D.L.Link.is_bot places.new ≡ seated_bots D.has_bots D.L.Link.is_bot places.old + one_bot (sort_of D.has_bots D.L.Link.is_bot link) }
 {
@@ -167,6 +186,7 @@ fn admit<S: Service, D: Door, W: Ready<D::L>, J: Shift, B: Ledger, R: Wait>(
     requires bots { bots.old.amount ≡ seated_bots D.has_bots D.L.Link.is_bot bench.old.places.items }
     ensures fit { All (λ p. S.fits hall.now p.service) bench.new.places.items }
     ensures sit { All (Sits S.turn S.leave (about D.L.Link.answers D.L.Link.sent D.L.Link.faults D.L.Link.stage D.L.Link.clear D.L.Link.is_bot) S.rests) bench.new.places.items }
+    ensures numbers { map (λ p. S.number p.service) bench.new.places.items ≡ map (λ p. S.number p.service) bench.old.places.items }
     ensures parts { (share.new.parts ≡ 1) × (bots.new.parts ≡ 1) }
     ensures others { share.new.amount ≡ seated_others D.has_bots D.L.Link.is_bot bench.new.places.items }
     ensures bots { bots.new.amount ≡ seated_bots D.has_bots D.L.Link.is_bot bench.new.places.items }
@@ -219,6 +239,7 @@ fn dismiss<S: Service, D: Door, J: Shift, B: Ledger, R: Wait>(
     ensures fit { All (λ p. S.fits hall.now p.service) places.new }
     ensures sit { All (Sits S.turn S.leave (about D.L.Link.answers D.L.Link.sent D.L.Link.faults D.L.Link.stage D.L.Link.clear D.L.Link.is_bot) S.rests) places.new }
     ensures parts { (share.new.parts ≡ 1) × (bots.new.parts ≡ 1) }
+    ensures numbers { map (λ p. S.number p.service) places.new ≡ map (λ p. S.number p.service) places.old }
     ensures others { share.new.amount ≡ seated_others D.has_bots D.L.Link.is_bot places.new }
     ensures bots { bots.new.amount ≡ seated_bots D.has_bots D.L.Link.is_bot places.new }
 {
@@ -269,6 +290,7 @@ pub(crate) fn work<S: Service, D: Door, W: Ready<D::L>, J: Shift, B: Ledger, R: 
     requires bots { bots.old.amount ≡ seated_bots D.has_bots D.L.Link.is_bot bench.old.places.items }
     ensures fit { All (λ p. S.fits hall.now p.service) bench.new.places.items }
     ensures sit { All (Sits S.turn S.leave (about D.L.Link.answers D.L.Link.sent D.L.Link.faults D.L.Link.stage D.L.Link.clear D.L.Link.is_bot) S.rests) bench.new.places.items }
+    ensures numbers { map (λ p. S.number p.service) bench.new.places.items ≡ map (λ p. S.number p.service) bench.old.places.items }
     ensures parts { (share.new.parts ≡ 1) × (bots.new.parts ≡ 1) }
     ensures free { All (λ p. is_some p.link ≡ false) bench.new.places.items }
     ensures none_out { (share.new.amount ≡ 0) × (bots.new.amount ≡ 0) }
@@ -299,6 +321,7 @@ fn serve_due<S: Service, D: Door, W: Ready<D::L>, J: Shift, B: Ledger, R: Wait>(
     requires bots { bots.old.amount ≡ seated_bots D.has_bots D.L.Link.is_bot bench.old.places.items }
     ensures fit { All (λ p. S.fits hall.now p.service) bench.new.places.items }
     ensures sit { All (Sits S.turn S.leave (about D.L.Link.answers D.L.Link.sent D.L.Link.faults D.L.Link.stage D.L.Link.clear D.L.Link.is_bot) S.rests) bench.new.places.items }
+    ensures numbers { map (λ p. S.number p.service) bench.new.places.items ≡ map (λ p. S.number p.service) bench.old.places.items }
     ensures parts { (share.new.parts ≡ 1) × (bots.new.parts ≡ 1) }
     ensures others { share.new.amount ≡ seated_others D.has_bots D.L.Link.is_bot bench.new.places.items }
     ensures bots { bots.new.amount ≡ seated_bots D.has_bots D.L.Link.is_bot bench.new.places.items }

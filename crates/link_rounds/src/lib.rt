@@ -3,7 +3,9 @@
 #![tactic(auto)]
 
 mod bench;
+mod dealing;
 mod gate;
+mod in_turn;
 mod links;
 mod place;
 mod ready;
@@ -12,7 +14,9 @@ mod service;
 mod serving;
 
 pub use bench::Bench;
+pub use dealing::serve_places;
 pub use gate::{DoorEnd, Gate, Next, Shift};
+pub use in_turn::InTurn;
 pub use links::serve_links;
 pub use place::Place;
 pub use ready::Ready;

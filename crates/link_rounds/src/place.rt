@@ -46,6 +46,7 @@ fn serve<S: Service, L: Link, R: Wait>(
     ensures tells_answers { is_some (L.answers link.new) ≡ is_some (L.answers link.old) }
     ensures tells_sent { is_some (L.sent link.new) ≡ is_some (L.sent link.old) }
     ensures is_bot { L.is_bot link.new ≡ L.is_bot link.old }
+    ensures number { S.number service.new ≡ S.number service.old }
     ensures takes { IsSome (L.answers link.old) → IsSome (L.sent link.old)
         → Takes S.turn S.leave service.old (told_answers (L.answers link.old)) (told_bytes (L.sent link.old)) result service.new (L.answers link.new) (L.sent link.new) }
 {
@@ -79,6 +80,7 @@ impl<S: Service, L: Link> Place<S, L> {
         requires sits { Sits S.turn S.leave (about L.answers L.sent L.faults L.stage L.clear L.is_bot) S.rests self.old }
         ensures fits { S.fits hall.now self.new.service }
         ensures sits { Sits S.turn S.leave (about L.answers L.sent L.faults L.stage L.clear L.is_bot) S.rests self.new }
+        ensures number { S.number self.new.service ≡ S.number self.old.service }
         ensures step { Step S.turn S.leave (about L.answers L.sent L.faults L.stage L.clear L.is_bot) self.old self.new }
     {
         let Place {
@@ -156,6 +158,20 @@ impl<S: Service, L: Link> Place<S, L> {
         ensures { result.now ≡ self.now.service }
     {
         &self.service
+    }
+
+    /// What served there, without the place and its link.
+    pub(crate) fn into_service(self) -> S
+        ensures { result ≡ self.service }
+    {
+        let Place {
+            service,
+            link: _,
+            end: _,
+            turned: _,
+            kept: _,
+        } = self;
+        service
     }
 
     /// Whether a session goes on there.

@@ -35,6 +35,9 @@ pub trait Service: Drop {
     /// Whether it has no session.
     ghost rests: { Self → Type 0 };
 
+    /// What tells a service from others of its hall: its turns and its leaving keep it.
+    ghost number: { Self → ℕ } = { λ _. 0 };
+
     /// What a turn does over a link that tells its answers and its bytes: with those before it, how it ended the session if it did, and those
     /// after it.
     ghost turn: { Self → List Came → List ℕ → Option SessionEnd → Self → Option (List Came) → Option (List ℕ) → Type 0 };
@@ -57,6 +60,7 @@ pub trait Service: Drop {
         ensures tells_answers { is_some (L.answers link.new) ≡ is_some (L.answers link.old) }
         ensures tells_sent { is_some (L.sent link.new) ≡ is_some (L.sent link.old) }
         ensures is_bot { L.is_bot link.new ≡ L.is_bot link.old }
+        ensures number { number self.new ≡ number self.old }
         ensures turn { IsSome (L.answers link.old) → IsSome (L.sent link.old)
             → turn self.old (told_answers (L.answers link.old)) (told_bytes (L.sent link.old)) result self.new (L.answers link.new) (L.sent link.new) };
 
@@ -68,5 +72,6 @@ pub trait Service: Drop {
         requires fits { fits hall.now self.old }
         ensures fits { fits hall.now self.new }
         ensures rests { rests self.new }
+        ensures number { number self.new ≡ number self.old }
         ensures leave { leave self.old self.new };
 }

@@ -45,6 +45,7 @@ where
     ensures many { length workers.new ≡ length workers.old }
     ensures fit { All (λ w. All (λ p. S.fits hall.now p.service) w.bench.places.items) workers.new }
     ensures sit { All (λ w. All (Sits S.turn S.leave (about D.L.Link.answers D.L.Link.sent D.L.Link.faults D.L.Link.stage D.L.Link.clear D.L.Link.is_bot) S.rests) w.bench.places.items) workers.new }
+    ensures numbers { map (λ w. map (λ p. S.number p.service) w.bench.places.items) workers.new ≡ map (λ w. map (λ p. S.number p.service) w.bench.places.items) workers.old }
     ensures parts { All (λ w. (w.share.parts ≡ 1) × (w.bots.parts ≡ 1)) workers.new }
     ensures free { All (λ w. All (λ p. is_some p.link ≡ false) w.bench.places.items) workers.new }
     ensures none_out { All (λ w. (w.share.amount ≡ 0) × (w.bots.amount ≡ 0)) workers.new }
@@ -58,6 +59,7 @@ where
             requires { All (λ p. S.fits hall.now p.service) worker.old.bench.places.items × All (Sits S.turn S.leave (about D.L.Link.answers D.L.Link.sent D.L.Link.faults D.L.Link.stage D.L.Link.clear D.L.Link.is_bot) S.rests) worker.old.bench.places.items × (worker.old.share.parts ≡ 1) × (worker.old.bots.parts ≡ 1)
                 × (worker.old.share.amount ≡ seated_others D.has_bots D.L.Link.is_bot worker.old.bench.places.items) × (worker.old.bots.amount ≡ seated_bots D.has_bots D.L.Link.is_bot worker.old.bench.places.items) }
             ensures { All (λ p. S.fits hall.entry.now p.service) worker.new.bench.places.items × All (Sits S.turn S.leave (about D.L.Link.answers D.L.Link.sent D.L.Link.faults D.L.Link.stage D.L.Link.clear D.L.Link.is_bot) S.rests) worker.new.bench.places.items × (worker.new.share.parts ≡ 1) × (worker.new.bots.parts ≡ 1)
+                × (map (λ p. S.number p.service) worker.new.bench.places.items ≡ map (λ p. S.number p.service) worker.old.bench.places.items)
                 × All (λ p. is_some p.link ≡ false) worker.new.bench.places.items
                 × (worker.new.share.amount ≡ 0) × (worker.new.bots.amount ≡ 0) }
         {
@@ -154,6 +156,7 @@ where
     ensures served { WereServed S.turn S.leave S.rests (D.returned result.3) }
     ensures fit { All (λ b. All (λ p. S.fits hall.now p.service) b.places.items) result.2.items }
     ensures sit { All (λ b. All (Sits S.turn S.leave (about D.L.Link.answers D.L.Link.sent D.L.Link.faults D.L.Link.stage D.L.Link.clear D.L.Link.is_bot) S.rests) b.places.items) result.2.items }
+    ensures numbers { map (λ b. map (λ p. S.number p.service) b.places.items) result.2.items ≡ map (λ w. map (λ p. S.number p.service) w.bench.places.items) workers.items }
     ensures free { All (λ b. All (λ p. is_some p.link ≡ false) b.places.items) result.2.items }
 {
     let gate = Mutex::new(gate);
@@ -202,6 +205,7 @@ where
     ensures served { WereServed S.turn S.leave S.rests (D.returned result.3) }
     ensures fit { All (λ b. All (λ p. S.fits hall.now p.service) b.places.items) result.2.items }
     ensures sit { All (λ b. All (Sits S.turn S.leave (about D.L.Link.answers D.L.Link.sent D.L.Link.faults D.L.Link.stage D.L.Link.clear D.L.Link.is_bot) S.rests) b.places.items) result.2.items }
+    ensures numbers { map (λ b. map (λ p. S.number p.service) b.places.items) result.2.items ≡ map (λ b. map (λ p. S.number p.service) b.places.items) benches.items }
     ensures free { All (λ b. All (λ p. is_some p.link ≡ false) b.places.items) result.2.items }
 {
     let Ok(back) = Vec::with_capacity(alloc, benches.len()) else {
@@ -222,7 +226,7 @@ where
 /// link is out then, and the benches come back in their order.
 ///
 /// There is at least one bench, and no place has a link; so they are afterwards. The door has given no link, and hasn't answered that it is shut.
-/// With every end comes the count of the links that the door gave. A door that tells what came back tells only links that were served.
+/// With every end comes the count of the links that the door gave. The benches have the same services, by their numbers. A door that tells what came back tells only links that were served.
 pub fn serve_door<
     S: Service + Send,
     D: Door + Send,
@@ -251,6 +255,7 @@ where
     ensures served { WereServed S.turn S.leave S.rests (D.returned result.3) }
     ensures fit { All (λ b. All (λ p. S.fits hall.now p.service) b.places.items) result.2.items }
     ensures sit { All (λ b. All (Sits S.turn S.leave (about D.L.Link.answers D.L.Link.sent D.L.Link.faults D.L.Link.stage D.L.Link.clear D.L.Link.is_bot) S.rests) b.places.items) result.2.items }
+    ensures numbers { map (λ b. map (λ p. S.number p.service) b.places.items) result.2.items ≡ map (λ b. map (λ p. S.number p.service) b.places.items) benches.items }
     ensures free { All (λ b. All (λ p. is_some p.link ≡ false) b.places.items) result.2.items }
 {
     let parts = benches.len() as u64;

@@ -1,2 +1,3 @@
 pub mod Either
 pub mod Scans
+pub mod Usable

@@ -80,3 +80,12 @@ module _ {O C R D : Type 0} (stands_for : O → List (Entry C) → Type 0) (reco
   Answers NoMemory = (broken ≡ None) × (broken_after ≡ None) × (Keeps h ⊎ Keeps (entry pass call true ∷ h))
   Answers (Replied r) = (broken ≡ None) × (broken_after ≡ None) × (is_starved r ≡ false) × (r ≡ reply h (entry pass call false)) × Keeps (entry pass call false ∷ h)
   Answers (NotKept place) = (is_accepted (reply h (entry pass call false)) ≡ true) × (place ≡ end) × (broken ≡ None) × (broken_after ≡ Some place) × HasRisen (faults disk) (faults disk_after)
+
+-- what the object stands for after each answer, whatever its disk tells
+module _ {O C R : Type 0} (stands_for : O → List (Entry C) → Type 0) (reply : List (Entry C) → Entry C → R) (is_starved is_accepted : R → Bool) (object object_after : O) (h : List (Entry C)) (pass : ℕ) (call : C) where
+  abbrev pub StandsBy : KeptReply R → Type 0
+  StandsBy (StoreBroken place) = object_after ≡ object
+  StandsBy (Full place) = object_after ≡ object
+  StandsBy NoMemory = stands_for object_after h ⊎ stands_for object_after (entry pass call true ∷ h)
+  StandsBy (Replied r) = (is_starved r ≡ false) × (r ≡ reply h (entry pass call false)) × stands_for object_after (entry pass call false ∷ h)
+  StandsBy (NotKept place) = (is_accepted (reply h (entry pass call false)) ≡ true) × stands_for object_after (entry pass call false ∷ h)

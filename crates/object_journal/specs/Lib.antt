@@ -1,3 +1,4 @@
 pub mod Keeping
 pub mod Opening
 pub mod Replaying
+pub mod Stopping

@@ -2,7 +2,7 @@
 use Rattle.std.specs.Prelude.{◌≡◌, ◌<◌, ℕ, Bool, List, [], length, Option, None}
 use Rattle.board_links.specs.Faults.{HasRisen}
 use Rattle.room_object.specs.Entry.{Entry}
-use Rattle.record_file.specs.Records.{HasRecords}
+use Rattle.record_file.specs.Records.{HasRecords, open_records}
 use Rattle.record_file.specs.Damage.{AllFollow, IsDamaged}
 use Rattle.record_file.specs.Ready.{longest}
 use Rattle.record_file.specs.declared.making_ready.NotReady.{NotReady}
@@ -17,6 +17,13 @@ pub record IsOpened {O C D : Type 0} (stands_for : O → List (Entry C) → Type
   pub whole : broken ≡ None
   pub keeping : IsKeeping stands_for records is_told seen may_leave object disk_after end h
   pub had : HasRecords (seen disk) (records h)
+  pub follow : AllFollow may_follow [] (records h)
+
+-- whatever the disk tells: the object stands for a history whose records end at this place, and each of them may follow those before it
+pub record StandsOpen {O C : Type 0} (stands_for : O → List (Entry C) → Type 0) (records : List (Entry C) → List (List ℕ)) (may_follow : List (List ℕ) → List ℕ → Bool) (object : O) (end : ℕ) (broken : Option ℕ) (h : List (Entry C)) : Type 0 where
+  pub whole : broken ≡ None
+  pub stands : stands_for object h
+  pub place : end ≡ length (open_records (records h))
   pub follow : AllFollow may_follow [] (records h)
 
 -- why a file wasn't opened; one of at most one byte has no records, and is never damaged

@@ -3,7 +3,7 @@
 ghost use Rattle.std.specs.Prelude.{◌≡◌, ◌<◌, ◌+◌, ◌∷◌, ℕ, List, None, Some, false};
 ghost use Rattle.room_object.specs.Entry.{Entry, entry};
 ghost use Rattle.room_disk.specs.Disk.{LeavesOnly};
-ghost use Rattle.object_journal.specs.Keeping.{Answers, BreaksBy, HasEither, IsBrokenBy, IsFullBy, IsKeeping, IsUnlessKept};
+ghost use Rattle.object_journal.specs.Keeping.{Adds, Answers, BreaksBy, HasEither, IsBrokenBy, IsFullBy, IsKeeping, IsUnlessKept, StandsBy};
 
 use crate::recorded::Recorded;
 use board_links::Put;
@@ -82,6 +82,44 @@ impl<O: Recorded, D: Disk + Drop> KeptObject<O, D> {
             → IsKeeping O.stands_for (O.records (O.number self.old.object)) D.is_told D.seen D.may_leave self.old.object self.old.file.disk self.old.file.end h
             → Answers O.stands_for (O.records (O.number self.old.object)) (O.reply (O.number self.old.object)) O.is_starved O.is_accepted D.is_told D.seen D.may_leave D.faults
             self.old.object self.old.file.disk self.old.file.end self.old.broken self.new.object self.new.file.disk self.new.file.end self.new.broken h pass call result }
+        ensures stands { (h : List (Entry O.Call)) → O.stands_for self.old.object h
+            → StandsBy O.stands_for (O.reply (O.number self.old.object)) O.is_starved O.is_accepted self.old.object self.new.object h pass call result }
+        ensures broken { IsBrokenBy self.old.broken result }
+        ensures breaks { BreaksBy result self.old.file.end self.old.broken self.new.broken (D.faults self.old.file.disk) (D.faults self.new.file.disk) }
+        ensures full { (h : List (Entry O.Call)) → O.stands_for self.old.object h → IsFullBy self.old.file.end (O.payload_of (O.number self.old.object) h pass call) result }
+        ensures crash { (h : List (Entry O.Call))
+            → IsKeeping O.stands_for (O.records (O.number self.old.object)) D.is_told D.seen D.may_leave self.old.object self.old.file.disk self.old.file.end h
+            → LeavesOnly D.moment D.left_since self.old.file.disk self.new.file.disk
+            (HasEither (O.records (O.number self.old.object) h) (O.records (O.number self.old.object) (entry pass call false ∷ h))) }
+        ensures usable { IsUnlessKept self.new.broken ((h : List (Entry O.Call)) × O.stands_for self.new.object h) }
+    {
+        if let Some(place) = self.broken {
+            drop(call);
+            return KeptReply::StoreBroken { place };
+        }
+        match self.object.frame_of(self.alloc, pass, &call) {
+            Err(_) => {
+                drop(call);
+                KeptReply::NoMemory
+            }
+            Ok(None) => self.answer(pass, call),
+            Ok(Some(frame)) => self.keep(pass, call, frame),
+        }
+    }
+
+    /// Answers a call that adds no record.
+    fn answer(&mut self, pass: u32, call: O::Call) -> KeptReply<O::Reply>
+        requires whole { self.old.broken ≡ None }
+        requires stands { (h : List (Entry O.Call)) × O.stands_for self.old.object h }
+        requires adds { (h : List (Entry O.Call)) → O.stands_for self.old.object h
+            → Adds (O.payload_of (O.number self.old.object) h pass call) (O.records (O.number self.old.object)) (O.reply (O.number self.old.object)) O.is_accepted h pass call None }
+        ensures number { O.number self.new.object ≡ O.number self.old.object }
+        ensures answered { (h : List (Entry O.Call))
+            → IsKeeping O.stands_for (O.records (O.number self.old.object)) D.is_told D.seen D.may_leave self.old.object self.old.file.disk self.old.file.end h
+            → Answers O.stands_for (O.records (O.number self.old.object)) (O.reply (O.number self.old.object)) O.is_starved O.is_accepted D.is_told D.seen D.may_leave D.faults
+            self.old.object self.old.file.disk self.old.file.end self.old.broken self.new.object self.new.file.disk self.new.file.end self.new.broken h pass call result }
+        ensures stands { (h : List (Entry O.Call)) → O.stands_for self.old.object h
+            → StandsBy O.stands_for (O.reply (O.number self.old.object)) O.is_starved O.is_accepted self.old.object self.new.object h pass call result }
         ensures broken { IsBrokenBy self.old.broken result }
         ensures breaks { BreaksBy result self.old.file.end self.old.broken self.new.broken (D.faults self.old.file.disk) (D.faults self.new.file.disk) }
         ensures full { (h : List (Entry O.Call)) → O.stands_for self.old.object h → IsFullBy self.old.file.end (O.payload_of (O.number self.old.object) h pass call) result }
@@ -90,45 +128,54 @@ impl<O: Recorded, D: Disk + Drop> KeptObject<O, D> {
             → LeavesOnly D.moment D.left_since self.old.file.disk self.new.file.disk
             (HasEither (O.records (O.number self.old.object) h) (O.records (O.number self.old.object) (entry pass call false ∷ h))) }
     {
-        if let Some(place) = self.broken {
-            drop(call);
-            return KeptReply::StoreBroken { place };
+        let reply = self.object.apply(pass, call);
+        if O::starved(&reply) {
+            drop(reply);
+            return KeptReply::NoMemory;
         }
+        KeptReply::Replied(reply)
+    }
+
+    /// Answers a call that adds this record where it is accepted, once the record is kept.
+    fn keep(&mut self, pass: u32, call: O::Call, frame: Vec<u8>) -> KeptReply<O::Reply>
+        requires whole { self.old.broken ≡ None }
+        requires stands { (h : List (Entry O.Call)) × O.stands_for self.old.object h }
+        requires adds { (h : List (Entry O.Call)) → O.stands_for self.old.object h
+            → Adds (O.payload_of (O.number self.old.object) h pass call) (O.records (O.number self.old.object)) (O.reply (O.number self.old.object)) O.is_accepted h pass call (Some frame) }
+        ensures number { O.number self.new.object ≡ O.number self.old.object }
+        ensures answered { (h : List (Entry O.Call))
+            → IsKeeping O.stands_for (O.records (O.number self.old.object)) D.is_told D.seen D.may_leave self.old.object self.old.file.disk self.old.file.end h
+            → Answers O.stands_for (O.records (O.number self.old.object)) (O.reply (O.number self.old.object)) O.is_starved O.is_accepted D.is_told D.seen D.may_leave D.faults
+            self.old.object self.old.file.disk self.old.file.end self.old.broken self.new.object self.new.file.disk self.new.file.end self.new.broken h pass call result }
+        ensures stands { (h : List (Entry O.Call)) → O.stands_for self.old.object h
+            → StandsBy O.stands_for (O.reply (O.number self.old.object)) O.is_starved O.is_accepted self.old.object self.new.object h pass call result }
+        ensures broken { IsBrokenBy self.old.broken result }
+        ensures breaks { BreaksBy result self.old.file.end self.old.broken self.new.broken (D.faults self.old.file.disk) (D.faults self.new.file.disk) }
+        ensures full { (h : List (Entry O.Call)) → O.stands_for self.old.object h → IsFullBy self.old.file.end (O.payload_of (O.number self.old.object) h pass call) result }
+        ensures crash { (h : List (Entry O.Call))
+            → IsKeeping O.stands_for (O.records (O.number self.old.object)) D.is_told D.seen D.may_leave self.old.object self.old.file.disk self.old.file.end h
+            → LeavesOnly D.moment D.left_since self.old.file.disk self.new.file.disk
+            (HasEither (O.records (O.number self.old.object) h) (O.records (O.number self.old.object) (entry pass call false ∷ h))) }
+    {
         let place = self.file.end;
-        match self.object.frame_of(self.alloc, pass, &call) {
-            Err(_) => {
-                drop(call);
-                KeptReply::NoMemory
-            }
-            Ok(None) => {
-                let reply = self.object.apply(pass, call);
-                if O::starved(&reply) {
-                    drop(reply);
-                    return KeptReply::NoMemory;
-                }
-                KeptReply::Replied(reply)
-            }
-            Ok(Some(frame)) => {
-                if place > LONGEST || frame.len() as u64 >= LONGEST - place {
-                    drop(call);
-                    return KeptReply::Full { place };
-                }
-                let reply = self.object.apply(pass, call);
-                if O::starved(&reply) {
-                    drop(reply);
-                    return KeptReply::NoMemory;
-                }
-                if !O::accepted(&reply) {
-                    return KeptReply::Replied(reply);
-                }
-                match self.file.append(&frame) {
-                    Put::Done => KeptReply::Replied(reply),
-                    Put::Failed => {
-                        drop(reply);
-                        self.broken = Some(place);
-                        KeptReply::NotKept { place }
-                    }
-                }
+        if place > LONGEST || frame.len() as u64 >= LONGEST - place {
+            drop(call);
+            return KeptReply::Full { place };
+        }
+        let reply = self.object.apply(pass, call);
+        if O::starved(&reply) {
+            drop(reply);
+            return KeptReply::NoMemory;
+        }
+        if !O::accepted(&reply) {
+            return KeptReply::Replied(reply);
+        }
+        match self.file.append(&frame) {
+            Put::Done => KeptReply::Replied(reply),
+            Put::Failed => {
+                drop(reply);
+                self.broken = Some(place);
+                KeptReply::NotKept { place }
             }
         }
     }

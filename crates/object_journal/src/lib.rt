@@ -3,11 +3,13 @@
 
 mod kept_object;
 mod opening;
+mod performing;
 mod recorded;
 mod replaying;
 mod scanning;
 
 pub use kept_object::{KeptObject, KeptReply};
 pub use opening::open;
+pub use performing::Stop;
 pub use recorded::Recorded;
 pub use replaying::{OpenNo, Replayed, Replays};

@@ -17,9 +17,10 @@ use std::rt::Clock;
 use std::sync::Arc;
 
 /// A door that listens at this address, or at any free port where its port is 0, and for each of so many workers what tells it which of its
-/// links are ready, at so many places: each worker's bench has just as many, since a worker without a free place leaves the next link to
-/// another. The door's links have lines of at most `limit` bytes. An Err is the system's: the address is taken, or there are no descriptors
-/// left, of which each worker needs two, or no memory.
+/// links are ready, at so many places in all. They are dealt over the workers as `link_rounds::serve_places` deals its services: as evenly as can
+/// be, and the first workers get one more; a worker without a free place leaves the next link to another. The door gives so many links and no
+/// more, and listens no longer then, nor once it has failed. Its links have lines of at most `limit` bytes. An Err is the system's: the address is
+/// taken, or there are no descriptors left, of which each worker needs two, or no memory.
 pub fn open<N: Net + Clock + Copy + Drop>(
     net: N,
     alloc: Global,
@@ -27,6 +28,7 @@ pub fn open<N: Net + Clock + Copy + Drop>(
     limit: u32,
     workers: usize,
     places: u32,
+    sessions: u32,
 ) -> io::Result<(PollDoor<N>, Vec<PollReady<N>>)>
     ensures workers { IfOk result (λ r. vec_len r.1 ≡ workers) }
     ensures given { IfOk result (λ r. ⟦<PollDoor<N> as Door>⟧.given r.0 ≡ 0) }
@@ -42,7 +44,10 @@ pub fn open<N: Net + Clock + Copy + Drop>(
     };
     let bells = Arc::new(alloc, bells)?;
     match readies(net, alloc, polls, &bells, places) {
-        Ok(ready) => Ok((PollDoor::over(net, alloc, listener, bells, limit), ready)),
+        Ok(ready) => Ok((
+            PollDoor::over(net, alloc, listener, bells, limit, sessions),
+            ready,
+        )),
         Err(NoMemory) => Err(no_memory()),
     }
 }
@@ -84,11 +89,21 @@ fn readies<C: Clock + Copy + Drop>(
 ) -> Result<Vec<PollReady<C>>, NoMemory>
     ensures { IfOk result (λ r. vec_len r ≡ vec_len polls) }
 {
-    let mut readies = Vec::with_capacity(alloc, polls.len())?;
+    let workers = polls.len();
+    let mut readies = Vec::with_capacity(alloc, workers)?;
     for poll in polls {
         let bells = Arc::try_clone(bells)?;
         let me = readies.len();
-        readies.push(PollReady::new(clock, alloc, poll, bells, me, places)?)?;
+        let own = part(places, workers, me);
+        readies.push(PollReady::new(clock, alloc, poll, bells, me, own)?)?;
     }
     Ok(readies)
+}
+
+/// How many of the places are those of the worker `me`: the first workers have what can't be divided.
+fn part(places: u32, workers: usize, me: usize) -> u32 {
+    let workers = workers.max(1);
+    let each = places as usize / workers;
+    let more = usize::from(me < places as usize % workers);
+    u32::try_from(each.saturating_add(more)).unwrap_or(places)
 }

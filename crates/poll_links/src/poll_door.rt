@@ -9,6 +9,7 @@ use board_links::{Door, Link, SessionEnd, Visit};
 use mio::net::TcpListener;
 use std::alloc::Global;
 use std::io;
+use std::io::ErrorKind;
 use std::net::SocketAddr;
 use std::rt::Clock;
 use std::sync::{Arc, Wait};
@@ -17,14 +18,16 @@ use std::sync::{Arc, Wait};
 const TRIES: u32 = 64;
 
 /// A door over a TCP listener that never waits: it answers `Quiet` where no connection is there, or the system has no room for one more. It is
-/// never shut, and doesn't tell how many links are left.
+/// never shut, and doesn't tell how many links are left. Once it has given its last link, or failed, it listens no more: who connects is refused,
+/// and it fails where it is asked for another.
 #[derive(Drop)]
 pub struct PollDoor<C> {
     clock: C,
     alloc: Global,
-    listener: TcpListener,
+    listener: Option<TcpListener>,
     bells: Arc<Bells, Global>,
     limit: u32,
+    sessions: u64,
     given: u64,
     came_back: u64,
     faults: u64,
@@ -32,13 +35,15 @@ pub struct PollDoor<C> {
 }
 
 impl<C: Clock + Copy + Drop> PollDoor<C> {
-    /// A door over a listener that doesn't block and is registered with the workers' polls. Its links have lines of at most `limit` bytes.
+    /// A door over a listener that doesn't block and is registered with the workers' polls. It gives so many links, which have lines of at most
+    /// `limit` bytes.
     pub(crate) fn over(
         clock: C,
         alloc: Global,
         listener: TcpListener,
         bells: Arc<Bells, Global>,
         limit: u32,
+        sessions: u32,
     ) -> PollDoor<C>
         ensures given { ⟦<PollDoor<C> as Door>⟧.given result ≡ 0 }
         ensures out { ⟦<PollDoor<C> as Door>⟧.out result ≡ 0 }
@@ -49,24 +54,31 @@ impl<C: Clock + Copy + Drop> PollDoor<C> {
         PollDoor {
             clock,
             alloc,
-            listener,
+            listener: Some(listener),
             bells,
             limit,
+            sessions: u64::from(sessions),
             given: 0,
             came_back: 0,
             faults: 0,
         }
     }
 
-    /// The address at which it listens, with the port that it got.
+    /// The address at which it listens, with the port that it got. An Err is the system's, or that it listens no more.
     pub fn addr(&self) -> io::Result<SocketAddr> {
-        self.listener.local_addr()
+        match &self.listener {
+            Some(listener) => listener.local_addr(),
+            None => Err(io::Error::from(ErrorKind::NotConnected)),
+        }
     }
 
     /// What the listener answers, past connections that failed before they were taken.
     fn ask(&self) -> Knock {
+        let Some(listener) = &self.listener else {
+            return Knock::Failed;
+        };
         for _ in 0..TRIES {
-            match asked(&self.listener) {
+            match asked(listener) {
                 Knock::Lost => {}
                 answer => return answer,
             }
@@ -94,7 +106,7 @@ impl<C: Clock + Copy + Drop> Door for PollDoor<C> {
     ghost returned = { λ _. None };
 
     fn accept<R: Wait>(&mut self, _rt: &R) -> Visit<PollLink<C>> {
-        let answer = if self.given < u64::MAX {
+        let answer = if self.given < self.sessions {
             self.ask()
         } else {
             Knock::Failed
@@ -102,6 +114,9 @@ impl<C: Clock + Copy + Drop> Door for PollDoor<C> {
         match answer {
             Knock::Came(stream) => {
                 self.given += 1;
+                if self.given >= self.sessions {
+                    self.listener = None;
+                }
                 Visit::Came(PollLink::over(self.clock, self.alloc, stream, self.limit))
             }
             Knock::Nothing => {
@@ -113,6 +128,7 @@ impl<C: Clock + Copy + Drop> Door for PollDoor<C> {
                 Visit::Quiet
             }
             Knock::Failed => {
+                self.listener = None;
                 self.faults = self.faults.saturating_add(1);
                 Visit::Failed
             }

@@ -113,6 +113,16 @@ pub rows_belong : (desks : List SetUp) (k n : ℕ) → All (λ p. Belong desks (
 rows_belong desks k zero = λ i d low. absurd (omega arith)
 rows_belong desks k (suc n) = all_cons (λ p. Belong desks (number_of p) p) (row_of desks k) (rows_from desks (k + 1) n) (row_belongs desks k) (rows_belong desks (k + 1) n)
 
+row_number : (desks : List SetUp) (k : ℕ) → 0 < length desks → number_of (row_of desks k) ≡ k
+row_number [] k some = absurd (omega arith)
+row_number (d ∷ ds) k some = refl
+
+-- the numbers of rows end before the next one
+pub rows_within : (desks : List SetUp) (k n m : ℕ) → m ≡ k + n → 0 < length desks → All (λ p. number_of p < m) (rows_from desks k n)
+rows_within desks k zero m e some = λ i d low. absurd (omega arith)
+rows_within desks k (suc n) m e some =
+    all_cons (λ p. number_of p < m) (row_of desks k) (rows_from desks (k + 1) n) (let here = row_number desks k some in omega (arith, here, e)) (rows_within desks (k + 1) n m (omega (arith, e)) some)
+
 row_free : (desks : List SetUp) (k : ℕ) → AttachedBy (row_of desks k) None
 row_free desks k = All-map (λ (p : Pass). is_in p ≡ false) (dealt_by k) desks (λ i d low. refl)
 

@@ -4,9 +4,9 @@ pub mod Ends
 pub mod Hearing
 pub mod Lines
 pub mod Passes
+pub mod Places
 pub mod Placing
 pub mod Replies
 pub mod Saying
 pub mod Sends
 pub mod Turns
-pub mod Workers

@@ -1,5 +1,4 @@
 pub mod Ends
-pub mod Gate
 pub mod Lines
 pub mod Passes
 pub mod Placed
@@ -7,4 +6,3 @@ pub mod Rooms
 pub mod Sittings
 pub mod Taken
 pub mod Turn
-pub mod Workers

@@ -1,4 +1,4 @@
--- Passes of all rooms: those that each room has dealt, and those that each worker has.
+-- Passes of all rooms: those that each room has dealt, and those that each place has.
 use Rattle.std.specs.Prelude.{ℕ, ◌+◌, zero, suc, List, [], ◌∷◌, ◌++◌, map}
 use Rattle.room_desk.specs.History.{SetUp, dealt}
 use Rattle.session_pool.specs.Passes.{Pass, dealt_by}

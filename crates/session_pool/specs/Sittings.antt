@@ -1,13 +1,15 @@
 -- Places of sessions: how a session begins at one, what its words are drawn from, and how it is left.
 use Rattle.std.specs.Prelude.{◌≡◌, ◌<◌, ◌≤◌, ℕ, List, length, Option, Some, None}
+use Rattle.board_links.specs.Doors.{Returned}
 use Rattle.dice_words.specs.Strip.{Strip}
 use Rattle.game_hall.specs.Core.{fresh, released}
+use Rattle.link_rounds.specs.Gate.{WereServed}
 use Rattle.room_desk.specs.History.{SetUp}
 use Rattle.room_history.specs.declared.call.RoomCall.TheVariants as call
 use Rattle.room_history.specs.declared.reply.RoomReply.{RoomReply}
 use Rattle.session_pool.specs.Passes.{Belong, Calls, Pass, did, number_of}
 use Rattle.session_pool.specs.Placed.{AttachedBy, IsIdle}
-use Rattle.session_pool.specs.Turn.{Side, Stand, side_of, stand}
+use Rattle.session_pool.specs.Turn.{Side, Stand, Turn, side_of, stand}
 
 -- where a session stands that has done nothing yet, over so many rooms, with these passes and words
 abbrev pub begins : ℕ → List Pass → Strip → Stand
@@ -17,17 +19,21 @@ begins rooms passes words = stand passes (fresh (number_of passes) rooms) words
 abbrev pub DrawsFrom : List ℕ → ℕ → Strip → Type 0
 DrawsFrom seed stream words = words.source ≡ Some (seed, stream)
 
--- A place without a session: its core has done nothing. The next session draws from the stream of the passes' number.
-pub record Rests (seed : List ℕ) (s : Stand) : Type 0 where
+-- One of so many places, without a session: its core has the passes' number and has done nothing. The next session draws from the stream of that
+-- number of the seed.
+pub record Rests (seed : List ℕ) (places : ℕ) (s : Stand) : Type 0 where
+  pub own : number_of s.passes ≡ s.core.pass
+  pub within : s.core.pass < places
   pub fresh_is : s.core ≡ fresh s.core.pass s.core.rooms
   pub draws : DrawsFrom seed s.core.pass s.words
 
--- A place between two turns: there are 1 to 64 desks, and the passes are one for each, in their order, with the core's number; the session is
--- attached where its core is.
-pub record Fits (desks : List SetUp) (seed : List ℕ) (s : Stand) : Type 0 where
+-- One of so many places between two turns: there are 1 to 64 desks, and the passes are one for each, in their order, with the core's number; the
+-- session is attached where its core is.
+pub record Fits (desks : List SetUp) (seed : List ℕ) (places : ℕ) (s : Stand) : Type 0 where
   pub some : 0 < length desks
   pub few : length desks ≤ 64
   pub belong : Belong desks s.core.pass s.passes
+  pub within : s.core.pass < places
   pub idle : IsIdle (length desks) s.core
   pub attached : AttachedBy s.passes s.core.at
   pub draws : DrawsFrom seed s.core.pass s.words
@@ -45,3 +51,10 @@ Detaches s t = DetachesAt s.core.at s t
 -- a last Detach, and a core that has done nothing
 abbrev pub Leaves : Stand → Stand → Type 0
 Leaves s t = (m : Side) × Detaches (side_of s) m × (t ≡ stand m.passes (fresh s.core.pass s.core.rooms) s.words)
+
+-- ---- the links of a door
+
+-- Each link that came back, where the door tells them: all that it tells was told in turns of one session, from its first byte to its end, at one of
+-- so many places, which had no session then and whose words come from the stream of its number of this seed.
+abbrev pub AreServed : List ℕ → ℕ → Option (List Returned) → Type 0
+AreServed seed places told = WereServed Turn Leaves (Rests seed places) told

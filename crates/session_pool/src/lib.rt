@@ -1,9 +1,8 @@
 //! A session over a link: its lines become calls in rooms, and what it is answered and what waits for it goes back over the link.
-//! And the workers that serve the links of a door, each in a thread.
+//! And places of such sessions, dealt over workers in threads, which serve the links of a door.
 #![tactic(auto)]
 
 mod door;
-mod gate;
 mod link;
 mod request;
 mod rooms;
@@ -13,7 +12,6 @@ mod take;
 mod turn;
 
 pub use door::serve_door;
-pub use gate::{DoorEnd, Gate, Next, Shift};
 pub use link::serve_link;
 pub use rooms::set_up_rooms;
 pub use sitting::{Hall, Seeded, Sitting};

@@ -18,18 +18,23 @@ use std::alloc::Global;
 use std::marker::{Brand, Model, PhantomData};
 use std::sync::Wait;
 
-/// The seed of a server's words, which proofs alone see.
+/// The seed of a server's words, and how many places it has, which proofs alone see.
 pub trait Seeded {
     ghost use Rattle.std.specs.Prelude.{ℕ, List};
 
     /// The seed.
     ghost seed: { List ℕ };
+
+    /// How many places there are. Their numbers are below it.
+    ghost places: { ℕ };
 }
 
 impl Seeded for Brand {
     ghost use Rattle.std.specs.Prelude.{[]};
 
     ghost seed = { [] };
+
+    ghost places = { 0 };
 }
 
 /// The rooms of a server, which its sessions share.
@@ -117,18 +122,21 @@ impl<'a, K: Seeded> Sitting<'a, K> {
 }
 
 impl<'a, K: Seeded> Service for Sitting<'a, K> {
+    ghost use Rattle.session_pool.specs.Passes.{number_of};
     ghost use Rattle.session_pool.specs.Sittings.{Fits, Leaves, Rests};
     ghost use Rattle.session_pool.specs.Turn.{Turn};
 
     type Hall = Hall<'a>;
 
-    ghost fits = { λ hall s. Fits hall.desks.now K.seed s };
+    ghost fits = { λ hall s. Fits hall.desks.now K.seed K.places s };
 
-    ghost rests = { λ s. Rests K.seed s };
+    ghost rests = { λ s. Rests K.seed K.places s };
 
     ghost turn = { Turn };
 
     ghost leave = { Leaves };
+
+    ghost number = { λ s. number_of s.passes };
 
     fn turn<L: Link, R: Wait>(
         &mut self,

@@ -1,12 +1,16 @@
 //! Matches served over a door in memory, by words.
 
-ghost use Rattle.std.specs.Prelude.{◌≡◌, IfOk, Some, false};
+ghost use Rattle.std.specs.Prelude.{◌≡◌, [], IfOk, Some, false, map, string_bytes, vec_len};
 ghost use Rattle.board_links.specs.Doors.{IsFresh};
+ghost use Rattle.command_words.specs.Serve.{serve_from};
+ghost use Rattle.command_words.specs.declared.serve.ServeWords.{ServeWords as Asked};
 
 use board_commands::serve;
 use board_links::{AtEnd, Door, MemoryDoor, MemoryLink, MemorySink, Scripted};
+use command_words::{WordsNo, serve_words};
 use game_sheet::{List, NoMemory};
 use line_runner::Exit;
+use link_rounds::InTurn;
 use std::alloc::Global;
 use std::process::Abort;
 use std::sync::Wait;
@@ -20,6 +24,13 @@ const JOIN: &[u8] = b"{\"match\":\"0-1\",\"name\":\"ann\",\"seat\":0,\"type\":\"
 
 const LEAVE: &[u8] =
     b"{\"key\":\"da41597c5157488d7724e03fb8d84a37\",\"match\":\"0-1\",\"seat\":0,\"type\":\"leave\"}";
+
+/// Another player, who sits down once the match is there.
+const SECOND: [&[u8]; 3] = [
+    b"",
+    b"",
+    b"{\"match\":\"0-1\",\"name\":\"bob\",\"seat\":1,\"type\":\"join\"}",
+];
 
 /// A run, and what comes of it.
 #[derive(Clone, Copy)]
@@ -48,64 +59,145 @@ const WHOLE: Row = Row {
     printed: b"sessions 2\nroom 0 serial 2 number 0\n",
 };
 
-/// A link that says these lines, and ends.
+/// A link that says these lines, and ends. Where a line is empty it says nothing once.
 fn link(alloc: Global, lines: &[&[u8]]) -> Result<MemoryLink, NoMemory>
     ensures { IfOk result (λ l. IsFresh l.faults l.finished (Some l.answers) (Some l.sent)) }
 {
     let mut script = Vec::new(alloc);
     for line in lines {
-        script.push(Scripted::Line(Vec::from_slice(alloc, line)?))?;
+        if line.is_empty() {
+            script.push(Scripted::Quiet)?;
+        } else {
+            script.push(Scripted::Line(Vec::from_slice(alloc, line)?))?;
+        }
     }
     Ok(MemoryLink::new(alloc, script, AtEnd::Ended, 65_536, List::new(alloc)))
 }
 
-/// A door of two links: of a player who makes a match, sits down and leaves, and of one who makes the next match.
-fn door(alloc: Global, accepts: &[u64]) -> Result<MemoryDoor<MemoryLink>, NoMemory>
+/// A door of two links, of which the last comes first. Its calls of these numbers fail.
+fn door(
+    alloc: Global,
+    first: &[&[u8]],
+    second: &[&[u8]],
+    accepts: &[u64],
+) -> Result<MemoryDoor<MemoryLink>, NoMemory>
     ensures given { IfOk result (λ d. ⟦<MemoryDoor<MemoryLink> as Door>⟧.given d ≡ 0) }
     ensures out { IfOk result (λ d. ⟦<MemoryDoor<MemoryLink> as Door>⟧.out d ≡ 0) }
     ensures shut { IfOk result (λ d. ⟦<MemoryDoor<MemoryLink> as Door>⟧.shut d ≡ false) }
+    ensures returned { IfOk result (λ d. ⟦<MemoryDoor<MemoryLink> as Door>⟧.returned d ≡ Some []) }
 {
     let failing = List::from_slice(alloc, accepts)?;
     let mut links = Vec::new(alloc);
-    links.push(link(alloc, &[CREATE])?)?;
-    links.push(link(alloc, &[CREATE, JOIN, LEAVE])?)?;
+    links.push(link(alloc, first)?)?;
+    links.push(link(alloc, second)?)?;
     MemoryDoor::new(alloc, links, failing)
 }
 
-/// The words of a server with one worker.
-fn words(alloc: Global, rooms: &str, sessions: &str) -> Result<Vec<String>, NoMemory> {
-    let all = [
-        "serve",
-        "--listen",
-        "x",
-        "--workers",
-        "1",
-        "--rooms",
-        rooms,
-        "--sessions",
-        sessions,
-    ];
+/// The words of a server with one worker, and these.
+fn words(alloc: Global, more: &[&str]) -> Result<Vec<String>, NoMemory> {
     let mut words = Vec::new(alloc);
-    for word in all {
+    for word in ["serve", "--listen", "x", "--workers", "1"] {
+        words.push(String::from_str(alloc, word)?)?;
+    }
+    for word in more {
         words.push(String::from_str(alloc, word)?)?;
     }
     Ok(words)
 }
 
-/// Serves as a row says, and compares what comes of it.
+/// For each worker that the words ask for, what names its places in turn.
+fn readies(alloc: Global, words: &[String]) -> Result<Vec<InTurn>, NoMemory>
+    ensures { IfOk result (λ r. (asked : Asked) → serve_from (map string_bytes words.now) ≡ Some asked → vec_len r ≡ asked.workers) }
+{
+    let (workers, links) = match serve_words(alloc, words) {
+        Ok(asked) => {
+            let numbers = (asked.workers, asked.links);
+            drop(asked);
+            numbers
+        }
+        Err(WordsNo::Usage) => (0, 0),
+        Err(WordsNo::NoMemory) => return Err(NoMemory),
+    };
+    let mut readies = Vec::with_capacity(alloc, usize::from(workers))?;
+    for _worker in 0..workers {
+        readies.push_reserved(InTurn::new(u32::from(links)));
+    }
+    Ok(readies)
+}
+
+/// Serves this door as the words say, with a sink whose writes of these numbers fail: how it ends, the door, and what was printed.
+fn served<R: Threads + Wait + Sync>(
+    rt: &R,
+    alloc: Global,
+    words: &[String],
+    door: MemoryDoor<MemoryLink>,
+    writes: &[u64],
+    seed: [u8; 32],
+) -> Result<(Exit, MemoryDoor<MemoryLink>, MemorySink), NoMemory>
+    requires given { ⟦<MemoryDoor<MemoryLink> as Door>⟧.given door ≡ 0 }
+    requires out { ⟦<MemoryDoor<MemoryLink> as Door>⟧.out door ≡ 0 }
+    requires shut { ⟦<MemoryDoor<MemoryLink> as Door>⟧.shut door ≡ false }
+    requires returned { ⟦<MemoryDoor<MemoryLink> as Door>⟧.returned door ≡ Some [] }
+{
+    let mut sink = MemorySink::new(alloc, List::from_slice(alloc, writes)?);
+    let readies = readies(alloc, words)?;
+    let (exit, door, books) = serve(rt, alloc, words, readies, door, &mut sink, seed);
+    drop(books);
+    Ok((exit, door, sink))
+}
+
+/// Serves as a row says, and compares what comes of it: a player makes a match, sits down and leaves, and another makes the next match.
 fn serves<R: Abort + Threads + Wait + Sync>(
     rt: &R,
     alloc: Global,
     row: Row,
 ) -> Result<(), NoMemory> {
-    let words = words(alloc, row.rooms, row.sessions)?;
-    let mut sink = MemorySink::new(alloc, List::from_slice(alloc, row.writes)?);
-    let door = door(alloc, row.accepts)?;
-    let (exit, door, books) = serve(rt, alloc, words.as_slice(), door, &mut sink, [0; 32]);
+    let words = words(alloc, &["--rooms", row.rooms, "--sessions", row.sessions])?;
+    let door = door(alloc, &[CREATE], &[CREATE, JOIN, LEAVE], row.accepts)?;
+    let (exit, door, sink) = served(rt, alloc, words.as_slice(), door, row.writes, [0; 32])?;
     drop(door);
-    drop(books);
     assert_eq!(rt; exit, row.exit);
     assert_eq!(rt; sink.bytes(), row.printed);
+    Ok(())
+}
+
+/// Two players sit down, at a server of so many links and a seed of sevens: whether they are given these keys.
+fn are_given<R: Threads + Wait + Sync>(
+    rt: &R,
+    alloc: Global,
+    links: &str,
+    keys: [&[u8]; 2],
+) -> Result<bool, NoMemory> {
+    let words = words(alloc, &["--links", links])?;
+    let door = door(alloc, &SECOND, &[CREATE, JOIN], &[])?;
+    let (_exit, door, sink) = served(rt, alloc, words.as_slice(), door, &[], [7; 32])?;
+    drop(sink);
+    let mut found = 0u8;
+    for (link, _end) in door.ended() {
+        for key in keys {
+            if link.sent().ends_with(key) && found < 2 {
+                found += 1;
+            }
+        }
+    }
+    drop(door);
+    Ok(found == 2)
+}
+
+/// The keys come from words of the seed behind those of a match's seed; computed by the block function of RFC 8439. One place serves both
+/// sessions from stream 0, one after the other. Of two places the second serves the first, from stream 1.
+#[test]
+fn keys_are_those_of_the_seed_and_the_place(rt: HostRuntime) -> Result<(), Fail> {
+    let one: [&[u8]; 2] = [
+        b"{\"key\":\"45c143dbb9609c22ab855d60925a9976\",\"match\":\"0-1\",\"seat\":0,\"type\":\"joined\"}\n",
+        b"{\"key\":\"03d78a3f20d154abd8ddfa6974eedf6b\",\"match\":\"0-1\",\"seat\":1,\"type\":\"joined\"}\n",
+    ];
+    let two: [&[u8]; 2] = [
+        b"{\"key\":\"610ddbe9b74991a83db22be91939f132\",\"match\":\"0-1\",\"seat\":0,\"type\":\"joined\"}\n",
+        b"{\"key\":\"f400927857aaf64114f561baacb37970\",\"match\":\"0-1\",\"seat\":1,\"type\":\"joined\"}\n",
+    ];
+    assert!(rt; are_given(&rt, rt.alloc(), "1", one)?);
+    assert!(rt; are_given(&rt, rt.alloc(), "2", two)?);
     Ok(())
 }
 

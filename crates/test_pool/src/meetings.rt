@@ -1,11 +1,12 @@
 //! Two links that wait for each other, over a door in memory and two workers.
 
-ghost use Rattle.std.specs.Prelude.{◌≡◌, ◌-◌, false, vec_len, IfOk, Some, None};
+ghost use Rattle.std.specs.Prelude.{◌≡◌, ◌-◌, [], false, vec_len, IfOk, Some, None};
 ghost use Rattle.board_links.specs.Answers.{CameRaises, IsWithin, stage_after};
 
 use board_links::{Came, Door, Link, MemoryDoor, Out, SessionEnd, Stage};
 use game_sheet::{Bytes, List, MatchName, NoMemory, Seat};
-use session_pool::{DoorEnd, serve_door, set_up_rooms};
+use link_rounds::{DoorEnd, InTurn};
+use session_pool::{serve_door, set_up_rooms};
 use std::alloc::Global;
 use std::sync::Wait;
 use std::sync::atomic::{AtomicBool, Ordering};
@@ -98,7 +99,7 @@ impl<'a, R: Clock> Meeting<'a, R> {
 }
 
 /// What a link tells of its end after an answer.
-fn stage_after(answer: &Came, stage: Stage) -> Stage
+pub fn stage_after(answer: &Came, stage: Stage) -> Stage
     ensures { result ≡ stage_after answer.now stage }
 {
     match answer {
@@ -201,6 +202,7 @@ fn door<'a, R: Clock>(
     alloc: Global,
 ) -> Result<MemoryDoor<Meeting<'a, R>>, NoMemory>
     ensures fresh { IfOk result (λ d. (d.start - vec_len d.links ≡ 0) × (d.start - vec_len d.links - vec_len d.ended ≡ 0) × (d.shut ≡ false)) }
+    ensures none_back { IfOk result (λ d. ⟦<MemoryDoor<Meeting<'a, R>> as Door>⟧.returned d ≡ Some []) }
 {
     let mut links = Vec::new(alloc);
     links.push(new_meeting(clock, flags, alloc, true))?;
@@ -220,14 +222,18 @@ fn two_links_that_wait_for_each_other_are_served_by_two_workers(
     };
     let door = door(&rt, &flags, alloc)?;
     let (desks, passes) = set_up_rooms(alloc, 1, 2)?;
+    let mut readies = Vec::with_capacity(alloc, 2)?;
+    readies.push_reserved(InTurn::new(1));
+    readies.push_reserved(InTurn::new(1));
     let (end, count, passes, door) = serve_door(
         &rt,
         alloc,
         desks.as_slice(),
         passes,
+        readies,
+        [0; 32],
         door,
         1000,
-        [0; 32],
     );
     drop(passes);
     drop(desks);

@@ -1,12 +1,12 @@
 //! Links in memory that are served at a bench of two places.
 
-ghost use Rattle.std.specs.Prelude.{◌≡◌, ◌<◌, [], All, Some, IfOk, false, vec_len};
+ghost use Rattle.std.specs.Prelude.{◌≡◌, ◌<◌, ◌≤◌, [], All, Some, IfOk, false, vec_len};
 ghost use Rattle.board_links.specs.Doors.{IsFresh};
 
 use crate::echo::Echo;
 use board_links::{AtEnd, Door, Link, MemoryDoor, MemoryLink, Scripted, SessionEnd};
 use game_sheet::{List, NoMemory};
-use link_rounds::{Bench, DoorEnd, Ready, Service, Stir, serve_door};
+use link_rounds::{Bench, DoorEnd, InTurn, Ready, Service, Stir, serve_door, serve_places};
 use std::alloc::Global;
 use std::sync::Wait;
 use std::test::Fail;
@@ -135,6 +135,56 @@ fn links_are_served_turn_by_turn_and_come_back(rt: HostRuntime) -> Result<(), Fa
     assert!(rt; end == DoorEnd::Done && count == 5);
     for (place, (link, end)) in door.ended().iter().enumerate() {
         assert!(rt; is_answered(link, *end, place), "link {place}");
+    }
+    assert_eq!(rt; door.ended().len(), 5);
+    Ok(())
+}
+
+/// Serves a door with these services, dealt out to two workers, of whom the first has two places.
+fn serve_dealt<S: Service + Send, D: Door + Send, R: Threads + Wait + Sync>(
+    rt: &R,
+    alloc: Global,
+    hall: &S::Hall,
+    services: Vec<S>,
+    door: D,
+) -> Result<(DoorEnd, u32, Vec<S>, D), NoMemory>
+where
+    D::L: Send,
+    S::Hall: Sync,
+    requires enough { 2 ≤ vec_len services }
+    requires few { vec_len services < 4294967296 }
+    requires fit { All (S.fits hall.now) services.items }
+    requires rest { All S.rests services.items }
+    requires fresh { (D.given door ≡ 0) × (D.out door ≡ 0) × (D.bots_out door ≡ 0) × (D.shut door ≡ false) }
+    requires returned { D.returned door ≡ Some [] }
+{
+    let mut readies = Vec::with_capacity(alloc, 2)?;
+    readies.push_reserved(InTurn::new(2));
+    readies.push_reserved(InTurn::new(1));
+    Ok(serve_places(rt, alloc, hall, services, readies, door, 1000))
+}
+
+/// Whether a link that came back ended with its peer, and was sent what one of them said.
+fn is_echoed(link: &MemoryLink, end: SessionEnd) -> bool {
+    for want in ANSWERED {
+        if link.sent() == want {
+            return end == SessionEnd::Ended;
+        }
+    }
+    false
+}
+
+#[test]
+fn services_are_dealt_out_and_come_back(rt: HostRuntime) -> Result<(), Fail> {
+    let alloc = rt.alloc();
+    let mut services = echoes(alloc)?;
+    services.push(Echo::new(alloc))?;
+    let door = door(alloc, &SAID)?;
+    let (end, count, services, door) = serve_dealt(&rt, alloc, &(), services, door)?;
+    assert!(rt; end == DoorEnd::Done && count == 5);
+    assert_eq!(rt; services.len(), 3);
+    for (place, (link, end)) in door.ended().iter().enumerate() {
+        assert!(rt; is_echoed(link, *end), "link {place}");
     }
     assert_eq!(rt; door.ended().len(), 5);
     Ok(())

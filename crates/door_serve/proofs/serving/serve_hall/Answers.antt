@@ -1,7 +1,9 @@
-use Rattle.std.proofs.Common.{◌≡◌, ◌++◌, ◌∙◌, ap, arith, inl, map, subst, sym}
+use Rattle.std.proofs.Common.{◌≡◌, ◌<◌, ◌++◌, ◌∙◌, ap, arith, inl, map, subst, sym}
 use Rattle.std.specs.Prelude.{All}
 use Rattle.board_links.specs.Pieces.{told_bytes}
+use Rattle.session_pool.specs.Passes.{number_of}
 use Rattle.session_pool.specs.Rooms.{numbers}
+use Rattle.session_pool.specs.Sittings.{AreServed}
 use Rattle.door_serve.proofs.Booking.{all_stand, as_many_rooms, numbered}
 use Rattle.door_serve.proofs.Gathering.{handed_back}
 use Rattle.door_serve.proofs.Printing.{by_end}
@@ -14,6 +16,12 @@ pub close_all-requires-clause-rows : goal.close_all-requires-clause-rows
 close_all-requires-clause-rows g c =
     subst (All (λ r. desks_of r.items ≡ map (λ d. d.desk) c.args.desks.items)) (sym c.as_mut_slice.ensures.value)
     (handed_back (λ v. v.items) c.args.desks.items c.args.rows.items c.serve_door-end.result.2.items c.serve_door-end.ensures.handed c.requires.belong)
+
+pub serve_door-end-requires-clause-within : goal.serve_door-end-requires-clause-within
+serve_door-end-requires-clause-within g c = subst (λ n. All (λ p. number_of p.items < n) c.args.rows.items) (sym c.requires.many.1) c.requires.within
+
+pub returns-clause-served : goal.returns-clause-served
+returns-clause-served g c = subst (λ n. AreServed c.args.seed n (g.D.Door.returned c.serve_door-end.result.3)) c.requires.many.1 c.serve_door-end.ensures.served
 
 pub returns-clause-reports : goal.returns-clause-reports
 returns-clause-reports g c tells =

@@ -1,4 +1,4 @@
-use Rattle.std.proofs.Common.{◌∙◌, arith, ap}
+use Rattle.std.proofs.Common.{◌∙◌, arith, ap, map}
 use Rattle.link_rounds.specs.Places.{seated_bots, seated_others}
 use Rattle.link_rounds.proofs.Benches.{written}
 use Rattle.link_rounds.proofs.bench.admit.Goals as goal
@@ -17,4 +17,5 @@ loop-preserved g c =
       c.in-Came.ensures.parts.1,
       omega (arith, c.in-Came.ensures.others, c.sit.ensures.others, others, i.6),
       omega (arith, c.in-Came.ensures.bots, c.sit.ensures.bots, bots, i.7),
+      c.sit.ensures.numbers ∙ (ap (map (λ p. g.S.Service.number p.service)) c.as_mut_slice.ensures.value ∙ i.8),
     )

@@ -1,7 +1,7 @@
-use Rattle.std.proofs.Common.{◌≡◌, ◌∙◌, false, is_some}
+use Rattle.std.proofs.Common.{◌≡◌, ◌∙◌, ap, false, is_some, map}
 use Rattle.std.specs.Prelude.{All}
 use Rattle.link_rounds.specs.Places.{Sits, about}
-use Rattle.link_rounds.proofs.Workers.{handed, written_all}
+use Rattle.link_rounds.proofs.Workers.{handed, handed_map, written_all}
 use Rattle.link_rounds.proofs.serving.serve_by.Goals as goal
 
 pub dismiss-requires-clause-parts : goal.dismiss-requires-clause-parts
@@ -15,3 +15,8 @@ returns-clause-sit g c = handed (λ b. All (Sits g.S.Service.turn g.S.Service.le
 
 pub returns-clause-free : goal.returns-clause-free
 returns-clause-free g c = handed (λ b. All (λ p. is_some p.link ≡ false) b.places.items) (λ w. w.bench) c.args.workers.len c.args.workers.items c.run_all.new.workers _ (c.run_all.ensures.many ∙ c.as_mut_slice.ensures.len) c.run_all.ensures.free c.dismiss.ensures.back
+
+pub returns-clause-numbers : goal.returns-clause-numbers
+returns-clause-numbers g c =
+    handed_map (λ b. map (λ p. g.S.Service.number p.service) b.places.items) (λ w. w.bench) c.args.workers.len c.args.workers.items c.run_all.new.workers _ (c.run_all.ensures.many ∙ c.as_mut_slice.ensures.len) c.dismiss.ensures.back
+    ∙ (c.run_all.ensures.numbers ∙ ap (map (λ w. map (λ p. g.S.Service.number p.service) w.bench.places.items)) c.as_mut_slice.ensures.value)

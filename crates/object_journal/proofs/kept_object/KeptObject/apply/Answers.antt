@@ -1,35 +1,21 @@
-use Rattle.std.proofs.Common.{rules, ◌≡◌, ◌∷◌, Some, true, false, [], ◌∙◌}
-use Rattle.room_object.specs.Entry.{entry}
-use Rattle.object_journal.specs.Keeping.{Adds, HasEither}
-use Rattle.record_file.specs.Records.{IsBeforeOrAfter}
-use Rattle.record_file.proofs.Composing.{weaker}
-use Rattle.object_journal.proofs.Either.{either, was_accepted}
+use Rattle.std.proofs.Common.{rules, ◌≡◌, ℕ, List, Option, None, subst}
+use Rattle.room_object.specs.Entry.{Entry}
+use Rattle.object_journal.specs.Keeping.{IsUnlessKept}
+use Rattle.object_journal.proofs.Usable.{usable_after}
 use Rattle.object_journal.proofs.kept_object.KeptObject.apply.Goals as goal
 
-pub returns-in-Done-clause-crash : goal.returns-in-Done-clause-crash
-returns-in-Done-clause-crash g c h k =
-    let n = g.O.Object.number c.args.self.now.object in
-    let records = g.O.Recorded.records n in
-    let reply = g.O.Object.reply n in
-    let o = g.O.Recorded.payload_of n h c.args.pass c.args.call in
-    let adds : Adds o records reply g.O.Recorded.is_accepted h c.args.pass c.args.call (Some c.in-Ok-Some.frame) = rw c.in-Ok-Some.field-0-is at (c.in-Ok-Some.ensures h k.stands) in
-    let said : c.accepted.result ≡ true = search rules in
-    let good = was_accepted g.O.Object.is_starved g.O.Recorded.is_accepted (λ s. reply h (entry c.args.pass c.args.call s)) c.apply-reply-in-Ok-Some.result c.starved-in-Ok-Some.result c.accepted.result
-    (c.apply-reply-in-Ok-Some.ensures.answered h k.stands) c.starved-in-Ok-Some.ensures c.if-starved-2.false c.accepted.ensures said in
-    weaker g.D.Disk.moment g.D.Disk.left_since c.args.self.now.file.disk c.append.new.self.disk (IsBeforeOrAfter (records h) (adds.payload ∷ [])) (HasEither (records h) (records (entry c.args.pass c.args.call false ∷ h)))
-    (either o records reply g.O.Recorded.is_accepted h c.args.pass c.args.call adds.payload adds.adds good)
-    (c.append.ensures.any_moment (records h) adds.payload k.settled (c.deref.ensures.value ∙ adds.is))
+pub returns-in-Ok-None-clause-usable : goal.returns-in-Ok-None-clause-usable
+returns-in-Ok-None-clause-usable g c =
+    let object = c.args.self.now.object in
+    let none : c.args.self.now.broken ≡ None = search rules in
+    let stands = subst (λ (o : Option ℕ). IsUnlessKept o ((h : List (Entry g.row.O-Call.Denot)) × g.O.Object.stands_for object h)) none c.requires.stands in
+    usable_after g.O.Object.stands_for (g.O.Object.reply (g.O.Object.number object)) g.O.Object.is_starved g.O.Recorded.is_accepted object c.answer.new.self.object
+    stands.0 c.args.pass c.args.call c.answer.result _ _ _ _ _ none stands.1 (c.answer.ensures.stands stands.0 stands.1) c.answer.ensures.breaks c.answer.ensures.broken
 
-pub returns-clause-crash : goal.returns-clause-crash
-returns-clause-crash g c h k =
-    let n = g.O.Object.number c.args.self.now.object in
-    let records = g.O.Recorded.records n in
-    let reply = g.O.Object.reply n in
-    let o = g.O.Recorded.payload_of n h c.args.pass c.args.call in
-    let adds : Adds o records reply g.O.Recorded.is_accepted h c.args.pass c.args.call (Some c.in-Ok-Some.frame) = rw c.in-Ok-Some.field-0-is at (c.in-Ok-Some.ensures h k.stands) in
-    let said : c.accepted.result ≡ true = search rules in
-    let good = was_accepted g.O.Object.is_starved g.O.Recorded.is_accepted (λ s. reply h (entry c.args.pass c.args.call s)) c.apply-reply-in-Ok-Some.result c.starved-in-Ok-Some.result c.accepted.result
-    (c.apply-reply-in-Ok-Some.ensures.answered h k.stands) c.starved-in-Ok-Some.ensures c.if-starved-2.false c.accepted.ensures said in
-    weaker g.D.Disk.moment g.D.Disk.left_since c.args.self.now.file.disk c.append.new.self.disk (IsBeforeOrAfter (records h) (adds.payload ∷ [])) (HasEither (records h) (records (entry c.args.pass c.args.call false ∷ h)))
-    (either o records reply g.O.Recorded.is_accepted h c.args.pass c.args.call adds.payload adds.adds good)
-    (c.append.ensures.any_moment (records h) adds.payload k.settled (c.deref.ensures.value ∙ adds.is))
+pub returns-in-Ok-Some-clause-usable : goal.returns-in-Ok-Some-clause-usable
+returns-in-Ok-Some-clause-usable g c =
+    let object = c.args.self.now.object in
+    let none : c.args.self.now.broken ≡ None = search rules in
+    let stands = subst (λ (o : Option ℕ). IsUnlessKept o ((h : List (Entry g.row.O-Call.Denot)) × g.O.Object.stands_for object h)) none c.requires.stands in
+    usable_after g.O.Object.stands_for (g.O.Object.reply (g.O.Object.number object)) g.O.Object.is_starved g.O.Recorded.is_accepted object c.keep.new.self.object
+    stands.0 c.args.pass c.args.call c.keep.result _ _ _ _ _ none stands.1 (c.keep.ensures.stands stands.0 stands.1) c.keep.ensures.breaks c.keep.ensures.broken

@@ -1,0 +1,9 @@
+use Rattle.std.proofs.Common.{◌∙◌, ap, sym}
+use Rattle.board_server.proofs.Words.{same_words}
+use Rattle.board_server.proofs.edge.serve_there.Goals as goal
+
+pub serve_sockets-requires : goal.serve_sockets-requires
+serve_sockets-requires g c other said = ap (λ asked. asked.workers) (same_words other c.in-Ok.asked (sym said ∙ c.in-Ok.ensures.asked))
+
+pub serve_at-requires-clause-workers : goal.serve_at-requires-clause-workers
+serve_at-requires-clause-workers g c other said = c.in-Ok-open.ensures.workers ∙ ap (λ asked. asked.workers) (same_words c.in-Ok.asked other (sym c.in-Ok.ensures.asked ∙ said))

@@ -1,0 +1,97 @@
+-- Places of sessions: what holds of each, as they are made from passes and taken apart again.
+use Rattle.std.proofs.Common.{◌≡◌, ◌<◌, ◌+◌, refl, ℕ, zero, List, [], ◌∷◌, ◌++◌, map, length, ap, sym, ◌∙◌, subst, arith, slice_index_or, Option, Some, None}
+use Rattle.std.specs.Prelude.{All, IfSome, drop, suc, take}
+use Rattle.std.proofs.lemmas.List.{append_assoc, get_or-map, length-map, map-append, take_at}
+use Rattle.std.proofs.lemmas.List.Elements.{All-append, All-map}
+use Rattle.board_links.specs.Doors.{Returned}
+use Rattle.room_desk.specs.History.{SetUp}
+use Rattle.session_pool.specs.Passes.{Pass, dealt_by, number_of, unseen}
+use Rattle.session_pool.specs.Placed.{AttachedBy}
+use Rattle.session_pool.specs.Sittings.{AreServed, Fits, Rests}
+use Rattle.session_pool.specs.Turn.{Stand}
+use Rattle.session_pool.proofs.Passes.{number_is}
+
+pub all_next : {X : Type 0} (P : X → Type 0) (xs ys : List X) (x : X) → xs ≡ x ∷ ys → All P xs → P x × All P ys
+all_next P xs ys x e all =
+    let here = subst (All P) e all in
+    (here 0 x (omega arith), λ k d low. here (suc k) d (omega arith))
+
+all_one : {X : Type 0} (P : X → Type 0) (x : X) → P x → All P (x ∷ [])
+all_one P x here zero d low = here
+all_one P x here (suc k) d low = absurd (omega arith)
+
+pub all_more : {X : Type 0} (P : X → Type 0) (xs after : List X) (x : X) → after ≡ xs ++ x ∷ [] → All P xs → P x → All P after
+all_more P xs after x push all here = subst (All P) (sym push) (All-append P xs (x ∷ []) all (all_one P x here))
+
+-- what a call wrote over a whole list
+pub written : {X : Type 0} (n : ℕ) (xs ys : List X) → length ys ≡ n → take n (ys ++ drop (length ys) xs) ≡ ys
+written n xs ys len = take_at ys (drop (length ys) xs) n len
+
+-- one more that was taken from those still to come, by what both have
+pub moved_on : {X Y Z : Type 0} (f : X → Z) (g : Y → Z) (done after : List X) (x : X) (coming rest : List Y) (y : Y) (all : List Z) → after ≡ done ++ x ∷ [] → coming ≡ y ∷ rest → f x ≡ g y
+    → map f done ++ map g coming ≡ all → map f after ++ map g rest ≡ all
+moved_on f g done after x coming rest y all push e same is =
+    ap (λ m. map f m ++ map g rest) push
+    ∙ (ap (λ m. m ++ map g rest) (map-append f done (x ∷ []))
+    ∙ (append_assoc (map f done) (f x ∷ []) (map g rest)
+    ∙ (ap (λ z. map f done ++ z ∷ map g rest) same ∙ (ap (λ z. map f done ++ map g z) (sym e) ∙ is))))
+
+-- lists of which each place gives the same are the same
+same_map : {X Y : Type 0} (f : X → Y) (xs ys : List X) → length xs ≡ length ys → ((k : ℕ) (d : X) → k < length xs → f (slice_index_or ys k d) ≡ f (slice_index_or xs k d)) → map f ys ≡ map f xs
+same_map f [] [] e h = refl
+same_map f [] (y ∷ ys) e h = absurd (omega (arith, e))
+same_map f (x ∷ xs) [] e h = absurd (omega (arith, e))
+same_map f (x ∷ xs) (y ∷ ys) e h =
+    let first : f y ≡ f x = h 0 x (omega arith) in
+    let more = same_map f xs ys (omega (arith, e)) (λ k d low. h (suc k) d (omega (arith, low))) in
+    ap (λ a. a ∷ map f ys) first ∙ ap (λ l. f x ∷ l) more
+
+map_both : {X Y Z : Type 0} (f : X → Y) (g : Y → Z) (xs : List X) → map g (map f xs) ≡ map (λ x. g (f x)) xs
+map_both f g [] = refl
+map_both f g (x ∷ xs) = ap (λ l. g (f x) ∷ l) (map_both f g xs)
+
+-- what is made of what both have is the same
+pub through : {X Y Z W : Type 0} (f : X → Y) (g : Z → Y) (h : Y → W) (xs : List X) (zs : List Z) → map f xs ≡ map g zs → map (λ x. h (f x)) xs ≡ map (λ z. h (g z)) zs
+through f g h xs zs e = sym (map_both f h xs) ∙ (ap (map h) e ∙ map_both g h zs)
+
+pub as_many_mapped : {X Y Z : Type 0} (f : X → Y) (g : Z → Y) (xs : List X) (zs : List Z) → map f xs ≡ map g zs → length xs ≡ length zs
+as_many_mapped f g xs zs e = let l = ap length e in let m = length-map xs f in let n = length-map zs g in omega (arith, l, m, n)
+
+-- the passes of a place are those of its number
+passes_of : (desks : List SetUp) (seed : List ℕ) (places : ℕ) (s : Stand) → Fits desks seed places s → map unseen s.passes ≡ map (dealt_by (number_of s.passes)) desks
+passes_of desks seed places s fit =
+    fit.belong ∙ ap (λ n. map (dealt_by n) desks) (sym (number_is desks s.core.pass s.passes fit.some fit.belong))
+
+-- places of the same numbers have the same passes, whatever these have seen
+pub same_passes : (desks : List SetUp) (seed : List ℕ) (places : ℕ) (before after : List Stand) → map (λ s. number_of s.passes) after ≡ map (λ s. number_of s.passes) before
+    → All (Fits desks seed places) before → All (Fits desks seed places) after → map (λ s. map unseen s.passes) after ≡ map (λ s. map unseen s.passes) before
+same_passes desks seed places before after e fit fits =
+    let number : Stand → ℕ = λ s. number_of s.passes in
+    let many = as_many_mapped number number after before e in
+    same_map (λ s. map unseen s.passes) before after (sym many) (λ k d low.
+    let there : k < length after = omega (arith, low, many) in
+    let same : number (slice_index_or after k d) ≡ number (slice_index_or before k d) =
+    sym (get_or-map number after k d (number d) there) ∙ (ap (λ l. slice_index_or l k (number d)) e ∙ get_or-map number before k d (number d) low) in
+    passes_of desks seed places (slice_index_or after k d) (fits k d there)
+    ∙ (ap (λ n. map (dealt_by n) desks) same ∙ sym (passes_of desks seed places (slice_index_or before k d) (fit k d low))))
+
+-- at a place without a session no pass is attached
+free_at : (desks : List SetUp) (seed : List ℕ) (places : ℕ) (s : Stand) → Fits desks seed places s → Rests seed places s → AttachedBy s.passes None
+free_at desks seed places s fit rest = subst (AttachedBy s.passes) (ap (λ c. c.at) rest.fresh_is) fit.attached
+
+pub all_of_map : {X Y : Type 0} (P : Y → Type 0) (f : X → Y) (xs : List X) (ys : List Y) → map f xs ≡ ys → All P ys → All (λ x. P (f x)) xs
+all_of_map P f xs ys e all k d low =
+    let many = length-map xs f in
+    let len = ap length e in
+    subst P (ap (λ z. slice_index_or z k (f d)) (sym e) ∙ get_or-map f xs k d (f d) low) (all k (f d) (omega arith))
+
+pub all_free : {V : Type 0} (items : V → List Pass) (desks : List SetUp) (seed : List ℕ) (places : ℕ) (sittings : List Stand) (back : List V) → map items back ≡ map (λ s. s.passes) sittings
+    → All (Fits desks seed places) sittings → All (Rests seed places) sittings → All (λ v. AttachedBy (items v) None) back
+all_free items desks seed places sittings back e fit rest =
+    all_of_map (λ p. AttachedBy p None) items back (map (λ s. s.passes) sittings) e
+    (All-map (λ p. AttachedBy p None) (λ s. s.passes) sittings (λ k d low. free_at desks seed places (slice_index_or sittings k d) (fit k d low) (rest k d low)))
+
+-- a door that tells of no link that came back
+pub none_served : (seed : List ℕ) (places : ℕ) (told : Option (List Returned)) → IfSome told (λ links. links ≡ []) → AreServed seed places told
+none_served seed places None none = tt
+none_served seed places (Some links) none = subst (λ l. AreServed seed places (Some l)) (sym none) (λ k d low. absurd (omega arith))
