@@ -29,7 +29,7 @@ asked_of text = asked_by (text_read text)
 
 -- the act of a move by its name, with arguments as the items of an array
 abbrev pub move_text : List ℕ → List ℕ → List ℕ
-move_text name args = codes "{\"args\":[" ++ (args ++ (codes "],\"kind\":\"move\",\"move\":\"" ++ (name ++ codes "\"}")))
+move_text name args = (((codes "{\"args\":[" ++ args) ++ codes "],\"kind\":\"move\",\"move\":\"") ++ name) ++ codes "\"}"
 
 -- the name stands before the first blank, the arguments behind it
 abbrev pub move_at : List ℕ → Option ℕ → List ℕ
@@ -42,7 +42,7 @@ move_in_short line =
     else None
 
 -- the act that a line says in short
-abbrev pub act_in_short : List ℕ → Option (List ℕ)
+unfoldable pub act_in_short : List ℕ → Option (List ℕ)
 act_in_short line =
     if bytes_eq line (codes "end turn") then Some (codes "{\"event\":\"endTurn\",\"kind\":\"event\",\"to\":null}")
     else if bytes_eq line (codes "end stage") then Some (codes "{\"event\":\"endStage\",\"kind\":\"event\",\"to\":null}")

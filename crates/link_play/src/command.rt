@@ -1,6 +1,6 @@
 //! The commands that the lines of a source ask for.
 
-ghost use Rattle.std.specs.Prelude.{◌≡◌, ◌==◌, IfNone, IfOk, IfSome, Some, option_map, position};
+ghost use Rattle.std.specs.Prelude.{◌≡◌, ◌==◌, ◌<◌, IfNone, IfOk, IfSome, Some, length, option_map, position};
 ghost use Rattle.link_play.specs.Commands.{Acts, act_in_short, acts_in_short, asked_of, by_words, command_is, command_of, move_at, move_in_short, move_text};
 ghost use Rattle.link_play.specs.Asking.{MayAsk};
 ghost use Rattle.wire_json.specs.Asking.{IsAskable};
@@ -63,6 +63,7 @@ fn by_words(alloc: Global, line: &[u8]) -> Result<Option<Command>, NoMemory>
 }
 
 /// The action that a line says in short.
+#[tactic(auto, unfolding(crate::specs::Commands::act_in_short))]
 fn in_short(alloc: Global, line: &[u8]) -> Result<Option<Command>, NoMemory>
     ensures command { IfOk result (λ c. option_map command_is c ≡ acts_in_short (act_in_short line.now)) }
     ensures askable { IfOk result (λ c. IfSome c MayAsk) }
@@ -80,8 +81,9 @@ fn in_short(alloc: Global, line: &[u8]) -> Result<Option<Command>, NoMemory>
 }
 
 /// The act of a line that is an event, `undo` or `redo`.
+#[tactic(auto, unfolding(crate::specs::Commands::act_in_short))]
 fn word_in_short(line: &[u8]) -> Option<&'static [u8]>
-    ensures { IfSome result (λ text. act_in_short line.now ≡ Some text.now) }
+    ensures short { IfSome result (λ text. act_in_short line.now ≡ Some text.now) }
     ensures none { IfNone result (act_in_short line.now ≡ move_in_short line.now) }
 {
     if line == b"end turn".as_slice() {
@@ -103,10 +105,18 @@ fn word_in_short(line: &[u8]) -> Option<&'static [u8]>
 fn text_of_move(alloc: Global, text: &[u8]) -> Result<Vec<u8>, NoMemory>
     ensures { IfOk result (λ act. act.items ≡ move_at text.now (position (λ b. b == 32) text.now)) }
 {
-    match text.iter().position(|byte| *byte == b' ') {
+    match blank(text) {
         Some(place) => move_act(alloc, &text[..place], &text[place + 1..]),
         None => move_act(alloc, text, &[]),
     }
+}
+
+/// Where the first blank stands.
+fn blank(text: &[u8]) -> Option<usize>
+    ensures value { result ≡ position (λ b. b == 32) text.now }
+    ensures within { IfSome result (λ place. place < length text.now) }
+{
+    text.iter().position(|byte| *byte == b' ')
 }
 
 /// The act of a move of this name with these arguments.
