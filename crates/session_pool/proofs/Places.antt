@@ -1,7 +1,7 @@
 -- Places of sessions: what holds of each, as they are made from passes and taken apart again.
 use Rattle.std.proofs.Common.{◌≡◌, ◌<◌, ◌+◌, refl, ℕ, zero, List, [], ◌∷◌, ◌++◌, map, length, ap, sym, ◌∙◌, subst, arith, slice_index_or, Option, Some, None}
 use Rattle.std.specs.Prelude.{All, IfSome, drop, suc, take}
-use Rattle.std.proofs.lemmas.List.{append_assoc, get_or-map, length-map, map-append, take_at}
+use Rattle.std.proofs.lemmas.List.{append-nil, append_assoc, get_or-map, length-map, map-append, nil_from_length, take_at}
 use Rattle.std.proofs.lemmas.List.Elements.{All-append, All-map}
 use Rattle.board_links.specs.Doors.{Returned}
 use Rattle.room_desk.specs.History.{SetUp}
@@ -35,6 +35,10 @@ moved_on f g done after x coming rest y all push e same is =
     ∙ (ap (λ m. m ++ map g rest) (map-append f done (x ∷ []))
     ∙ (append_assoc (map f done) (f x ∷ []) (map g rest)
     ∙ (ap (λ z. map f done ++ z ∷ map g rest) same ∙ (ap (λ z. map f done ++ map g z) (sym e) ∙ is))))
+
+-- once none is to come, all were moved
+pub all_moved : {X Y Z : Type 0} (f : X → Z) (g : Y → Z) (done : List X) (coming : List Y) (all : List Z) → length coming ≡ 0 → map f done ++ map g coming ≡ all → map f done ≡ all
+all_moved f g done coming all none is = sym (append-nil (map f done)) ∙ (ap (λ l. map f done ++ map g l) (sym (nil_from_length coming none)) ∙ is)
 
 -- lists of which each place gives the same are the same
 same_map : {X Y : Type 0} (f : X → Y) (xs ys : List X) → length xs ≡ length ys → ((k : ℕ) (d : X) → k < length xs → f (slice_index_or ys k d) ≡ f (slice_index_or xs k d)) → map f ys ≡ map f xs

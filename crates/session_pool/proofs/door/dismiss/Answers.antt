@@ -1,5 +1,5 @@
 use Rattle.std.proofs.Common.{arith, ap, length}
-use Rattle.session_pool.proofs.Places.{moved_on}
+use Rattle.session_pool.proofs.Places.{all_moved, moved_on}
 use Rattle.session_pool.proofs.door.dismiss.Goals as goal
 
 pub loop-sitting-preserved : goal.loop-sitting-preserved
@@ -12,3 +12,6 @@ loop-sitting-preserved g c =
       moved_on (λ p. p.items) (λ s. s.passes) _ _ _ _ _ _ _ c.push_reserved.ensures.items e c.into_passes.ensures i.2,
       omega (arith, n, i.3, c.push_reserved.ensures.len, c.push_reserved.ensures.capacity),
     )
+
+pub returns : goal.returns
+returns g c = record { back = all_moved (λ p. p.items) (λ s. s.passes) _ _ _ (omega (arith, c.in-None.ensures.steps.0, c.loop-sitting.sitting-iterator.rest.ok.0)) c.loop-sitting.invariant.2 }

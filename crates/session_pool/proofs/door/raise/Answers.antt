@@ -2,7 +2,7 @@ use Rattle.std.proofs.Common.{◌<◌, arith, ap, length, None}
 use Rattle.session_pool.specs.Passes.{Belong, number_of}
 use Rattle.session_pool.specs.Placed.{AttachedBy}
 use Rattle.session_pool.specs.Sittings.{Fits, Rests}
-use Rattle.session_pool.proofs.Places.{all_more, all_next, moved_on}
+use Rattle.session_pool.proofs.Places.{all_more, all_moved, all_next, moved_on}
 use Rattle.session_pool.proofs.door.raise.Goals as goal
 
 pub rise-requires-clause-belong : goal.rise-requires-clause-belong
@@ -31,3 +31,6 @@ loop-passes-preserved g c =
       omega (arith, n, i.8, c.push_reserved.ensures.len, c.push_reserved.ensures.capacity),
       omega (arith, n, i.9, c.push_reserved.ensures.len),
     )
+
+pub returns-clause-passes : goal.returns-clause-passes
+returns-clause-passes g c = all_moved (λ x. x.passes) (λ p. p.items) _ _ _ (omega (arith, c.in-None.ensures.steps.0, c.loop-passes.passes-iterator.rest.ok.0)) c.loop-passes.invariant.7
