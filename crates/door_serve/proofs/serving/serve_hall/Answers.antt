@@ -18,7 +18,7 @@ close_all-requires-clause-rows g c =
     (handed_back (λ v. v.items) c.args.desks.items c.args.rows.items c.serve_door-end.result.2.items c.serve_door-end.ensures.handed c.requires.belong)
 
 pub serve_door-end-requires-clause-within : goal.serve_door-end-requires-clause-within
-serve_door-end-requires-clause-within g c = subst (λ n. All (λ p. number_of p.items < n) c.args.rows.items) (sym c.requires.many.1) c.requires.within
+serve_door-end-requires-clause-within g c κs inside = subst (λ n. All (λ p. number_of p.items < n) c.args.rows.items) (sym c.requires.many.1) c.requires.within
 
 pub returns-clause-served : goal.returns-clause-served
 returns-clause-served g c = subst (λ n. AreServed c.args.seed n (g.D.Door.returned c.serve_door-end.result.3)) c.requires.many.1 c.serve_door-end.ensures.served
