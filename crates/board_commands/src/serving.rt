@@ -1,6 +1,6 @@
 //! Serves matches, as the words of `serve` ask for.
 
-ghost use Rattle.std.specs.Prelude.{◌≡◌, ◌≤◌, ◌<◌, IfSome, IsSome, None, Some, [], false, map, string_bytes};
+ghost use Rattle.std.specs.Prelude.{◌≡◌, ◌≤◌, ◌<◌, IfSome, IsSome, None, Some, [], false, map, string_bytes, vec_len};
 ghost use Rattle.board_links.specs.Faults.{HasRisen};
 ghost use Rattle.command_words.specs.Serve.{serve_from};
 ghost use Rattle.command_words.specs.declared.serve.ServeWords.{ServeWords as Asked};

@@ -2,7 +2,7 @@ use Rattle.session_pool.proofs.Places.{none_served}
 use Rattle.board_commands.proofs.serving.serve.Goals as goal
 
 pub serve_asked-requires-clause-readies : goal.serve_asked-requires-clause-readies
-serve_asked-requires-clause-readies g c = c.requires.workers c.in-Ok.asked c.in-Ok.ensures.asked
+serve_asked-requires-clause-readies g c κs inside = c.requires.workers c.in-Ok.asked c.in-Ok.ensures.asked
 
 pub returns-in-Err-Usage-clause-served : goal.returns-in-Err-Usage-clause-served
 returns-in-Err-Usage-clause-served g c asked said = none_served c.args.seed asked.links (g.D.Door.returned c.args.door) c.requires.none_back
