@@ -1,5 +1,5 @@
 use Rattle.std.proofs.Common.{◌∙◌, ap, sym}
-use Rattle.board_server.proofs.Words.{same_words}
+use Rattle.board_server.proofs.Workers.{same_words}
 use Rattle.board_server.proofs.edge.serve_there.Goals as goal
 
 pub serve_sockets-requires : goal.serve_sockets-requires
