@@ -1,9 +1,11 @@
-use Rattle.std.proofs.Common.{◌∙◌, ap, sym}
+use Rattle.std.proofs.Common.{◌≡◌, ◌∙◌, ap, arith, rules, sym}
 use Rattle.board_server.proofs.Workers.{same_words}
 use Rattle.board_server.proofs.edge.serve_there.Goals as goal
 
 pub serve_sockets-requires : goal.serve_sockets-requires
-serve_sockets-requires g c other said = ap (λ asked. asked.workers) (same_words other c.in-Ok.asked (sym said ∙ c.in-Ok.ensures.asked))
+serve_sockets-requires g c = (search rules, λ other said. ap (λ asked. asked.workers) (same_words other c.in-Ok.asked (sym said ∙ c.in-Ok.ensures.asked)))
 
 pub serve_at-requires-clause-workers : goal.serve_at-requires-clause-workers
-serve_at-requires-clause-workers g c other said = c.in-Ok-open.ensures.workers ∙ ap (λ asked. asked.workers) (same_words c.in-Ok.asked other (sym c.in-Ok.ensures.asked ∙ said))
+serve_at-requires-clause-workers g c κs inside other said =
+    let same = ap (λ asked. asked.workers) (same_words c.in-Ok.asked other (sym c.in-Ok.ensures.asked ∙ said)) in
+    omega (arith, c.in-Ok-opened.ensures.workers, c.from.ensures, same)
