@@ -289,7 +289,7 @@ impl<'a, R: Clock> Link for Guest<'a, R> {
 }
 
 /// A guest who says this first.
-fn guest<'a, R: Clock>(clock: &'a R, told: &'a Told, alloc: Global, next: Next) -> Guest<'a, R>
+fn new_guest<'a, R: Clock>(clock: &'a R, told: &'a Told, alloc: Global, next: Next) -> Guest<'a, R>
     ensures { result.finished ≡ None }
 {
     Guest {
@@ -314,8 +314,8 @@ fn door<'a, R: Clock>(
     ensures returned { IfOk result (λ d. ⟦<MemoryDoor<Guest<'a, R>> as Door>⟧.returned d ≡ Some []) }
 {
     let mut links = Vec::new(alloc);
-    links.push(guest(clock, told, alloc, Next::Watch))?;
-    links.push(guest(clock, told, alloc, Next::Create))?;
+    links.push(new_guest(clock, told, alloc, Next::Watch))?;
+    links.push(new_guest(clock, told, alloc, Next::Create))?;
     MemoryDoor::new(alloc, links, List::new(alloc))
 }
 
