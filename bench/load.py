@@ -3,8 +3,8 @@
 
   load.py latency PROGRAM SESSIONS SECONDS [-- WORDS]  Rooms of up to 32 sessions, a player and spectators. In each room the player boasts
                                                        every 400 ms. Prints how long it took until the others had the update.
-  load.py speed PROGRAM SESSIONS ACTS [-- WORDS]       So many players make so many actions each, every one as soon as the verdict on the
-                                                       last one came. Prints how many actions a second were answered.
+  load.py speed PROGRAM SESSIONS ACTS [-- WORDS]       So many players make so many actions each, two to four in a match, every one as soon
+                                                       as the verdict on the last one came. Prints how many actions a second were answered.
   load.py rest PROGRAM SESSIONS SECONDS [-- WORDS]     So many sessions that look on and say nothing. Prints the processor time that the
                                                        server took meanwhile, and its memory a session.
   load.py crowd PROGRAM CONNECTIONS FILES [-- WORDS]   So many connections to a server that may have so many files open. When those that it
@@ -182,11 +182,13 @@ def speed(program, sessions, acts, words):
     server = Server(program, words)
     host = Session(server.address)
     players = []
+    # There are 64 rooms at most.
+    seats = max(2, (sessions + 63) // 64)
     for place in range(sessions):
-        if place % 2 == 0:
-            match = host.ask(type="create", game="blind-bid", seats=2)["match"]
-        key = host.ask(type="join", match=match, seat=place % 2, name="ann")["key"]
-        players.append((match, place % 2, key))
+        if place % seats == 0:
+            match = host.ask(type="create", game="blind-bid", seats=seats)["match"]
+        key = host.ask(type="join", match=match, seat=place % seats, name="ann")["key"]
+        players.append((match, place % seats, key))
     host.close()
     # As many clients as leave the server processors of its own.
     clients = max(1, min(sessions, (os.cpu_count() or 2) // 2))
