@@ -15,10 +15,11 @@ demo: program
 	@cd crates/board_server && for script in ../../examples/*.script; do rt run -- script <$$script || exit; done
 	@cd crates/board_server && for world in ../../examples/*.world; do rt run -- world <$$world || exit; done
 
-# Serves matches at an address, until a million sessions are over.
+# Serves matches at an address, to so many sessions at once, until a million sessions are over.
 LISTEN ?= 127.0.0.1:7000
+LINKS ?= 256
 serve: program
-	@cd crates/board_server && rt run -- serve --listen $(LISTEN)
+	@cd crates/board_server && rt run -- serve --listen $(LISTEN) --links $(LINKS)
 
 # Proves and tests everything: the gate.
 test:
