@@ -1,27 +1,28 @@
 //! Where the program meets the system: standard input and output, sockets, and the words for seeds. `rt` is the system; `leave` is the leave to
 //! wait and to start threads, which `main` is given.
 
-ghost use Rattle.std.specs.Prelude.{◌≡◌, [], IfOk, IfSome, Some, false, map, string_bytes, vec_len};
+ghost use Rattle.std.specs.Prelude.{◌≡◌, [], IfSome, Some, false, map, string_bytes, vec_len};
 ghost use Rattle.command_words.specs.Serve.{serve_from};
 ghost use Rattle.command_words.specs.declared.serve.ServeWords.{ServeWords as Asked};
 
 use crate::outspoken::Outspoken;
 use board_commands::{play, print_page, run, serve};
 use board_links::{Door, ReaderSource, WriterSink};
-use command_words::{WordsNo, play_words, serve_words};
+use command_words::{ServeWords, WordsNo, play_words, serve_words};
+use game_sheet::{NoMemory, Text};
 use line_runner::Exit;
-use link_rounds::{InTurn, Ready};
+use link_rounds::Ready;
 use poll_links::open;
-use std::alloc::{AllocError, Global};
+use std::alloc::Global;
 use std::fs::File;
 use std::io::{self, Read};
 use std::mem;
 use std::net::SocketAddr;
 use std::os::fd::AsRawFd;
-use std::sync::Wait;
+use std::sync::{Arc, Wait};
 use std::thread::Threads;
 use tcp_links::TcpLink;
-use ws_link::{TcpStreamDoor, WsDoor};
+use ws_link::{PollStreams, WsDoor};
 
 /// Opens the null device where standard input, output or error is closed, so that no socket takes its place and is read or written for it.
 /// What is closed still fails: as standard input it can't be read, and as the others it can't be written.
@@ -97,21 +98,30 @@ pub fn serve_there<R: Threads + Wait + Sync>(
         Ok(asked) => asked,
         Err(no) => return refused(no),
     };
-    let addr = asked.listen.as_str().parse::<SocketAddr>();
-    let (workers, links, sessions) = (asked.workers, asked.links, asked.sessions);
-    let ws = asked.ws;
-    drop(asked);
+    let ServeWords {
+        listen,
+        rooms: _,
+        workers,
+        links,
+        sessions,
+        silence,
+        origin,
+        ws,
+    } = asked;
+    let addr = listen.as_str().parse::<SocketAddr>();
+    drop(listen);
+    let Ok(origin) = shared(rt.alloc(), origin) else {
+        return Exit::NoMemory;
+    };
     let Ok(addr) = addr else {
         return Exit::DoorFault;
     };
-    if ws {
-        return serve_sockets(leave, rt, words, addr, workers);
-    }
     let opened = open(
         *rt,
         rt.alloc(),
         addr,
         CLIENT_LINE,
+        if silence > 0 { Some(silence) } else { None },
         usize::from(workers),
         u32::from(links),
         sessions,
@@ -119,47 +129,23 @@ pub fn serve_there<R: Threads + Wait + Sync>(
     match opened {
         Ok((door, readies)) => {
             announce(rt, door.addr());
-            serve_at(leave, rt, words, readies, Outspoken::new(*rt, door))
+            if ws {
+                let door = WsDoor::from(rt.alloc(), PollStreams::over(door), origin);
+                serve_at(leave, rt, words, readies, Outspoken::new(*rt, door))
+            } else {
+                serve_at(leave, rt, words, readies, Outspoken::new(*rt, door))
+            }
         }
         Err(error) => fault(&error, Exit::DoorFault),
     }
 }
 
-/// Serves matches over WebSockets at this address, with so many workers of one link each.
-fn serve_sockets<R: Threads + Wait + Sync>(
-    leave: &R,
-    rt: &HostRuntime,
-    words: &[String],
-    addr: SocketAddr,
-    workers: u8,
-) -> Exit
-    requires { (asked : Asked) → serve_from (map string_bytes words.now) ≡ Some asked → asked.workers ≡ workers }
-{
-    let Ok(readies) = in_turn(rt.alloc(), workers) else {
-        return Exit::NoMemory;
-    };
-    match TcpStreamDoor::bind(*rt, rt.alloc(), addr) {
-        Ok(door) => {
-            announce(rt, door.addr());
-            let door = WsDoor::new(rt.alloc(), door);
-            serve_at(leave, rt, words, readies, Outspoken::new(*rt, door))
-        }
-        Err(error) => {
-            drop(readies);
-            fault(&error, Exit::DoorFault)
-        }
+/// An origin for all links of a door.
+fn shared(alloc: Global, origin: Option<Text>) -> Result<Option<Arc<Text, Global>>, NoMemory> {
+    match origin {
+        Some(origin) => Ok(Some(Arc::new(alloc, origin)?)),
+        None => Ok(None),
     }
-}
-
-/// For each of so many workers what gives its one place turn after turn, since a link over a WebSocket waits itself.
-fn in_turn(alloc: Global, workers: u8) -> Result<Vec<InTurn>, AllocError>
-    ensures { IfOk result (λ r. vec_len r ≡ workers) }
-{
-    let mut readies = Vec::with_capacity(alloc, usize::from(workers))?;
-    for _worker in 0..workers {
-        readies.push_reserved(InTurn::new(1));
-    }
-    Ok(readies)
 }
 
 /// Serves matches at this door.

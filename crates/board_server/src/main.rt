@@ -1,6 +1,6 @@
 //! The match server. `board_server serve` serves matches over sockets, and `board_server play` plays one; `board_server script` plays the script on
-//! standard input, and prints its transcript, and `board_server world` does so with a world; `board_server workload`
-//! plays by itself, by the words of a seed and for a number of steps, and tells what came of it.
+//! standard input, and prints its transcript, and `board_server world` does so with a world; `board_server replay` says what a journal
+//! holds; `board_server workload` plays by itself, by the words of a seed and for a number of steps, and tells what came of it.
 #![tactic(auto)]
 
 mod edge;

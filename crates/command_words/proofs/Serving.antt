@@ -12,10 +12,12 @@ unfolding clap_on_literals
 is_simple_app = refl
 
 by_values : (f : Found) → serve_in (rows_of f)
-    ≡ serve_of (first_value f (codes "listen")) (first_value f (codes "rooms")) (first_value f (codes "workers")) (first_value f (codes "links")) (first_value f (codes "sessions")) (first_value f (codes "ws"))
-by_values f = rw (first_value-rows f (codes "listen"), first_value-rows f (codes "rooms"), first_value-rows f (codes "workers"), first_value-rows f (codes "links"), first_value-rows f (codes "sessions"), first_value-rows f (codes "ws")) refl
+    ≡ serve_of (first_value f (codes "listen")) (first_value f (codes "rooms")) (first_value f (codes "workers")) (first_value f (codes "links")) (first_value f (codes "sessions"))
+    (first_value f (codes "silence")) (first_value f (codes "origin")) (first_value f (codes "ws"))
+by_values f = rw (first_value-rows f (codes "listen"), first_value-rows f (codes "rooms"), first_value-rows f (codes "workers"), first_value-rows f (codes "links"), first_value-rows f (codes "sessions"), first_value-rows f (codes "silence"), first_value-rows f (codes "origin"), first_value-rows f (codes "ws")) refl
 
 pub accepted : (texts : List (List ℕ)) (m : ArgMatches) → HasMatchesOf serve_app texts m → fault_of serve_app texts ≡ [] → serve_from texts
-    ≡ serve_of (first_value (found_of m) (codes "listen")) (first_value (found_of m) (codes "rooms")) (first_value (found_of m) (codes "workers")) (first_value (found_of m) (codes "links")) (first_value (found_of m) (codes "sessions")) (first_value (found_of m) (codes "ws"))
+    ≡ serve_of (first_value (found_of m) (codes "listen")) (first_value (found_of m) (codes "rooms")) (first_value (found_of m) (codes "workers")) (first_value (found_of m) (codes "links")) (first_value (found_of m) (codes "sessions"))
+    (first_value (found_of m) (codes "silence")) (first_value (found_of m) (codes "origin")) (first_value (found_of m) (codes "ws"))
 unfolding serve_from
 accepted texts m matches no_fault = rw (no_fault) (ap serve_in (sym (matches is_simple_app).0) ∙ by_values (found_of m))

@@ -1,4 +1,4 @@
-//! The words of `serve`: where it listens, and how many rooms, workers, links at once and sessions it has.
+//! The words of `serve`: where it listens, how many rooms, workers, links at once and sessions it has, and whom it lets in.
 
 ghost use Rattle.std.specs.Prelude.{◌≡◌, ◌≤◌, IfOk, codes, map, option_map, string_bytes};
 ghost use Rattle.clap.specs.Words.{FailsBy, HasMatchesOf, fault_of, first_value, found_of};
@@ -9,7 +9,7 @@ use crate::numbers::number_or;
 use crate::options::{flag, needed, option};
 use crate::words_no::{WordsNo, word_of};
 use clap::{ArgMatches, Command, Error};
-use game_sheet::Text;
+use game_sheet::{NoMemory, Text};
 use std::alloc::Global;
 
 /// What `serve` is asked for.
@@ -25,6 +25,10 @@ pub struct ServeWords {
     pub links: u16,
     /// How many sessions it serves before it ends, 1 to 1,000,000.
     pub sessions: u32,
+    /// For how many seconds a peer may send nothing, up to 86,400; 0 for good.
+    pub silence: u32,
+    /// The only origin of a page whose WebSockets are taken, if there is one.
+    pub origin: Option<Text>,
     /// Whether its links are WebSockets.
     pub ws: bool,
 }
@@ -32,7 +36,7 @@ pub struct ServeWords {
 /// What the words of `serve` ask for; the first word is the command's own.
 ///
 /// `Usage` comes exactly where the words are in no form: an option that isn't there or stands twice, no `--listen`, a
-/// number that has a sign or a leading zero or is out of its bounds, or more links than workers over WebSockets.
+/// number that has a sign or a leading zero or is out of its bounds, or an origin without WebSockets.
 pub fn serve_words(alloc: Global, words: &[String]) -> Result<ServeWords, WordsNo>
     ensures asked { Answers (serve_from (map string_bytes words.now)) result }
     ensures bounds { IfOk result (λ asked. (1 ≤ asked.rooms) × (asked.rooms ≤ 64) × (1 ≤ asked.workers) × (asked.workers ≤ 32) × (asked.workers ≤ asked.links) × (asked.links ≤ 4096)) }
@@ -54,6 +58,8 @@ fn matches_of<'a>(alloc: Global, words: &'a [String]) -> Result<ArgMatches<'a>, 
         .arg(option(alloc, "workers"))?
         .arg(option(alloc, "links"))?
         .arg(option(alloc, "sessions"))?
+        .arg(option(alloc, "silence"))?
+        .arg(option(alloc, "origin"))?
         .arg(flag(alloc, "ws"))?;
     command.try_get_matches_from(words)
 }
@@ -61,7 +67,8 @@ fn matches_of<'a>(alloc: Global, words: &'a [String]) -> Result<ArgMatches<'a>, 
 /// What the matches ask for.
 fn words_in(alloc: Global, matches: &ArgMatches) -> Result<ServeWords, WordsNo>
     ensures asked { Answers (serve_of (first_value (found_of matches.now) (codes "listen")) (first_value (found_of matches.now) (codes "rooms"))
-        (first_value (found_of matches.now) (codes "workers")) (first_value (found_of matches.now) (codes "links")) (first_value (found_of matches.now) (codes "sessions")) (first_value (found_of matches.now) (codes "ws"))) result }
+        (first_value (found_of matches.now) (codes "workers")) (first_value (found_of matches.now) (codes "links")) (first_value (found_of matches.now) (codes "sessions"))
+        (first_value (found_of matches.now) (codes "silence")) (first_value (found_of matches.now) (codes "origin")) (first_value (found_of matches.now) (codes "ws"))) result }
     ensures bounds { IfOk result (λ asked. (1 ≤ asked.rooms) × (asked.rooms ≤ 64) × (1 ≤ asked.workers) × (asked.workers ≤ 32) × (asked.workers ≤ asked.links) × (asked.links ≤ 4096)) }
 {
     let listen = matches.get_str("listen").ok_or(WordsNo::Usage)?;
@@ -71,20 +78,34 @@ fn words_in(alloc: Global, matches: &ArgMatches) -> Result<ServeWords, WordsNo>
     let sessions = number_or(matches.get_str("sessions"), 1, 1_000_000, 1_000_000).ok_or(
         WordsNo::Usage,
     )?;
+    let silence = number_or(matches.get_str("silence"), 0, 86_400, 0).ok_or(WordsNo::Usage)?;
+    let origin = matches.get_str("origin");
     let ws = is_said(matches.get_str("ws"));
-    // Over WebSockets a worker has one link at a time.
-    if ws && workers < links {
+    if origin.is_some() && !ws {
         return Err(WordsNo::Usage);
     }
     let listen = Text::from_str(alloc, listen)?;
+    let origin = origin_of(alloc, origin)?;
     Ok(ServeWords {
         listen,
         rooms: rooms as u8,
         workers: workers.min(links) as u8,
         links: links as u16,
         sessions,
+        silence,
+        origin,
         ws,
     })
+}
+
+/// A copy of an origin.
+fn origin_of(alloc: Global, text: Option<&str>) -> Result<Option<Text>, NoMemory>
+    ensures { IfOk result (λ origin. origin ≡ option_map (λ text. text.now) text.entry) }
+{
+    match text {
+        Some(text) => Ok(Some(Text::from_str(alloc, text)?)),
+        None => Ok(None),
+    }
 }
 
 /// Whether a flag was said, by the text that stands for it.

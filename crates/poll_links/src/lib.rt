@@ -2,6 +2,7 @@
 #![tactic(auto)]
 
 mod agenda;
+mod alarms;
 mod bells;
 mod incoming;
 mod knock;
@@ -10,11 +11,14 @@ mod outgoing;
 mod poll_door;
 mod poll_link;
 mod poll_ready;
+mod poll_stream;
 mod watched;
 
+pub use alarms::Looks;
 pub use opening::open;
 pub use outgoing::{Outgoing, Wrote};
 pub use poll_door::PollDoor;
 pub use poll_link::PollLink;
 pub use poll_ready::PollReady;
+pub use poll_stream::PollStream;
 pub use watched::Watched;

@@ -19,13 +19,15 @@ use std::sync::Arc;
 /// A door that listens at this address, or at any free port where its port is 0, and for each of so many workers what tells it which of its
 /// links are ready, at so many places in all. They are dealt over the workers as `link_rounds::serve_places` deals its services: as evenly as can
 /// be, and the first workers get one more; a worker without a free place leaves the next link to another. The door gives so many links and no
-/// more, and listens no longer then, nor once it has failed. Its links have lines of at most `limit` bytes. An Err is the system's: the address is
+/// more, and listens no longer then, nor once it has failed. Its links have lines of at most `limit` bytes, and a peer that sends nothing for
+/// `silence` seconds, where they are said, is a fault of its link. An Err is the system's: the address is
 /// taken, or there are no descriptors left, of which each worker needs two, or no memory.
 pub fn open<N: Net + Clock + Copy + Drop>(
     net: N,
     alloc: Global,
     addr: SocketAddr,
     limit: u32,
+    silence: Option<u32>,
     workers: usize,
     places: u32,
     sessions: u32,
@@ -45,7 +47,7 @@ pub fn open<N: Net + Clock + Copy + Drop>(
     let bells = Arc::new(alloc, bells)?;
     match readies(net, alloc, polls, &bells, places) {
         Ok(ready) => Ok((
-            PollDoor::over(net, alloc, listener, bells, limit, sessions),
+            PollDoor::over(net, alloc, listener, bells, limit, silence, sessions),
             ready,
         )),
         Err(NoMemory) => Err(no_memory()),

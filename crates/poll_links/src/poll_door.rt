@@ -5,6 +5,7 @@ ghost use Rattle.std.specs.Prelude.{◌≡◌, ◌≤◌, false};
 use crate::bells::Bells;
 use crate::knock::{Knock, asked};
 use crate::poll_link::PollLink;
+use crate::poll_stream::PollStream;
 use board_links::{Door, Link, SessionEnd, Visit};
 use mio::net::TcpListener;
 use std::alloc::Global;
@@ -27,6 +28,7 @@ pub struct PollDoor<C> {
     listener: Option<TcpListener>,
     bells: Arc<Bells, Global>,
     limit: u32,
+    silence: Option<u32>,
     sessions: u64,
     given: u64,
     came_back: u64,
@@ -36,13 +38,14 @@ pub struct PollDoor<C> {
 
 impl<C: Clock + Copy + Drop> PollDoor<C> {
     /// A door over a listener that doesn't block and is registered with the workers' polls. It gives so many links, which have lines of at most
-    /// `limit` bytes.
+    /// `limit` bytes, and whose peers may be silent for so many seconds, or for good.
     pub(crate) fn over(
         clock: C,
         alloc: Global,
         listener: TcpListener,
         bells: Arc<Bells, Global>,
         limit: u32,
+        silence: Option<u32>,
         sessions: u32,
     ) -> PollDoor<C>
         ensures given { ⟦<PollDoor<C> as Door>⟧.given result ≡ 0 }
@@ -57,6 +60,7 @@ impl<C: Clock + Copy + Drop> PollDoor<C> {
             listener: Some(listener),
             bells,
             limit,
+            silence,
             sessions: u64::from(sessions),
             given: 0,
             came_back: 0,
@@ -117,7 +121,8 @@ impl<C: Clock + Copy + Drop> Door for PollDoor<C> {
                 if self.given >= self.sessions {
                     self.listener = None;
                 }
-                Visit::Came(PollLink::over(self.clock, self.alloc, stream, self.limit))
+                let stream = PollStream::over(self.clock, stream, self.silence);
+                Visit::Came(PollLink::over(self.alloc, stream, self.limit))
             }
             Knock::Nothing => {
                 self.bells.say_full(false);

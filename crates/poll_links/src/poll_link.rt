@@ -5,34 +5,27 @@ ghost use Rattle.board_links.specs.Answers.{IsWithin};
 ghost use Rattle.board_links.specs.Faults.{HasRisen};
 ghost use Rattle.board_links.specs.declared.link.Stage.TheVariants as at;
 
+use crate::alarms::Looks;
 use crate::incoming::come;
 use crate::outgoing::{Outgoing, Wrote};
+use crate::poll_stream::PollStream;
 use crate::watched::Watched;
 use board_links::{Came, Link, Out, SessionEnd, Stage};
 use game_sheet::{MatchName, NoMemory, Seat};
-use mio::net::TcpStream;
-use mio::{Interest, Registry, Token};
+use mio::Registry;
 use std::alloc::Global;
-use std::net::Shutdown;
 use std::rt::Clock;
 use std::sync::Wait;
-use std::time::Instant;
 use tcp_links::LineBuffer;
 
-/// How many seconds a peer may take no byte while some wait for it.
-const PATIENCE: u64 = 30;
-
 /// A link over a TCP socket that never waits: a receive answers `Quiet` where nothing is there, and a send lets its bytes wait, which `flush`
-/// writes as far as the socket takes them. A peer that takes none of them for 30 seconds is a fault. The link tells neither its answers nor
-/// what it was sent.
+/// writes as far as the socket takes them. A peer that takes none of them for 30 seconds is a fault, and so is one that is silent for longer than
+/// it may. The link tells neither its answers nor what it was sent.
 #[derive(Drop)]
 pub struct PollLink<C> {
-    clock: C,
-    stream: TcpStream,
+    stream: PollStream<C>,
     lines: LineBuffer,
     waiting: Outgoing,
-    /// Since when the peer takes none of the bytes that wait.
-    stuck: Option<Instant>,
     /// Whether the next receive has to fail.
     broken: bool,
     limit: u32,
@@ -42,28 +35,41 @@ pub struct PollLink<C> {
 }
 
 impl<C: Clock + Drop> PollLink<C> {
-    /// A link over a stream that doesn't block, with lines of at most `limit` bytes. It takes no memory.
-    pub fn over(clock: C, alloc: Global, stream: TcpStream, limit: u32) -> PollLink<C>
+    /// A link over this stream, with lines of at most `limit` bytes. It takes no memory.
+    pub fn over(alloc: Global, stream: PollStream<C>, limit: u32) -> PollLink<C>
         ensures faults { ⟦<PollLink<C> as Link>⟧.faults result ≡ 0 }
         ensures stage { ⟦<PollLink<C> as Link>⟧.stage result ≡ at.Open }
         ensures limit { ⟦<PollLink<C> as Link>⟧.limit result ≡ limit }
         ensures clear { ⟦<PollLink<C> as Link>⟧.clear result ≡ true }
         ensures finished { ⟦<PollLink<C> as Link>⟧.finished result ≡ None }
     {
-        // A socket that can't be told to send small pieces at once sends them all the same.
-        let _told = stream.set_nodelay(true);
         PollLink {
-            clock,
             stream,
             lines: LineBuffer::new(alloc),
             waiting: Outgoing::new(alloc),
-            stuck: None,
             broken: false,
             limit,
             faults: 0,
             stage: Stage::Open,
             finished: None,
         }
+    }
+
+    /// Its stream, without what came and what waits.
+    pub fn into_stream(self) -> PollStream<C> {
+        let PollLink {
+            stream,
+            lines,
+            waiting,
+            broken: _,
+            limit: _,
+            faults: _,
+            stage: _,
+            finished: _,
+        } = self;
+        drop(lines);
+        drop(waiting);
+        stream
     }
 
     /// What came, as far as it is there.
@@ -95,29 +101,8 @@ impl<C: Clock + Drop> PollLink<C> {
         ensures finished { self.new.finished ≡ self.old.finished }
     {
         match self.waiting.write_to(&mut self.stream) {
-            Wrote::Some(_) => self.stuck = None,
-            Wrote::Nothing => {
-                if self.is_stuck() {
-                    self.give_up();
-                }
-            }
+            Wrote::Some(_) | Wrote::Nothing => {}
             Wrote::Failed => self.give_up(),
-        }
-    }
-
-    /// Whether the peer has taken nothing for too long. The first time counts from now on.
-    fn is_stuck(&mut self) -> bool
-        ensures same { self.new ≡ record self.old { stuck = self.new.stuck } }
-    {
-        let Ok(now) = Instant::now(&self.clock) else {
-            return false;
-        };
-        match self.stuck {
-            Some(since) => now.duration_since(since).as_secs() >= PATIENCE,
-            None => {
-                self.stuck = Some(now);
-                false
-            }
         }
     }
 
@@ -190,8 +175,7 @@ impl<C: Clock + Drop> Link for PollLink<C> {
     }
 
     fn finish(&mut self, end: SessionEnd) {
-        // A peer that is gone already has nothing to be told.
-        let _closed = self.stream.shutdown(Shutdown::Both);
+        self.stream.shutdown();
         self.finished = Some(end);
     }
 
@@ -204,12 +188,12 @@ impl<C: Clock + Drop> Link for PollLink<C> {
 
 impl<C: Clock + Drop> Watched for PollLink<C> {
     fn watch(&mut self, registry: &Registry, number: u32) {
-        let both = Interest::READABLE | Interest::WRITABLE;
-        if registry
-            .register(&mut self.stream, Token(number as usize), both)
-            .is_err()
-        {
+        if !self.stream.watch(registry, number) {
             self.broken = true;
         }
+    }
+
+    fn looks(&self) -> Looks {
+        self.stream.looks()
     }
 }

@@ -3,6 +3,7 @@
 ghost use Rattle.std.specs.Prelude.{◌≡◌};
 
 use crate::agenda::Agenda;
+use crate::alarms::Alarms;
 use crate::bells::Bells;
 use crate::watched::Watched;
 use game_sheet::NoMemory;
@@ -47,10 +48,13 @@ pub struct PollReady<C> {
     bells: Arc<Bells, Global>,
     me: usize,
     agenda: Agenda,
+    alarms: Alarms,
     door: Door,
     links: u32,
     places: u32,
     looked: Option<Instant>,
+    /// When it was made; its seconds count from then on.
+    begun: Option<Instant>,
 }
 
 impl<C: Clock + Drop> PollReady<C> {
@@ -66,6 +70,8 @@ impl<C: Clock + Drop> PollReady<C> {
     ) -> Result<PollReady<C>, NoMemory> {
         let events = Events::with_capacity(alloc, EVENTS)?;
         let agenda = Agenda::new(alloc, places)?;
+        let alarms = Alarms::new(alloc, places)?;
+        let begun = Instant::now(&clock).ok();
         Ok(PollReady {
             clock,
             poll,
@@ -73,11 +79,13 @@ impl<C: Clock + Drop> PollReady<C> {
             bells,
             me,
             agenda,
+            alarms,
             // Who comes before the first wait is found without an event.
             door: Door::Due,
             links: 0,
             places,
             looked: None,
+            begun,
         })
     }
 
@@ -101,7 +109,7 @@ impl<C: Clock + Drop> PollReady<C> {
     fn patience(&self) -> Option<Duration> {
         if !self.agenda.is_idle() {
             Some(Duration::from_secs(0))
-        } else if self.agenda.has_kept() || self.door == Door::Full {
+        } else if self.agenda.has_kept() || self.alarms.is_any() || self.door == Door::Full {
             Some(Duration::from_secs(AGAIN))
         } else {
             None
@@ -137,6 +145,22 @@ impl<C: Clock + Drop> PollReady<C> {
         }
     }
 
+    /// How many seconds have passed since it was made.
+    fn second(&self) -> u64 {
+        match (self.begun, Instant::now(&self.clock)) {
+            (Some(begun), Ok(now)) => now.duration_since(begun).as_secs(),
+            _ => 0,
+        }
+    }
+
+    /// The turns of links are due that want one though nothing came.
+    fn look_at_alarms(&mut self) {
+        if self.alarms.is_any() {
+            let second = self.second();
+            self.alarms.look(second, &mut self.agenda);
+        }
+    }
+
     /// Whether a second has passed since this was last so.
     fn is_later(&mut self) -> bool {
         let Ok(now) = Instant::now(&self.clock) else {
@@ -160,6 +184,8 @@ impl<L: Watched, C: Clock + Drop> Ready<L> for PollReady<C> {
     fn watch(&mut self, number: u32, link: &mut L) {
         link.watch(self.poll.registry(), number);
         self.agenda.add(number);
+        let second = self.second();
+        self.alarms.set(number, second, link.looks());
         self.links = self.links.saturating_add(1);
         self.bells.count(self.me, self.load());
     }
@@ -181,6 +207,7 @@ impl<L: Watched, C: Clock + Drop> Ready<L> for PollReady<C> {
 
     fn went_back(&mut self, number: u32) {
         self.agenda.moves(number, None);
+        self.alarms.unset(number);
         self.links = self.links.saturating_sub(1);
         self.bells.count(self.me, self.load());
         self.door_due();
@@ -228,6 +255,7 @@ impl<L: Watched, C: Clock + Drop> Ready<L> for PollReady<C> {
             self.door_due();
         }
         self.look_again();
+        self.look_at_alarms();
         self.agenda.take(numbers);
     }
 }

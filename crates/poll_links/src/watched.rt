@@ -2,6 +2,7 @@
 
 ghost use Rattle.std.specs.Prelude.{◌≡◌};
 
+use crate::alarms::Looks;
 use board_links::Link;
 use mio::Registry;
 
@@ -17,4 +18,7 @@ pub trait Watched: Link {
         ensures sent { Self.Link.sent self.new ≡ Self.Link.sent self.old }
         ensures finished { Self.Link.finished self.new ≡ Self.Link.finished self.old }
         ensures is_bot { Self.Link.is_bot self.new ≡ Self.Link.is_bot self.old };
+
+    /// After how many seconds it wants a turn though nothing came.
+    fn looks(&self) -> Looks;
 }

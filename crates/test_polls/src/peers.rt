@@ -71,6 +71,13 @@ fn count_all<T: Read>(peer: &mut T) -> usize {
     count
 }
 
+/// A peer that sends a line and then says nothing. How many bytes come back until the stream ends.
+pub fn silent<N: Net>(net: &N, addr: SocketAddr) -> io::Result<usize> {
+    let mut peer = TcpStream::connect(net, addr)?;
+    peer.write_all(b"here\n")?;
+    Ok(count_all(&mut peer))
+}
+
 /// Sends so many lines of this text, and then ends its sending.
 fn say_all(peer: &mut TcpStream, line: &[u8], lines: u32) {
     for _ in 0..lines {

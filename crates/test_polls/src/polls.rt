@@ -1,6 +1,6 @@
 //! Links over loopback that two workers serve.
 
-use crate::peers::{at_once, beside, one_by_one};
+use crate::peers::{at_once, beside, one_by_one, silent};
 use crate::serving::serve;
 use link_rounds::DoorEnd;
 use poll_links::{PollDoor, PollReady, open};
@@ -20,7 +20,7 @@ fn any() -> SocketAddr {
 #[test]
 fn three_hundred_links_at_once(rt: HostRuntime) -> Result<(), Fail> {
     let alloc = rt.alloc();
-    let (door, readies) = open(rt, alloc, any(), LIMIT, 2, 300, 300)?;
+    let (door, readies) = open(rt, alloc, any(), LIMIT, None, 2, 300, 300)?;
     let addr = door.addr()?;
     let system = &rt;
     let (served, echoed) = thread::join(
@@ -36,7 +36,7 @@ fn three_hundred_links_at_once(rt: HostRuntime) -> Result<(), Fail> {
 #[test]
 fn a_thousand_links_one_after_another(rt: HostRuntime) -> Result<(), Fail> {
     let alloc = rt.alloc();
-    let (door, readies) = open(rt, alloc, any(), LIMIT, 2, 4, 1_000)?;
+    let (door, readies) = open(rt, alloc, any(), LIMIT, None, 2, 4, 1_000)?;
     let addr = door.addr()?;
     let system = &rt;
     let (served, echoed) = thread::join(
@@ -59,7 +59,7 @@ fn long_line(alloc: Global) -> Result<Vec<u8>, Fail> {
 #[test]
 fn a_slow_reader_holds_nobody_up(rt: HostRuntime) -> Result<(), Fail> {
     let alloc = rt.alloc();
-    let (door, readies) = open(rt, alloc, any(), LIMIT, 2, 4, 2)?;
+    let (door, readies) = open(rt, alloc, any(), LIMIT, None, 2, 4, 2)?;
     let addr = door.addr()?;
     let line = long_line(alloc)?;
     let (system, line) = (&rt, line.as_slice());
@@ -76,7 +76,7 @@ fn a_slow_reader_holds_nobody_up(rt: HostRuntime) -> Result<(), Fail> {
 #[test]
 fn a_thousand_lines_beside_anothers(rt: HostRuntime) -> Result<(), Fail> {
     let alloc = rt.alloc();
-    let (door, readies) = open(rt, alloc, any(), LIMIT, 2, 4, 2)?;
+    let (door, readies) = open(rt, alloc, any(), LIMIT, None, 2, 4, 2)?;
     let addr = door.addr()?;
     let system = &rt;
     let (served, got) = thread::join(
@@ -86,5 +86,21 @@ fn a_thousand_lines_beside_anothers(rt: HostRuntime) -> Result<(), Fail> {
     );
     assert!(rt; served == Some((DoorEnd::Done, 2)));
     assert!(rt; got? == (100, 12_000));
+    Ok(())
+}
+
+#[test]
+fn a_silent_peer_is_let_go(rt: HostRuntime) -> Result<(), Fail> {
+    let alloc = rt.alloc();
+    let (door, readies) = open(rt, alloc, any(), LIMIT, Some(1), 2, 4, 1)?;
+    let addr = door.addr()?;
+    let system = &rt;
+    let (served, got) = thread::join(
+        system,
+        move || serve(system, alloc, readies, door, 2, 1),
+        move || silent(system, addr),
+    );
+    assert!(rt; served == Some((DoorEnd::Done, 1)));
+    assert_eq!(rt; got?, 5);
     Ok(())
 }

@@ -1,31 +1,22 @@
 -- Runs of frames, one after another, and what they tell.
-use Rattle.std.proofs.Common.{inl, inr, ◌⊎◌, ◌≡◌, ℕ, List, [], ◌∷◌, ◌++◌, Bool, true, false, cond, Option, None, Some, Ok, Err, refl, sym, ap, subst, ◌∙◌, append_assoc, append-nil, length}
-use Rattle.std.specs.Prelude.{MatchOption, nat_lt}
+use Rattle.std.proofs.Common.{inl, inr, ◌≡◌, ℕ, List, [], ◌∷◌, ◌++◌, Bool, true, false, cond, Option, None, Some, Ok, Err, refl, sym, ap, subst, ◌∙◌, append_assoc, append-nil, drop, length}
+use Rattle.std.specs.Prelude.{MatchOption, nat_lt, option_map}
+use Rattle.std.specs.Io.KnownBytes.{Consumes, IsAtEnd, Keeps}
 use Rattle.board_links.specs.declared.link.Came.{Came}
 use Rattle.board_links.specs.declared.link.Came.TheVariants as came
-use Rattle.tungstenite.specs.Connection.{Connection, Effect, read_step}
-use Rattle.tungstenite.specs.Content.{Content, text, binary, ping, pong, close}
-use Rattle.tungstenite.specs.Failure.{IsIo, IsOutside, of_frame}
-use Rattle.tungstenite.specs.Socket.{EndsWith, NoReplies, Quiet, Reads, Run, Runs, Socket, content_of}
-use Rattle.tungstenite.specs.declared.error.Error.{Error}
-use Rattle.tungstenite.specs.declared.error.Error.TheVariants as error
-use Rattle.tungstenite.specs.declared.message.Message.{Message}
-use Rattle.tungstenite.proofs.SocketLemmas.{consumes-chain, consumes-nil, nil-left, replies-none, runs-more}
-use Rattle.websocket.specs.declared.error.Error.{Error as FrameError}
-use Rattle.websocket.specs.declared.error.Error.TheVariants as frame
+use Rattle.tungstenite.specs.Socket.{Replies, Run, Runs, Socket}
+use Rattle.tungstenite.proofs.SocketLemmas.{consumes-chain, consumes-kept, consumes-nil, frame-facts, partial-facts, runs-more, sends-cast, sends-prefix, socket-eta}
+use Rattle.websocket.specs.Connection.{Connection, Effect, Sends, read_step}
+use Rattle.websocket.specs.Content.{Content, text, binary, ping, pong, close, received_content}
+use Rattle.websocket.specs.View.{GivesError, KeepsRest, ReadLeaves, Returns}
+use Rattle.websocket.specs.declared.error.Error.{Error}
+use Rattle.websocket.specs.declared.protocol.context.Step.{Step}
+use Rattle.websocket.specs.declared.protocol.frame.codec.FrameStatus.TheVariants.{Partial, Complete}
 use Rattle.ws_link.specs.Frames.{Brings, Hears, IsCutOff, IsOver, IsSilent, ReadsRun, Tells, TellsNothing, frame_tells, line_limit, message_tells, tells}
-use Rattle.ws_link.specs.Refusals.{IsEndOf, Refused}
+use Rattle.ws_link.specs.Refusals.{IsHalt, Refused}
 use Rattle.ws_link.proofs.Roles.{runs_keep}
 
 -- ---- two runs
-
-front_asks_none : (ps qs : Run) → NoReplies (ps ++ qs) → NoReplies ps
-front_asks_none [] qs h = tt
-front_asks_none (p ∷ ps) qs h = (h.0, front_asks_none ps qs h.1)
-
-rest_asks_none : (ps qs : Run) → NoReplies (ps ++ qs) → NoReplies qs
-rest_asks_none [] qs h = h
-rest_asks_none (p ∷ ps) qs h = rest_asks_none ps qs h.1
 
 both_silent : (ps qs : Run) → IsSilent ps → IsSilent qs → IsSilent (ps ++ qs)
 both_silent [] qs h k = k
@@ -49,21 +40,11 @@ runs_over c c1 c2 i i1 i2 got more ps qs h k =
     subst (λ z. Runs c z (ps ++ qs) c2 i2) (append_assoc i got more)
     (runs_on c c1 c2 ((i ++ got) ++ more) (i1 ++ more) i2 ps qs (runs-more c c1 (i ++ got) i1 more ps h) k)
 
--- ---- what one read tells
+replies_on : (ps qs : Run) (o mid o2 : List ℕ) → Replies ps o mid → Replies qs mid o2 → Replies (ps ++ qs) o o2
+replies_on [] qs o mid o2 h k = rw h at k
+replies_on (p ∷ ps) qs o mid o2 h k = (h.0, h.1, replies_on ps qs h.0 mid o2 h.2 k)
 
-quiet_silent : (ps : Run) → Quiet ps → IsSilent ps
-quiet_silent [] h = tt
-quiet_silent (p ∷ ps) h = (ap message_tells h.0, quiet_silent ps h.1)
-
-ends_brings : (ps : Run) (m : Content) (answer : Came) → EndsWith ps m → tells m ≡ Some answer → Brings answer ps
-ends_brings [] m answer h e = absurd h
-ends_brings (p ∷ []) m answer h e = ap message_tells h ∙ e
-ends_brings (p ∷ q ∷ ps) m answer h e = (ap message_tells h.0, ends_brings (q ∷ ps) m answer h.1 e)
-
-ends_silent : (ps : Run) (m : Content) → EndsWith ps m → tells m ≡ None → IsSilent ps
-ends_silent [] m h e = tt
-ends_silent (p ∷ []) m h e = (ap message_tells h ∙ e, tt)
-ends_silent (p ∷ q ∷ ps) m h e = (ap message_tells h.0, ends_silent (q ∷ ps) m h.1 e)
+-- ---- what a frame tells
 
 line_by : (long : Bool) (bytes : List ℕ) → Some (cond long came.TooLong (came.Line bytes)) ≡ Some came.Quiet → ⊥
 line_by true bytes e = cc
@@ -76,65 +57,50 @@ never_quiet (ping bytes) e = cc
 never_quiet (pong bytes) e = cc
 never_quiet (close why) e = cc
 
-end_is_inside : (e : Error) → IsEndOf e → IsOutside e → ⊥
-end_is_inside error.ConnectionClosed h o = o
-end_is_inside (error.Protocol why) h o = o
-end_is_inside e h o = absurd h
-
-over_by : (x : FrameError) (e : Error) → e ≡ of_frame x → IsEndOf e → IsOver x
-over_by frame.ConnectionClosed e q h = tt
-over_by frame.AlreadyClosed e q h = rw q at h
-over_by (frame.Capacity why) e q h = rw q at h
-over_by (frame.Protocol why) e q h = rw q at h
-over_by frame.Utf8 e q h = rw q at h
-over_by frame.OutOfMemory e q h = rw q at h
-
-over : {W : Type 0} (c : Connection) (i : List ℕ) (e : Error) → IsEndOf e → IsOutside e ⊎ ((x : FrameError) × (read_step c i ≡ Err x) × (e ≡ of_frame x)) ⊎ W
-    → ((x : FrameError) × (read_step c i ≡ Err x) × IsOver x) ⊎ W
-over c i e h (inl outside) = absurd (end_is_inside e h outside)
-over c i e h (inr (inl by)) = inl (by.0, by.1, over_by by.0 e by.2 h)
-over c i e h (inr (inr w)) = inr w
+none_quiet : (m : Option Content) → message_tells m ≡ Some came.Quiet → ⊥
+none_quiet None e = cc
+none_quiet (Some m) e = never_quiet m e
 
 module _ {S : Type 0} where
-  run_of_message : (rem : S → Option (List ℕ)) (old new : Socket S) (m : Message) (r : Reads rem old new (Ok m)) → ReadsRun rem old new r.0
-  run_of_message rem old new m r =
-      record {
-        got = r.1;
-        frames = rw (r.6.1, r.6.2) r.5;
-        same_role = ap (λ (x : Connection). x.role) r.6.1 ∙ runs_keep old.conn r.2 (old.input ++ r.1) r.3 r.0 r.5;
-        waits = λ e n. nil-left r.4 new.output (replies-none r.0 old.output (r.4 ++ new.output) n r.6.3 ∙ e);
-        told = λ e n. r.6.4 e;
-      }
-
-  run_of_wait : (rem : S → Option (List ℕ)) (old new : Socket S) (e : Error) → IsIo e → (r : Reads rem old new (Err e)) → ReadsRun rem old new r.0
-  run_of_wait rem old new e io r =
-      let at = r.6.2 io in
-      record {
-        got = r.1;
-        frames = rw (at.0, at.1) r.5;
-        same_role = ap (λ (x : Connection). x.role) at.0 ∙ runs_keep old.conn r.2 (old.input ++ r.1) r.3 r.0 r.5;
-        waits = λ q n. nil-left r.4 new.output (replies-none r.0 old.output (r.4 ++ new.output) n at.2 ∙ q);
-        told = λ q n. r.6.4 io q;
-      }
-
   then_reads : (rem : S → Option (List ℕ)) (old mid new : Socket S) (ps qs : Run) → ReadsRun rem old mid ps → ReadsRun rem mid new qs → ReadsRun rem old new (ps ++ qs)
   then_reads rem old mid new ps qs h k =
       record {
         got = h.got ++ k.got;
         frames = runs_over old.conn mid.conn new.conn old.input mid.input new.input h.got k.got ps qs h.frames k.frames;
         same_role = k.same_role ∙ h.same_role;
-        waits = λ e n. k.waits (h.waits e (front_asks_none ps qs n)) (rest_asks_none ps qs n);
-        told = λ e n.
-            let first = front_asks_none ps qs n in
-            consumes-chain (rem old.stream) (rem mid.stream) (rem new.stream) h.got k.got (h.told e first) (k.told (h.waits e first) (rest_asks_none ps qs n));
+        replies = replies_on ps qs old.output mid.output new.output h.replies k.replies;
+        told = consumes-chain (rem old.stream) (rem mid.stream) (rem new.stream) h.got k.got h.told k.told;
       }
 
-  pub nothing_yet : (rem : S → Option (List ℕ)) (v : Socket S) → TellsNothing rem v v
-  nothing_yet rem v = (
+  -- bytes came, and no frame was read
+  pub filled : (rem : S → Option (List ℕ)) (old new : Socket S) (got : List ℕ) → Consumes (rem old.stream) (rem new.stream) got
+      → new.conn ≡ old.conn → new.input ≡ old.input ++ got → new.output ≡ old.output → TellsNothing rem old new
+  filled rem old new got took conn input output = (
     [],
-    record { got = []; frames = (refl, sym (append-nil v.input)); same_role = refl; waits = λ e n. e; told = λ e n. consumes-nil (rem v.stream) },
+    record { got = got; frames = (conn, input); same_role = ap (λ (x : Connection). x.role) conn; replies = output; told = took },
     tt,
   )
+
+  pub nothing_yet : (rem : S → Option (List ℕ)) (v : Socket S) → TellsNothing rem v v
+  nothing_yet rem v = filled rem v v [] (consumes-nil (rem v.stream)) refl (sym (append-nil v.input)) refl
+
+  -- none came
+  pub waited : (rem : S → Option (List ℕ)) (old new : Socket S) → Keeps (rem old.stream) (rem new.stream)
+      → new.conn ≡ old.conn → new.input ≡ old.input → new.output ≡ old.output → TellsNothing rem old new
+  waited rem old new keeps conn input output =
+      filled rem old new [] (consumes-kept (rem old.stream) (rem old.stream) (rem new.stream) [] (consumes-nil (rem old.stream)) keeps)
+      conn (input ∙ sym (append-nil old.input)) output
+
+  pub at_end : (rem : S → Option (List ℕ)) (old new : Socket S) → IsAtEnd (rem new.stream) → Hears rem old new came.Ended
+  at_end rem old new end = inr ([], [], old.conn, old.input, (refl, sym (append-nil old.input)), tt, inr end)
+
+  pub halt_heard : (rem : S → Option (List ℕ)) (old new : Socket S) (answer : Came) → IsHalt answer → TellsNothing rem old new → Hears rem old new answer
+  halt_heard rem old new (came.Line bytes) h k = absurd h
+  halt_heard rem old new came.TooLong h k = absurd h
+  halt_heard rem old new came.Ended h k = absurd h
+  halt_heard rem old new came.Quiet h k = k
+  halt_heard rem old new came.Failed h k = tt
+  halt_heard rem old new came.NoMemory h k = tt
 
   pub still_nothing : (rem : S → Option (List ℕ)) (old mid new : Socket S) → TellsNothing rem old mid → TellsNothing rem mid new → TellsNothing rem old new
   still_nothing rem old mid new h k = (h.0 ++ k.0, then_reads rem old mid new h.0 k.0 h.1 k.1, both_silent h.0 k.0 h.2 k.2)
@@ -163,27 +129,71 @@ module _ {S : Type 0} where
   then_hears rem old mid new came.Failed h k = tt
   then_hears rem old mid new came.NoMemory h k = tt
 
-  message_told : (rem : S → Option (List ℕ)) (old new : Socket S) (m : Message) (answer : Came) → Reads rem old new (Ok m) → tells (content_of m) ≡ Some answer → Tells rem old new answer
-  message_told rem old new m answer r e = (r.0, run_of_message rem old new m r, ends_brings r.0 (content_of m) answer r.6.0 e)
+  -- one frame was read
+  one_read : (rem : S → Option (List ℕ)) (old new : Socket S) (p : ℕ × Effect) → read_step old.conn old.input ≡ Ok (Complete p) → new.conn ≡ p.1.next → new.input ≡ drop p.0 old.input
+      → new.stream ≡ old.stream → Sends p.1.next.role p.1.reply old.output new.output → ReadsRun rem old new (p ∷ [])
+  one_read rem old new p step conn input stream sends =
+      let frames : Runs old.conn (old.input ++ []) (p ∷ []) new.conn new.input =
+      subst (λ z. Runs old.conn z (p ∷ []) new.conn new.input) (sym (append-nil old.input)) (step, (conn, input)) in
+      record {
+        got = [];
+        frames = frames;
+        same_role = runs_keep old.conn new.conn (old.input ++ []) new.input (p ∷ []) frames;
+        replies = (new.output, sends, refl);
+        told = subst (λ z. Consumes (rem old.stream) (rem z) []) (sym stream) (consumes-nil (rem old.stream));
+      }
 
-  answer_heard : (rem : S → Option (List ℕ)) (old new : Socket S) (m : Message) (answer : Came) → Reads rem old new (Ok m) → tells (content_of m) ≡ Some answer → Hears rem old new answer
-  answer_heard rem old new m (came.Line bytes) r e = message_told rem old new m (came.Line bytes) r e
-  answer_heard rem old new m came.TooLong r e = message_told rem old new m came.TooLong r e
-  answer_heard rem old new m came.Ended r e = inl (message_told rem old new m came.Ended r e)
-  answer_heard rem old new m came.Quiet r e = absurd (never_quiet (content_of m) e)
-  answer_heard rem old new m came.Failed r e = tt
-  answer_heard rem old new m came.NoMemory r e = tt
+  frame_answers : (rem : S → Option (List ℕ)) (old new : Socket S) (p : ℕ × Effect) (answer : Came) → ReadsRun rem old new (p ∷ []) → frame_tells p.1 ≡ Some answer → Hears rem old new answer
+  frame_answers rem old new p (came.Line bytes) r e = (p ∷ [], r, e)
+  frame_answers rem old new p came.TooLong r e = (p ∷ [], r, e)
+  frame_answers rem old new p came.Ended r e = inl (p ∷ [], r, e)
+  frame_answers rem old new p came.Quiet r e = absurd (none_quiet p.1.message e)
+  frame_answers rem old new p came.Failed r e = tt
+  frame_answers rem old new p came.NoMemory r e = tt
 
-  -- what a message tells
-  pub message_heard : (rem : S → Option (List ℕ)) (old new : Socket S) (m : Message) (answer : Option Came) → Reads rem old new (Ok m) → answer ≡ tells (content_of m) → MatchOption answer (TellsNothing rem old new) (Hears rem old new)
-  message_heard rem old new m None r e = (r.0, run_of_message rem old new m r, ends_silent r.0 (content_of m) r.6.0 (sym e))
-  message_heard rem old new m (Some answer) r e = answer_heard rem old new m answer r (sym e)
+  frame_heard : (rem : S → Option (List ℕ)) (old new : Socket S) (p : ℕ × Effect) (answer : Option Came) → ReadsRun rem old new (p ∷ []) → answer ≡ frame_tells p.1 → MatchOption answer (TellsNothing rem old new) (Hears rem old new)
+  frame_heard rem old new p None r e = (p ∷ [], r, (sym e, tt))
+  frame_heard rem old new p (Some answer) r e = frame_answers rem old new p answer r (sym e)
+
+  -- The protocol read a frame, which was taken off what came, with its reply behind what waits.
+  pub step_heard : (rem : S → Option (List ℕ)) (old mid new : Socket S) (step : Step) (reply : List ℕ) (answer : Option Came)
+      → Returns (read_step old.conn old.input) mid.input (Complete step) → ReadLeaves (read_step old.conn old.input) old.conn mid.conn [] reply
+      → KeepsRest (Complete step) old.input mid.input → mid.stream ≡ old.stream → mid.output ≡ old.output
+      → new ≡ record mid { input = drop step.consumed mid.input; output = mid.output ++ reply }
+      → answer ≡ message_tells (option_map (received_content mid.input) step.message)
+      → MatchOption answer (TellsNothing rem old new) (Hears rem old new)
+  step_heard rem old mid new step reply answer returns leaves keeps stream output is told =
+      let ff = frame-facts (read_step old.conn old.input) mid.input step old.conn mid.conn [] reply returns leaves in
+      let p = ff.0 in
+      let sends = subst (λ z. Sends p.1.next.role p.1.reply z (old.output ++ reply)) (append-nil old.output) (sends-prefix p.1.next.role p.1.reply old.output [] reply ff.5) in
+      let waits : old.output ++ reply ≡ new.output = sym (ap (λ (x : Socket S). x.output) is ∙ ap (λ z. z ++ reply) output) in
+      let read = one_read rem old new p ff.1
+      (ap (λ (x : Socket S). x.conn) is ∙ ff.4)
+      (ap (λ (x : Socket S). x.input) is ∙ keeps.1 ∙ ap (λ n. drop n old.input) ff.2)
+      (ap (λ (x : Socket S). x.stream) is ∙ stream)
+      (sends-cast p.1.next.role p.1.reply old.output (old.output ++ reply) new.output waits sends) in
+      frame_heard rem old new p answer read (told ∙ ap message_tells ff.3)
+
+  -- no whole frame stands there, and what a read tells is what the call tells
+  pub part_heard : (rem : S → Option (List ℕ)) (old mid new : Socket S) (needed : ℕ) (reply : List ℕ) (answer : Option Came)
+      → Returns (read_step old.conn old.input) mid.input (Partial needed) → ReadLeaves (read_step old.conn old.input) old.conn mid.conn [] reply
+      → KeepsRest (Partial needed) old.input mid.input → mid.stream ≡ old.stream → mid.output ≡ old.output
+      → MatchOption answer (TellsNothing rem mid new) (Hears rem mid new)
+      → MatchOption answer (TellsNothing rem old new) (Hears rem old new)
+  part_heard rem old mid new needed reply answer returns leaves keeps stream output heard =
+      let pf = partial-facts (read_step old.conn old.input) mid.input needed old.conn mid.conn [] reply returns leaves in
+      let same : mid ≡ old = socket-eta mid old stream pf.0 keeps output in
+      subst (λ z. MatchOption answer (TellsNothing rem z new) (Hears rem z new)) same heard
+
+  over_by : (old : Socket S) (e : Error) → GivesError (read_step old.conn old.input) e → IsOver e → (x : Error) × (read_step old.conn old.input ≡ Err x) × IsOver x
+  over_by old e (inl starved) h = absurd (rw starved at h)
+  over_by old e (inr is) h = (e, is, h)
 
   -- what a refusal tells
-  pub refusal_heard : (rem : S → Option (List ℕ)) (old new : Socket S) (e : Error) (answer : Came) → Reads rem old new (Err e) → Refused e answer → Hears rem old new answer
-  refusal_heard rem old new e (came.Line bytes) r h = absurd h
-  refusal_heard rem old new e came.TooLong r h = absurd h
-  refusal_heard rem old new e came.Ended r h = inr (r.0, r.1, r.2, r.3, r.5, quiet_silent r.0 r.6.0, over r.2 r.3 e h r.6.6)
-  refusal_heard rem old new e came.Quiet r h = (r.0, run_of_wait rem old new e h r, quiet_silent r.0 r.6.0)
-  refusal_heard rem old new e came.Failed r h = tt
-  refusal_heard rem old new e came.NoMemory r h = tt
+  pub refusal_heard : (rem : S → Option (List ℕ)) (old new : Socket S) (e : Error) (answer : Came) → GivesError (read_step old.conn old.input) e → Refused e answer → Hears rem old new answer
+  refusal_heard rem old new e (came.Line bytes) g h = absurd h
+  refusal_heard rem old new e came.TooLong g h = absurd h
+  refusal_heard rem old new e came.Ended g h = inr ([], [], old.conn, old.input, (refl, sym (append-nil old.input)), tt, inl (over_by old e g h))
+  refusal_heard rem old new e came.Quiet g h = absurd h
+  refusal_heard rem old new e came.Failed g h = tt
+  refusal_heard rem old new e came.NoMemory g h = tt

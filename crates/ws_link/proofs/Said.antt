@@ -1,7 +1,6 @@
 -- Lines as frames, one after another.
 use Rattle.std.proofs.Common.{◌≡◌, ◌<◌, ◌≤◌, ◌-◌, ◌==◌, ◌+◌, ℕ, zero, suc, List, [], ◌∷◌, ◌++◌, Bool, true, false, cond, Option, None, Some, Result, refl, sym, ap, subst, ◌∙◌, append_assoc, append-nil, length, map, take, drop, slice_index, arith, length-take}
 use Rattle.std.specs.List.{concat}
-use Rattle.std.specs.Io.KnownBytes.{Appends}
 use Rattle.std.proofs.lemmas.List.{take-take}
 use Rattle.memchr.specs.Find.{IsFirstByte, is_byte}
 use Rattle.game_sheet.specs.Lines.{first_length, lines}
@@ -9,16 +8,14 @@ use Rattle.game_sheet.proofs.Cut.{cut_at, ended, longer}
 use Rattle.tungstenite.specs.Connection.{Connection, Effect, IsMaskOf, check_can_write, whole_header, write_active, write_step}
 use Rattle.tungstenite.specs.Content.{text, binary, content_opcode}
 use Rattle.tungstenite.specs.Frame.{after_check, encode_frame}
-use Rattle.tungstenite.specs.Socket.{Flushed, Socket, Writes}
 use Rattle.tungstenite.specs.Text.{is_utf8}
-use Rattle.tungstenite.proofs.SocketLemmas.{appends-chain, appends-nil}
 use Rattle.websocket.specs.View.{Leaves}
 use Rattle.websocket.specs.declared.error.Error.{Error as FrameError}
 use Rattle.websocket.specs.declared.protocol.config.Role.{Role}
 use Rattle.websocket.specs.declared.protocol.config.Role.TheVariants.{Server, Client}
 use Rattle.websocket.specs.declared.protocol.state.WebSocketState.{WebSocketState}
 use Rattle.websocket.specs.declared.protocol.state.WebSocketState.TheVariants as state
-use Rattle.ws_link.specs.Frames.{Says, frame_of, frames_of, message_of}
+use Rattle.ws_link.specs.Frames.{frame_of, frames_of, message_of}
 
 -- ---- the end of the first line
 
@@ -89,44 +86,17 @@ first_frame rest end some within cuts =
     ap (λ ls. concat (map frame_of ls)) cuts
     ∙ ap (λ bytes. encode_frame (whole_header (content_opcode (message_of bytes)) None) bytes ++ frames_of (drop end rest)) (trimmed rest end some within)
 
-module _ {S : Type 0} where
-  -- how far a send has come
-  pub record Saying (contents : S → Option (List ℕ)) (old now : Socket S) (whole rest : List ℕ) : Type 0 where
-    pub sent : List ℕ
-    pub appends : Appends (contents old.stream) (contents now.stream) sent
-    pub frames : (sent ++ now.output) ++ frames_of rest ≡ old.output ++ frames_of whole
-    pub same_conn : now.conn ≡ old.conn
-    pub same_input : now.input ≡ old.input
+-- ---- how far a send has come: the frames of the first lines, and the connection as it was
+abbrev pub Saying : Connection → Connection → List ℕ → List ℕ → List ℕ → Type 0
+Saying old now frames whole rest = (now ≡ old) × (frames ++ frames_of rest ≡ frames_of whole)
 
-  pub saying_first : (contents : S → Option (List ℕ)) (v : Socket S) (whole : List ℕ) → Saying contents v v whole whole
-  saying_first contents v whole = record { sent = []; appends = appends-nil (contents v.stream); frames = refl; same_conn = refl; same_input = refl }
-
-  pub saying_next : (contents : S → Option (List ℕ)) (old now new : Socket S) (whole rest : List ℕ) (end : ℕ) → old.conn.role ≡ Server → 0 < end → end ≤ length rest
-      → lines rest ≡ take end rest ∷ lines (drop end rest) → Saying contents old now whole rest → Writes contents now new (write_step now.conn (message_of (take (end - 1) rest)))
-      → Saying contents old new whole (drop end rest)
-  saying_next contents old now new whole rest end role some within cuts h w =
-      let one = one_frame now.conn new.conn (take (end - 1) rest) now.output (w.0 ++ new.output) (ap (λ (x : Connection). x.role) h.same_conn ∙ role) w.1 in
-      record {
-        sent = h.sent ++ w.0;
-        appends = appends-chain (contents old.stream) (contents now.stream) (contents new.stream) h.sent w.0 h.appends w.2;
-        frames =
-            ap (λ z. z ++ frames_of (drop end rest)) (append_assoc h.sent w.0 new.output ∙ ap (λ z. h.sent ++ z) one.1 ∙ sym (append_assoc h.sent now.output _))
-            ∙ append_assoc (h.sent ++ now.output) _ (frames_of (drop end rest))
-            ∙ ap (λ z. (h.sent ++ now.output) ++ z) (sym (first_frame rest end some within cuts))
-            ∙ h.frames;
-        same_conn = one.0 ∙ h.same_conn;
-        same_input = w.3 ∙ h.same_input;
-      }
-
-  pub saying_last : (contents : S → Option (List ℕ)) (old now new : Socket S) (whole rest : List ℕ) → rest ≡ [] → Saying contents old now whole rest → Flushed contents now new → new.output ≡ []
-      → Says contents old new whole
-  saying_last contents old now new whole rest none h f empty =
-      let all : f.0 ≡ now.output = sym (append-nil f.0) ∙ ap (λ z. f.0 ++ z) (sym empty) ∙ sym f.1 in
-      let whole_is : h.sent ++ f.0 ≡ old.output ++ frames_of whole =
-      ap (λ z. h.sent ++ z) all ∙ sym (append-nil (h.sent ++ now.output)) ∙ ap (λ z. (h.sent ++ now.output) ++ frames_of z) (sym none) ∙ h.frames in
-      record {
-        sent = subst (Appends (contents old.stream) (contents new.stream)) whole_is (appends-chain (contents old.stream) (contents now.stream) (contents new.stream) h.sent f.0 h.appends f.2);
-        nothing_waits = empty;
-        same_conn = f.3 ∙ h.same_conn;
-        same_input = f.4 ∙ h.same_input;
-      }
+pub saying_next : (c c1 c2 : Connection) (whole rest frames more : List ℕ) (end : ℕ) → c.role ≡ Server → 0 < end → end ≤ length rest → lines rest ≡ take end rest ∷ lines (drop end rest)
+    → Saying c c1 frames whole rest → Leaves (write_step c1 (message_of (take (end - 1) rest))) c2 frames more → Saying c c2 more whole (drop end rest)
+saying_next c c1 c2 whole rest frames more end role some within cuts h w =
+    let one = one_frame c1 c2 (take (end - 1) rest) frames more (ap (λ (x : Connection). x.role) h.0 ∙ role) w in (
+      one.0 ∙ h.0,
+      ap (λ z. z ++ frames_of (drop end rest)) one.1
+          ∙ append_assoc frames _ (frames_of (drop end rest))
+          ∙ ap (λ z. frames ++ z) (sym (first_frame rest end some within cuts))
+          ∙ h.1,
+    )

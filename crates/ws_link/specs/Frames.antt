@@ -1,5 +1,5 @@
 -- What the frames of a WebSocket tell a link, and what lines are as frames.
-use Rattle.std.specs.Prelude.{◌≡◌, ◌⊎◌, ◌++◌, ◌∷◌, ◌-◌, ℕ, nat_lt, cond, if◌then◌else◌, List, [], length, map, take, Option, None, Some, Err}
+use Rattle.std.specs.Prelude.{◌≡◌, ◌⊎◌, ◌++◌, ◌∷◌, ◌-◌, ℕ, nat_lt, cond, if◌then◌else◌, List, [], length, map, take, drop, Option, None, Some, Err}
 use Rattle.std.specs.List.{concat}
 use Rattle.std.specs.Io.KnownBytes.{Appends, Consumes, IsAtEnd}
 use Rattle.board_links.specs.declared.link.Came.{Came}
@@ -8,7 +8,7 @@ use Rattle.game_sheet.specs.Lines.{lines}
 use Rattle.tungstenite.specs.Connection.{Connection, Effect, read_step, whole_header}
 use Rattle.tungstenite.specs.Content.{Content, text, binary, close, content_opcode}
 use Rattle.tungstenite.specs.Frame.{encode_frame}
-use Rattle.tungstenite.specs.Socket.{NoReplies, Run, Runs, Socket}
+use Rattle.tungstenite.specs.Socket.{Replies, Run, Runs, Socket}
 use Rattle.tungstenite.specs.Text.{is_utf8}
 use Rattle.websocket.specs.declared.error.Error.{Error as FrameError}
 use Rattle.websocket.specs.declared.error.Error.TheVariants as frame
@@ -56,14 +56,14 @@ IsOver error = ⊥
 
 module _ {S : Type 0} where
   -- The frames of a run were read from the bytes left over and those that the stream gave, one after another, and the socket is where
-  -- they led, on the same side. Where nothing waited to be sent and none of them asked for a reply, nothing waits now, and the bytes were the next of
-  -- those that the stream tells.
+  -- they led, on the same side. The bytes were the next of those that the stream tells, and what the frames asked for as replies, and nothing else,
+  -- waits behind what waited to be sent.
   pub record ReadsRun (remaining : S → Option (List ℕ)) (old new : Socket S) (ps : Run) : Type 0 where
     pub got : List ℕ
     pub frames : Runs old.conn (old.input ++ got) ps new.conn new.input
     pub same_role : new.conn.role ≡ old.conn.role
-    pub waits : old.output ≡ [] → NoReplies ps → new.output ≡ []
-    pub told : old.output ≡ [] → NoReplies ps → Consumes (remaining old.stream) (remaining new.stream) got
+    pub replies : Replies ps old.output new.output
+    pub told : Consumes (remaining old.stream) (remaining new.stream) got
 
   -- frames that tell this were read
   abbrev pub Tells : (S → Option (List ℕ)) → Socket S → Socket S → Came → Type 0
@@ -105,9 +105,14 @@ abbrev pub frames_of : List ℕ → List ℕ
 frames_of bytes = concat (map frame_of (lines bytes))
 
 module _ {S : Type 0} where
-  -- what waited to be sent and then these frames went to the stream, and nothing else; what was read stays
-  pub record Says (contents : S → Option (List ℕ)) (old new : Socket S) (bytes : List ℕ) : Type 0 where
-    pub sent : Appends (contents old.stream) (contents new.stream) (old.output ++ frames_of bytes)
-    pub nothing_waits : new.output ≡ []
+  -- these frames, and nothing else, wait behind what waited to be sent; nothing else changes
+  abbrev pub Says : Socket S → Socket S → List ℕ → Type 0
+  Says old new bytes = new ≡ record old { output = old.output ++ frames_of bytes }
+
+  -- some of what waited, from its first byte on, went to the stream, and nothing else; the rest waits
+  pub record HandsOn (contents : S → Option (List ℕ)) (old new : Socket S) : Type 0 where
+    pub count : ℕ
+    pub sent : Appends (contents old.stream) (contents new.stream) (take count old.output)
+    pub rest : new.output ≡ drop count old.output
     pub same_conn : new.conn ≡ old.conn
     pub same_input : new.input ≡ old.input

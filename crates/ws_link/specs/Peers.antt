@@ -1,5 +1,5 @@
 -- What a call makes of a link's peer where the handshake was made, and the numbers of closes.
-use Rattle.std.specs.Prelude.{◌≡◌, ℕ, List, Option}
+use Rattle.std.specs.Prelude.{◌≡◌, ◌⊎◌, ◌==◌, ℕ, Bool, true, false, List, [], length, Option}
 use Rattle.board_links.specs.declared.link.Came.{Came}
 use Rattle.board_links.specs.declared.link.Out.{Out}
 use Rattle.board_links.specs.declared.link.Out.TheVariants as out
@@ -8,13 +8,23 @@ use Rattle.board_links.specs.declared.link.SessionEnd.TheVariants as end
 use Rattle.game_sheet.specs.declared.act.Bye.TheVariants as bye
 use Rattle.tungstenite.specs.Socket.{IsFresh, Socket}
 use Rattle.websocket.specs.declared.protocol.config.Role.TheVariants.{Server}
-use Rattle.ws_link.specs.Frames.{Hears, Says}
+use Rattle.ws_link.specs.Frames.{HandsOn, Hears, Says}
 use Rattle.ws_link.specs.declared.ws_link.Peer.{Peer}
 use Rattle.ws_link.specs.declared.ws_link.Peer.TheVariants as peer
+use Rattle.ws_link.specs.declared.ws_link.Rest.{Rest}
+use Rattle.ws_link.specs.declared.ws_link.Rest.TheVariants as rest
+
+-- a receive left nothing that its stream may have
+abbrev pub is_done : Rest → Bool
+is_done rest.Nothing = true
+is_done rest.Due = false
+is_done rest.Told = false
 
 module _ {T : Type 0} where
-  abbrev pub waits_with : T → Peer T
-  waits_with stream = peer.Waits stream
+  -- before its handshake, on this stream
+  abbrev pub waits_for : T → Peer T → Type 0
+  waits_for stream (peer.Greets greeting) = greeting.stream ≡ stream
+  waits_for stream other = ⊥
 
   abbrev pub IsOpen : Peer T → Type 0
   IsOpen (peer.Open socket) = Unit {0}
@@ -24,6 +34,11 @@ module _ {T : Type 0} where
   abbrev pub IsRaw : T → Peer T → Type 0
   IsRaw stream (peer.Open socket) = IsFresh socket stream Server
   IsRaw stream other = ⊥
+
+  -- nothing waits to be sent
+  abbrev pub is_clear : Peer T → Bool
+  is_clear (peer.Open socket) = length socket.output == 0
+  is_clear other = true
 
   -- a peer that was open is open still, and this holds of its socket before and after
   abbrev pub StaysOpen : (Socket T → Socket T → Type 0) → Peer T → Peer T → Type 0
@@ -35,13 +50,25 @@ module _ {T : Type 0} where
   abbrev pub FramesHeard : (T → Option (List ℕ)) → Peer T → Peer T → Came → Type 0
   FramesHeard remaining old new answer = StaysOpen (λ s t. Hears remaining s t answer) old new
 
-  -- what a send made of one: where it was done, these lines' frames went out
-  abbrev pub SaidBy : (T → Option (List ℕ)) → List ℕ → Out → Socket T → Socket T → Type 0
-  SaidBy contents bytes out.Done s t = s.conn.role ≡ Server → Says contents s t bytes
-  SaidBy contents bytes answer s t = Unit {0}
+  -- what a send made of one: where it was done, these lines' frames wait behind what waited
+  abbrev pub SaidBy : List ℕ → Out → Socket T → Socket T → Type 0
+  SaidBy bytes out.Done s t = s.conn.role ≡ Server → Says s t bytes
+  SaidBy bytes answer s t = Unit {0}
 
-  abbrev pub FramesSaid : (T → Option (List ℕ)) → Peer T → Peer T → List ℕ → Out → Type 0
-  FramesSaid contents old new bytes answer = StaysOpen (SaidBy contents bytes answer) old new
+  abbrev pub FramesSaid : Peer T → Peer T → List ℕ → Out → Type 0
+  FramesSaid old new bytes answer = StaysOpen (SaidBy bytes answer) old new
+
+  -- what handing on made of one: what waited goes to the stream from its first byte on, unless the stream failed
+  abbrev pub HandedBy : (T → Option (List ℕ)) → Bool → Socket T → Socket T → Type 0
+  HandedBy contents true s t = HandsOn contents s t
+  HandedBy contents false s t = t.output ≡ []
+
+  abbrev pub FramesHanded : (T → Option (List ℕ)) → Peer T → Peer T → Bool → Type 0
+  FramesHanded contents old new is_well = StaysOpen (HandedBy contents is_well) old new
+
+  -- what a flush made of one: it was handed on so, or the stream failed, nothing waits any more, and the next receive fails
+  abbrev pub FramesFlushed : (T → Option (List ℕ)) → Peer T → Peer T → Bool → Type 0
+  FramesFlushed contents old new broken = StaysOpen (λ s t. HandsOn contents s t ⊎ ((broken ≡ true) × (t.output ≡ []))) old new
 
 -- the code of the close that ends a session
 abbrev pub close_number : SessionEnd → ℕ

@@ -2,12 +2,14 @@
 //! is one frame.
 #![tactic(auto)]
 
-mod polled_stream;
-mod socket;
+mod framing;
+mod greeting;
+mod poll_streams;
 mod stream_door;
 mod ws_link;
 
-pub use polled_stream::{PolledStream, TcpStreamDoor};
-pub use socket::LINE;
+pub use framing::{Framing, LINE};
+pub use greeting::Greeting;
+pub use poll_streams::{HeadStream, PollStreams};
 pub use stream_door::{StreamDoor, WsDoor};
-pub use ws_link::{Peer, WsLink};
+pub use ws_link::{Peer, Rest, WsLink};

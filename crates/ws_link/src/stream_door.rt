@@ -4,9 +4,10 @@ ghost use Rattle.std.specs.Prelude.{◌≡◌, ◌+◌, ◌≤◌, ◌||◌, IsS
 
 use crate::ws_link::WsLink;
 use board_links::{Door, SessionEnd, Visit};
+use game_sheet::{NoMemory, Text};
 use std::alloc::Global;
 use std::io::{Read, Write};
-use std::sync::Wait;
+use std::sync::{Arc, Wait};
 
 /// Where streams come in.
 pub trait StreamDoor: Drop {
@@ -42,6 +43,8 @@ pub trait StreamDoor: Drop {
 pub struct WsDoor<D> {
     alloc: Global,
     door: D,
+    /// The only origin of a page that is taken, if there is one.
+    origin: Option<Arc<Text, Global>>,
     out: u64,
 }
 
@@ -55,10 +58,31 @@ impl<D: StreamDoor> WsDoor<D> {
         ensures faults { ⟦<WsDoor<D> as Door>⟧.faults result ≡ D.faults door }
         ensures left { ⟦<WsDoor<D> as Door>⟧.left result ≡ D.left door }
     {
+        WsDoor::from(alloc, door, None)
+    }
+
+    /// The same, where a peer that names the origin of a page has to name this one, if one is said.
+    pub fn from(alloc: Global, door: D, origin: Option<Arc<Text, Global>>) -> WsDoor<D>
+        ensures given { ⟦<WsDoor<D> as Door>⟧.given result ≡ D.given door }
+        ensures out { ⟦<WsDoor<D> as Door>⟧.out result ≡ 0 }
+        ensures bots_out { ⟦<WsDoor<D> as Door>⟧.bots_out result ≡ 0 }
+        ensures shut { ⟦<WsDoor<D> as Door>⟧.shut result ≡ D.shut door }
+        ensures faults { ⟦<WsDoor<D> as Door>⟧.faults result ≡ D.faults door }
+        ensures left { ⟦<WsDoor<D> as Door>⟧.left result ≡ D.left door }
+    {
         WsDoor {
             alloc,
             door,
+            origin,
             out: 0,
+        }
+    }
+
+    /// The only origin that is taken, for one more link.
+    fn origin(&self) -> Result<Option<Arc<Text, Global>>, NoMemory> {
+        match &self.origin {
+            Some(origin) => Ok(Some(Arc::try_clone(origin)?)),
+            None => Ok(None),
         }
     }
 }
@@ -84,10 +108,13 @@ impl<D: StreamDoor> Door for WsDoor<D> {
         if self.out == u64::MAX {
             return Visit::NoMemory;
         }
+        let Ok(origin) = self.origin() else {
+            return Visit::NoMemory;
+        };
         match self.door.accept(rt) {
             Visit::Came(stream) => {
                 self.out += 1;
-                Visit::Came(WsLink::greet(self.alloc, stream))
+                Visit::Came(WsLink::greet_from(self.alloc, stream, origin))
             }
             Visit::Quiet => Visit::Quiet,
             Visit::Shut => Visit::Shut,

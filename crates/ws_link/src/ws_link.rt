@@ -1,40 +1,52 @@
 //! A link over a WebSocket.
 
-ghost use Rattle.std.specs.Prelude.{◌≡◌, ◌≤◌, None, IsOk};
+ghost use Rattle.std.specs.Prelude.{◌≡◌, ◌≤◌, ◌&&◌, None, true, IsOk};
 ghost use Rattle.board_links.specs.Answers.{CameRaises, IsWithin, OutRaises, stage_after};
 ghost use Rattle.board_links.specs.Faults.{HasRisen};
 ghost use Rattle.board_links.specs.declared.link.Stage.TheVariants as at;
-ghost use Rattle.ws_link.specs.Peers.{FramesHeard, FramesSaid, IsOpen, IsRaw, close_number, waits_with};
-ghost use Rattle.ws_link.specs.declared.ws_link.Peer.TheVariants as peer;
+ghost use Rattle.ws_link.specs.Peers.{FramesFlushed, FramesHanded, FramesHeard, FramesSaid, IsOpen, IsRaw, close_number, is_clear, is_done, waits_for};
 ghost use Rattle.tungstenite.specs.CloseCode.{close_code_number};
 
-use crate::socket::{LINE, hear, say};
+use crate::framing::{Framing, LINE, Slip};
+use crate::greeting::{Greeting, Halt};
 use board_links::{Came, Link, Out, SessionEnd, Stage};
-use game_sheet::{Bye, MatchName, Seat};
+use game_sheet::{Bye, MatchName, Seat, Text};
 use std::alloc::Global;
-use std::io::{ErrorKind, Read, Write};
+use std::io::{Read, Write};
 use std::mem;
-use std::sync::Wait;
-use tungstenite::{
-    CloseCode, CloseFrame, Error, HandshakeError, NoMask, Role, Utf8Bytes, WebSocket, accept,
-};
+use std::sync::{Arc, Wait};
+use websocket::protocol::CloseCode;
 
 /// How far a link is with its peer.
 #[derive(Drop)]
 pub enum Peer<T> {
     /// The handshake is still to be made.
-    Waits(T),
+    Greets(Greeting<T>),
     /// The handshake was made.
-    Open(WebSocket<T, NoMask>),
+    Open(Framing<T>),
     /// The handshake failed, or the session is over: the stream was let go.
     Gone,
 }
 
-/// A link over a WebSocket, as a server has it. It tells neither its answers nor what it was sent.
+/// Whether a receive stopped though its stream may have more.
+#[derive(Clone, Copy, PartialEq, Eq, Debug)]
+pub enum Rest {
+    /// It didn't.
+    Nothing,
+    /// It did, and `flush` has to say that the link isn't done.
+    Due,
+    /// It did, and `flush` has said so.
+    Told,
+}
+
+/// A link over a WebSocket, as a server has it, over any stream that doesn't wait. A send lets its frames wait, which `flush` writes as far as the
+/// stream takes them. It tells neither its answers nor what it was sent.
 #[derive(Drop)]
 pub struct WsLink<T> {
-    alloc: Global,
-    peer: Peer<T>,
+    pub(crate) peer: Peer<T>,
+    rest: Rest,
+    /// Whether the next receive has to fail.
+    broken: bool,
     faults: u64,
     stage: Stage,
     finished: Option<SessionEnd>,
@@ -48,30 +60,56 @@ impl<T: Read + Write + Drop> WsLink<T> {
         ensures finished { ⟦<WsLink<T> as Link>⟧.finished result ≡ None }
         ensures raw { IsRaw stream result.peer }
     {
-        let socket = WebSocket::from_raw_socket(alloc, stream, NoMask, Role::Server, None);
-        WsLink::with(alloc, Peer::Open(socket))
+        WsLink::with(Peer::Open(Framing::new(alloc, stream)))
     }
 
-    /// A link that makes the handshake in its first call.
+    /// A link that makes the handshake in its first calls, as soon as its peer's head has come.
     pub fn greet(alloc: Global, stream: T) -> WsLink<T>
         ensures faults { ⟦<WsLink<T> as Link>⟧.faults result ≡ 0 }
         ensures stage { ⟦<WsLink<T> as Link>⟧.stage result ≡ at.Open }
         ensures finished { ⟦<WsLink<T> as Link>⟧.finished result ≡ None }
-        ensures waits { result.peer ≡ waits_with stream }
+        ensures waits { waits_for stream result.peer }
     {
-        WsLink::with(alloc, Peer::Waits(stream))
+        WsLink::greet_from(alloc, stream, None)
     }
 
-    fn with(alloc: Global, peer: Peer<T>) -> WsLink<T>
+    /// The same, where a peer that names the origin of a page has to name this one, if one is said. Another is answered 403.
+    pub fn greet_from(alloc: Global, stream: T, origin: Option<Arc<Text, Global>>) -> WsLink<T>
+        ensures faults { ⟦<WsLink<T> as Link>⟧.faults result ≡ 0 }
+        ensures stage { ⟦<WsLink<T> as Link>⟧.stage result ≡ at.Open }
+        ensures finished { ⟦<WsLink<T> as Link>⟧.finished result ≡ None }
+        ensures waits { waits_for stream result.peer }
+    {
+        WsLink::with(Peer::Greets(Greeting::new(alloc, stream, origin)))
+    }
+
+    fn with(peer: Peer<T>) -> WsLink<T>
         ensures { (result.peer ≡ peer) × (result.faults ≡ 0) × (result.stage ≡ at.Open) × (result.finished ≡ None) }
     {
         WsLink {
-            alloc,
             peer,
+            rest: Rest::Nothing,
+            broken: false,
             faults: 0,
             stage: Stage::Open,
             finished: None,
         }
+    }
+
+    /// Its stream; none once it was let go.
+    pub(crate) fn stream(&self) -> Option<&T> {
+        match &self.peer {
+            Peer::Greets(greeting) => Some(greeting.stream()),
+            Peer::Open(framing) => Some(framing.stream()),
+            Peer::Gone => None,
+        }
+    }
+
+    /// The next receive fails.
+    pub(crate) fn spoil(&mut self)
+        ensures { self.new ≡ record self.old { broken = true } }
+    {
+        self.broken = true;
     }
 
     /// Counts a fault.
@@ -82,59 +120,103 @@ impl<T: Read + Write + Drop> WsLink<T> {
     {
         self.faults = self.faults.saturating_add(1);
     }
+
+    /// The next line.
+    fn come(&mut self) -> Came
+        ensures frames { FramesHeard T.remaining self.old.peer self.new.peer result }
+        ensures within { IsWithin 65536 result }
+        ensures same { self.new ≡ record self.old { peer = self.new.peer; rest = self.new.rest } }
+    {
+        if self.broken {
+            return Came::Failed;
+        }
+        come(&mut self.peer, &mut self.rest)
+    }
 }
 
-/// Makes the handshake where it wasn't made.
-fn greeted<T: Read + Write + Drop>(alloc: Global, peer: &mut Peer<T>) -> Result<(), Out>
+/// Makes the handshake where it wasn't made and the head has come.
+fn greeted<T: Read + Write + Drop>(peer: &mut Peer<T>) -> Result<(), Halt>
     ensures open { IsOpen peer.old → IsOk result }
     ensures same { IsOpen peer.old → peer.new ≡ peer.old }
 {
-    if let Peer::Open(_) = peer {
-        return Ok(());
+    match peer {
+        Peer::Greets(greeting) => match greeting.read_head() {
+            Ok(()) => {}
+            Err(Halt::Wait) => return Err(Halt::Wait),
+            Err(halt) => {
+                *peer = Peer::Gone;
+                return Err(halt);
+            }
+        },
+        Peer::Open(_) => return Ok(()),
+        Peer::Gone => return Err(Halt::Failed),
     }
-    let Peer::Waits(stream) = mem::replace(peer, Peer::Gone) else {
-        return Err(Out::Failed);
+    let Peer::Greets(greeting) = mem::replace(peer, Peer::Gone) else {
+        return Err(Halt::Failed);
     };
-    match accept(alloc, stream) {
-        Ok(socket) => {
-            *peer = Peer::Open(socket);
-            Ok(())
-        }
-        Err(HandshakeError::Failure(Error::OutOfMemory)) => Err(Out::NoMemory),
-        Err(_) => Err(Out::Failed),
-    }
+    *peer = Peer::Open(greeting.open()?);
+    Ok(())
 }
 
-/// The next line of a peer.
-fn come<T: Read + Write + Drop>(alloc: Global, peer: &mut Peer<T>) -> Came
+/// The next line of a peer. Whether the stream may have more though none is told is `rest` then.
+fn come<T: Read + Write + Drop>(peer: &mut Peer<T>, rest: &mut Rest) -> Came
     ensures frames { FramesHeard T.remaining peer.old peer.new result }
     ensures within { IsWithin 65536 result }
 {
-    match greeted(alloc, peer) {
+    match greeted(peer) {
         Ok(()) => {}
-        Err(Out::NoMemory) => return Came::NoMemory,
-        Err(_) => return Came::Failed,
+        Err(Halt::Wait) => return Came::Quiet,
+        Err(Halt::NoMemory) => return Came::NoMemory,
+        Err(Halt::Failed) => return Came::Failed,
     }
-    match peer {
-        Peer::Open(socket) => hear(alloc, socket),
-        _ => Came::Failed,
+    let Peer::Open(framing) = peer else {
+        return Came::Failed;
+    };
+    match framing.hear() {
+        Some(came) => came,
+        None => {
+            *rest = Rest::Due;
+            Came::Quiet
+        }
     }
 }
 
-/// Sends whole lines to a peer.
-fn put<T: Read + Write + Drop>(alloc: Global, peer: &mut Peer<T>, bytes: &[u8]) -> Out
-    ensures frames { FramesSaid T.contents peer.old peer.new bytes.now result }
+/// Lets whole lines wait for a peer.
+fn put<T: Read + Write + Drop>(peer: &mut Peer<T>, bytes: &[u8]) -> Out
+    ensures frames { FramesSaid peer.old peer.new bytes.now result }
 {
-    if let Err(out) = greeted(alloc, peer) {
-        return out;
+    match greeted(peer) {
+        Ok(()) => {}
+        Err(Halt::NoMemory) => return Out::NoMemory,
+        Err(_) => return Out::Failed,
     }
     match peer {
-        Peer::Open(socket) => match say(alloc, socket, bytes) {
+        Peer::Open(framing) => match framing.say(bytes) {
             Ok(()) => Out::Done,
-            Err(Out::NoMemory) => Out::NoMemory,
-            Err(_) => Out::Failed,
+            Err(Slip::NoMemory) => Out::NoMemory,
+            Err(Slip::Closed) => Out::Failed,
         },
         _ => Out::Failed,
+    }
+}
+
+/// Hands on what waits for a peer, and says whether its stream didn't fail.
+fn handed<T: Read + Write + Drop>(peer: &mut Peer<T>) -> bool
+    ensures frames { FramesHanded T.contents peer.old peer.new result }
+{
+    match peer {
+        Peer::Open(framing) => framing.hand_on(),
+        _ => true,
+    }
+}
+
+/// Whether nothing waits for a peer.
+fn clear<T>(peer: &Peer<T>) -> bool
+    ensures { result ≡ is_clear peer.now }
+{
+    match peer {
+        Peer::Open(framing) => framing.is_clear(),
+        _ => true,
     }
 }
 
@@ -151,7 +233,8 @@ fn close_code(end: SessionEnd) -> CloseCode
 }
 
 impl<T: Read + Write + Drop> Link for WsLink<T> {
-    ghost use Rattle.std.specs.Prelude.{None, true};
+    ghost use Rattle.std.specs.Prelude.{◌&&◌, None};
+    ghost use Rattle.ws_link.specs.Peers.{is_clear, is_done};
 
     ghost answers = { λ _. None };
 
@@ -163,7 +246,7 @@ impl<T: Read + Write + Drop> Link for WsLink<T> {
 
     ghost limit = { λ _. 65536 };
 
-    ghost clear = { λ _. true };
+    ghost clear = { λ l. is_done l.rest && is_clear l.peer };
 
     ghost finished = { λ l. l.finished };
 
@@ -179,7 +262,7 @@ impl<T: Read + Write + Drop> Link for WsLink<T> {
         ensures finished { self.new.finished ≡ self.old.finished }
         ensures frames { FramesHeard T.remaining self.old.peer self.new.peer result }
     {
-        let came = come(self.alloc, &mut self.peer);
+        let came = self.come();
         match &came {
             Came::Line(_) | Came::Quiet => self.stage = Stage::Open,
             Came::Ended => self.stage = Stage::Ended,
@@ -198,30 +281,50 @@ impl<T: Read + Write + Drop> Link for WsLink<T> {
         ensures raises { OutRaises result self.old.faults self.new.faults }
         ensures stage { self.new.stage ≡ self.old.stage }
         ensures finished { self.new.finished ≡ self.old.finished }
-        ensures frames { FramesSaid T.contents self.old.peer self.new.peer bytes.now result }
+        ensures frames { FramesSaid self.old.peer self.new.peer bytes.now result }
     {
-        let out = put(self.alloc, &mut self.peer, bytes);
+        if self.broken {
+            self.fail();
+            return Out::Failed;
+        }
+        let out = put(&mut self.peer, bytes);
         if out == Out::Failed {
             self.fail();
         }
         out
     }
 
-    fn flush(&mut self) -> bool {
-        true
+    /// Writes what waits, once. Where a receive stopped though its stream may have more, it says once that the link isn't done, so that the
+    /// link is asked again.
+    fn flush(&mut self) -> bool
+        ensures clear { result ≡ (is_done self.new.rest && is_clear self.new.peer) }
+        ensures faults { self.new.faults ≡ self.old.faults }
+        ensures stage { self.new.stage ≡ self.old.stage }
+        ensures finished { self.new.finished ≡ self.old.finished }
+        ensures frames { FramesFlushed T.contents self.old.peer self.new.peer self.new.broken }
+    {
+        if !handed(&mut self.peer) {
+            self.broken = true;
+        }
+        match self.rest {
+            Rest::Due => {
+                self.rest = Rest::Told;
+                return false;
+            }
+            Rest::Told => self.rest = Rest::Nothing,
+            Rest::Nothing => {}
+        }
+        clear(&self.peer)
     }
 
-    /// Sends a close, and lets the stream go. A close that fails is passed over.
+    /// Sends a close as far as the stream takes it, and lets the stream go.
     fn finish(&mut self, end: SessionEnd) {
         self.finished = Some(end);
-        let Peer::Open(mut socket) = mem::replace(&mut self.peer, Peer::Gone) else {
+        let Peer::Open(mut framing) = mem::replace(&mut self.peer, Peer::Gone) else {
             return;
         };
-        let frame = CloseFrame {
-            code: close_code(end),
-            reason: Utf8Bytes::new(),
-        };
-        let _closed = socket.close(Some(frame));
+        framing.close(close_code(end));
+        let _handed = framing.hand_on();
     }
 
     fn bot_seat(&self) -> Option<(MatchName, Seat)> {

@@ -1,9 +1,6 @@
-use Rattle.std.proofs.Common.{◌≡◌, ◌∙◌, ap, arith, rules, sym}
+use Rattle.std.proofs.Common.{◌∙◌, ap, arith, sym}
 use Rattle.board_server.proofs.Workers.{same_words}
 use Rattle.board_server.proofs.edge.serve_there.Goals as goal
-
-pub serve_sockets-requires : goal.serve_sockets-requires
-serve_sockets-requires g c = (search rules, λ other said. ap (λ asked. asked.workers) (same_words other c.in-Ok.asked (sym said ∙ c.in-Ok.ensures.asked)))
 
 pub serve_at-requires-clause-workers : goal.serve_at-requires-clause-workers
 serve_at-requires-clause-workers g c κs inside other said =

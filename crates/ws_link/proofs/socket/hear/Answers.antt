@@ -1,8 +1,0 @@
-use Rattle.ws_link.proofs.Heard.{still_nothing, then_hears}
-use Rattle.ws_link.proofs.socket.hear.Goals as goal
-
-pub returns-in-Some-clause-hears : goal.returns-in-Some-clause-hears
-returns-in-Some-clause-hears g c = then_hears g.T.Read.remaining c.args.socket.now c.loop.socket c.hear_once.new.socket c.in-Some.came c.loop.invariant c.in-Some.ensures.hears
-
-pub loop-preserved : goal.loop-preserved
-loop-preserved g c = still_nothing g.T.Read.remaining c.args.socket.now c.loop.socket c.hear_once.new.socket c.loop.invariant c.in_default.ensures.hears

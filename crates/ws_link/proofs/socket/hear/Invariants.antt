@@ -1,5 +1,0 @@
-use Rattle.ws_link.specs.Frames.{TellsNothing}
-use Rattle.ws_link.proofs.socket.hear.Given as goal
-
-abbrev pub invariant-loop : goal.invariant-loop
-invariant-loop g l = TellsNothing g.T.Read.remaining l.fn.socket l.socket
