@@ -1,6 +1,7 @@
 pub mod Modes
 pub mod Page
 pub mod Playing
+pub mod Raising
 pub mod Serving
 pub mod Words
 pub mod Workloads

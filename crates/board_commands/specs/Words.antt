@@ -1,12 +1,16 @@
 -- What the words of a call of the program ask for.
 use Rattle.std.specs.Prelude.{ℕ, if◌then◌else◌, ◌&&◌, nat_le, List, [], ◌∷◌, Option, Some, None, bytes_eq, codes, String, string_bytes}
 use Rattle.board_commands.specs.declared.command.Command.{Command}
-use Rattle.board_commands.specs.declared.command.Command.TheVariants.{Script, World, Workload}
+use Rattle.board_commands.specs.declared.command.Command.TheVariants.{Script, World, Replay, Workload}
 use Rattle.wire_json.specs.MatchText.{number_from}
 
 -- what a word alone asks for
 abbrev pub command_by : List ℕ → Option Command
-command_by word = if bytes_eq word (codes "script") then Some Script else if bytes_eq word (codes "world") then Some World else None
+command_by word =
+    if bytes_eq word (codes "script") then Some Script
+    else if bytes_eq word (codes "world") then Some World
+    else if bytes_eq word (codes "replay") then Some Replay
+    else None
 
 -- a workload of two numbers: of any seed, and of 1 to 1,000,000 steps
 abbrev pub workload_of : Option ℕ → Option ℕ → Option Command

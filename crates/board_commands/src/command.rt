@@ -15,6 +15,8 @@ pub enum Command {
     Script,
     /// To run a world.
     World,
+    /// To replay a journal.
+    Replay,
     /// To run a workload.
     Workload {
         /// The number by which its steps draw their words.
@@ -43,6 +45,8 @@ fn command_by(word: &[u8]) -> Option<Command>
         Some(Command::Script)
     } else if word == b"world".as_slice() {
         Some(Command::World)
+    } else if word == b"replay".as_slice() {
+        Some(Command::Replay)
     } else {
         None
     }

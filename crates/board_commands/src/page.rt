@@ -10,7 +10,7 @@ use line_runner::Exit;
 /// The page of help.
 pub const HELP: &str = "board_server: matches of turn-based games
 
-board_server serve --listen ADDRESS [--rooms 16] [--workers 8] [--links N] [--sessions 1000000] [--ws]
+board_server serve --listen ADDRESS [--rooms 16] [--workers 8] [--links N] [--sessions 1000000] [--silence SECONDS] [--ws [--origin TEXT]]
     serves matches over TCP, or over WebSockets, N at once or as many as workers, until so many sessions are over, and reports
 board_server play --connect ADDRESS --game NAME --match MATCH [--seat SEAT --key KEY]
     plays a match by the commands on standard input: act ACT, move NAME ARGS, end turn, undo, redo, read, wait, show, end
@@ -18,6 +18,8 @@ board_server script
     plays the script on standard input, and prints its transcript
 board_server world
     plays the world on standard input, and prints its transcript
+board_server replay
+    says what the journal on standard input holds: its records, and the match that they make
 board_server workload SEED STEPS
     plays many matches by itself, and prints in numbers what came of them
 board_server --help

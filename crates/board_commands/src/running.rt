@@ -5,30 +5,34 @@ ghost use Rattle.board_links.specs.Faults.{HasRisen};
 ghost use Rattle.board_links.specs.Pieces.{told_bytes};
 ghost use Rattle.hall_history.specs.Mark.{Mark};
 ghost use Rattle.world_script.specs.Converging.{ConvergesIn};
-ghost use Rattle.line_runner.specs.Running.{AreInForm, Ends, ExitRaises, IsComplete};
+ghost use Rattle.journal_replay.specs.Replaying.{ReplayEnds};
+ghost use Rattle.line_runner.specs.Running.{AreInForm, Ends, IsComplete};
 ghost use Rattle.world_script.specs.ScriptPlay.{first_hall, script_play};
 ghost use Rattle.world_script.specs.Deliveries.{first_world};
 ghost use Rattle.world_script.specs.WorldPlay.{world_play};
 ghost use Rattle.line_runner.specs.declared.exit.Exit.TheVariants.{Usage};
+ghost use Rattle.board_commands.specs.Raising.{RunRaises};
 ghost use Rattle.board_commands.specs.Words.{command_of};
 ghost use Rattle.board_commands.specs.Workloads.{Prints, workload_text};
 ghost use Rattle.board_commands.specs.declared.command.Command.{Command as Asked};
-ghost use Rattle.board_commands.specs.declared.command.Command.TheVariants.{Script, World, Workload};
+ghost use Rattle.board_commands.specs.declared.command.Command.TheVariants.{Script, World, Replay, Workload};
 
 use crate::command::{Command, command_of};
 use crate::workloads::run_workload;
 use board_links::{Sink, Source};
+use journal_replay::replay;
 use line_runner::Exit;
 use std::alloc::Global;
 use world_script::{run_script, run_world};
 
-/// Runs what the words after the program's name ask for: `script`, a script, or `world`, a world, from a source to a sink; or
-/// `workload` with a seed and a number of steps, into a sink alone.
+/// Runs what the words after the program's name ask for: `script`, a script, `world`, a world, or `replay`, a journal, from a source to a
+/// sink; or `workload` with a seed and a number of steps, into a sink alone.
 ///
 /// `Usage` comes exactly where the words are none of these, and then nothing was read or written. Where source and
 /// sink tell what they hold, `ends` says what a script added to the sink and where each end comes, and what Takes print for
 /// each session; `completes`, that a script in form without a fault is run to its end, or there was no memory; `world_ends`
-/// and `world_completes` say it of a world, and `world_converges`, what its clients see of their matches. `workload_prints` says that a
+/// and `world_completes` say it of a world, and `world_converges`, what its clients see of their matches. `replays` says that a replay
+/// prints what the records of the journal make, and where it is damaged or too long. `workload_prints` says that a
 /// workload adds its transcript, or a first part of it where it doesn't end with `Done`, and `workload_completes` that without a fault
 /// of the sink it is run to its end, or there was no memory.
 pub fn run<S: Source, K: Sink>(
@@ -42,7 +46,7 @@ pub fn run<S: Source, K: Sink>(
     ensures usage { command_of words.now ≡ None → result ≡ Usage }
     ensures untouched_source { command_of words.now ≡ None → source.new ≡ source.old }
     ensures untouched_sink { command_of words.now ≡ None → sink.new ≡ sink.old }
-    ensures raises { (asked : Asked) → command_of words.now ≡ Some asked → ExitRaises result (S.faults source.old) (S.faults source.new) (K.faults sink.old) (K.faults sink.new) }
+    ensures raises { (asked : Asked) → command_of words.now ≡ Some asked → RunRaises asked result (S.faults source.old) (S.faults source.new) (K.faults sink.old) (K.faults sink.new) }
     ensures ends { command_of words.now ≡ Some Script → IsSome (S.left source.old) → IsSome (K.held sink.old)
         → Ends script_play first_hall (told_bytes (S.left source.old)) (told_bytes (S.left source.new)) (told_bytes (K.held sink.old)) (K.held sink.new) result }
     ensures completes { command_of words.now ≡ Some Script → IsSome (S.left source.old) → IsSome (K.held sink.old) → AreInForm script_play (told_bytes (S.left source.old))
@@ -52,6 +56,8 @@ pub fn run<S: Source, K: Sink>(
     ensures world_completes { command_of words.now ≡ Some World → IsSome (S.left source.old) → IsSome (K.held sink.old) → AreInForm world_play (told_bytes (S.left source.old))
         → (HasRisen (S.faults source.old) (S.faults source.new) → ⊥) → (HasRisen (K.faults sink.old) (K.faults sink.new) → ⊥) → IsComplete result }
     ensures world_converges { command_of words.now ≡ Some World → (marks : List Mark) (lines : List (List ℕ)) → ConvergesIn marks lines }
+    ensures replays { command_of words.now ≡ Some Replay → IsSome (S.left source.old) → IsSome (K.held sink.old)
+        → ReplayEnds (told_bytes (S.left source.old)) (S.left source.new) (told_bytes (K.held sink.old)) (K.held sink.new) result }
     ensures workload_source { (seed steps : ℕ) → command_of words.now ≡ Some (Workload seed steps) → source.new ≡ source.old }
     ensures workload_prints { (seed steps : ℕ) → command_of words.now ≡ Some (Workload seed steps) → IsSome (K.held sink.old)
         → Prints result (workload_text seed steps) (told_bytes (K.held sink.old)) (K.held sink.new) }
@@ -61,6 +67,7 @@ pub fn run<S: Source, K: Sink>(
     match command_of(words) {
         Some(Command::Script) => run_script(alloc, source, sink),
         Some(Command::World) => run_world(alloc, source, sink),
+        Some(Command::Replay) => replay(alloc, source, sink),
         Some(Command::Workload { seed, steps }) => run_workload(alloc, seed, steps, sink),
         None => Exit::Usage,
     }

@@ -100,9 +100,12 @@ where
         workers: _,
         links,
         sessions,
+        silence: _,
+        origin,
         ws: _,
     } = asked;
     drop(listen);
+    drop(origin);
     let (end, door, books) = serve_rooms(
         rt, alloc, rooms, links, readies, sessions, door, sink, seed,
     );

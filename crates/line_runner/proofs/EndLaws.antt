@@ -9,7 +9,7 @@ use Rattle.line_runner.specs.Reader.{Reader, fresh, to_come}
 use Rattle.line_runner.specs.ScriptLines.{Script, first_line}
 use Rattle.line_runner.specs.ScriptLines as script
 use Rattle.line_runner.specs.declared.exit.Exit.{Exit}
-use Rattle.line_runner.specs.declared.exit.Exit.TheVariants.{Done, BadLine, TooLong, TooMany, ReadFault, WriteFault, NoMemory, Usage, DoorFault, LinkFault, LinkEnded, LinkLong}
+use Rattle.line_runner.specs.declared.exit.Exit.TheVariants.{Done, BadLine, TooLong, TooMany, ReadFault, WriteFault, NoMemory, Usage, DoorFault, LinkFault, LinkEnded, LinkLong, BadRecord, LongJournal, StoreFault}
 use Rattle.line_runner.specs.declared.next.Next.{Next}
 use Rattle.line_runner.specs.declared.next.Next.TheVariants as next
 use Rattle.line_runner.specs.declared.run.LineStatus.{LineStatus}
@@ -97,6 +97,9 @@ module _ {Mark Step State : Type 0} (p : Play Mark Step State) (begin : State) w
   completes LinkFault bytes left before held a b c d e r f s k = r
   completes LinkEnded bytes left before held a b c d e r f s k = r
   completes LinkLong bytes left before held a b c d e r f s k = r
+  completes (BadRecord place) bytes left before held a b c d e r f s k = absurd e
+  completes LongJournal bytes left before held a b c d e r f s k = absurd e
+  completes StoreFault bytes left before held a b c d e r f s k = absurd e
 
 module _ {Mark Step State Held : Type 0} (p : Play Mark Step State) (d : Doing Mark Step State Held) (begin : State) (ok : IsPlay p d) where
   module _ (bytes before : List ℕ) (hall : Held) (given : ℕ) (reader : Reader) (left : List ℕ) where

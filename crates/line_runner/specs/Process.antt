@@ -1,7 +1,7 @@
 -- What each end of a run makes of the process: its status, and the line on standard error.
 use Rattle.std.specs.Prelude.{ℕ, List, [], ◌∷◌, ◌++◌, codes, decimal}
 use Rattle.line_runner.specs.declared.exit.Exit.{Exit}
-use Rattle.line_runner.specs.declared.exit.Exit.TheVariants.{Done, Usage, ReadFault, WriteFault, BadLine, TooLong, TooMany, NoMemory, DoorFault, LinkFault, LinkEnded, LinkLong}
+use Rattle.line_runner.specs.declared.exit.Exit.TheVariants.{Done, Usage, ReadFault, WriteFault, BadLine, TooLong, TooMany, NoMemory, DoorFault, LinkFault, LinkEnded, LinkLong, BadRecord, LongJournal, StoreFault}
 
 -- the status of a process
 abbrev pub status : Exit → ℕ
@@ -17,6 +17,9 @@ status DoorFault = 8
 status LinkFault = 9
 status LinkEnded = 10
 status LinkLong = 11
+status (BadRecord place) = 12
+status LongJournal = 13
+status StoreFault = 14
 
 -- the line on standard error, with its newline
 abbrev pub report : Exit → List ℕ
@@ -32,3 +35,6 @@ report DoorFault = codes "door fault\n"
 report LinkFault = codes "link fault\n"
 report LinkEnded = codes "link ended\n"
 report LinkLong = codes "link line too long\n"
+report (BadRecord place) = codes "bad record " ++ decimal place ++ 10 ∷ []
+report LongJournal = codes "long journal\n"
+report StoreFault = codes "store fault\n"

@@ -39,6 +39,15 @@ pub enum Exit {
     LinkEnded,
     /// The link gave a line that is longer than its limit.
     LinkLong,
+    /// A record of a journal isn't whole, is in no form or isn't accepted after those before it.
+    BadRecord {
+        /// The place of its gate.
+        place: u64,
+    },
+    /// A journal has, or would have, more than 268,435,456 bytes.
+    LongJournal,
+    /// The store of a journal failed.
+    StoreFault,
 }
 
 impl Exit {
@@ -53,14 +62,17 @@ impl Exit {
             Exit::Usage => (1, whole("usage\n")),
             Exit::ReadFault => (2, whole("read fault\n")),
             Exit::WriteFault => (3, whole("write fault\n")),
-            Exit::BadLine { line } => (4, numbered("bad line ", line)),
-            Exit::TooLong { line } => (5, numbered("long line ", line)),
+            Exit::BadLine { line } => (4, numbered("bad line ", u64::from(line))),
+            Exit::TooLong { line } => (5, numbered("long line ", u64::from(line))),
             Exit::TooMany => (6, whole("too many lines\n")),
             Exit::NoMemory => (7, whole("no memory\n")),
             Exit::DoorFault => (8, whole("door fault\n")),
             Exit::LinkFault => (9, whole("link fault\n")),
             Exit::LinkEnded => (10, whole("link ended\n")),
             Exit::LinkLong => (11, whole("link line too long\n")),
+            Exit::BadRecord { place } => (12, numbered("bad record ", place)),
+            Exit::LongJournal => (13, whole("long journal\n")),
+            Exit::StoreFault => (14, whole("store fault\n")),
         }
     }
 }
@@ -74,13 +86,13 @@ fn whole(text: &str) -> ArrayString<40>
     line
 }
 
-fn numbered(text: &str, line: u32) -> ArrayString<40>
-    requires { length text.now ≤ 20 }
-    ensures { result.bytes ≡ text.now ++ decimal line ++ 10 ∷ [] }
+fn numbered(text: &str, number: u64) -> ArrayString<40>
+    requires { length text.now ≤ 19 }
+    ensures { result.bytes ≡ text.now ++ decimal number ++ 10 ∷ [] }
 {
     let mut report = whole(text);
     let mut digits = Buffer::new();
-    report.push_str(digits.format(line));
+    report.push_str(digits.format(number));
     report.push_str("\n");
     report
 }

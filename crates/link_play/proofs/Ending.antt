@@ -23,7 +23,7 @@ use Rattle.link_play.specs.Plan.{plan_from, plan_of}
 use Rattle.link_play.specs.Sitting.{Sitting, sends}
 use Rattle.link_play.specs.Stopping.{StopsIn}
 use Rattle.line_runner.specs.declared.exit.Exit.{Exit}
-use Rattle.line_runner.specs.declared.exit.Exit.TheVariants.{Done, Usage, ReadFault, WriteFault, BadLine, TooLong, TooMany, NoMemory, DoorFault, LinkFault, LinkEnded, LinkLong}
+use Rattle.line_runner.specs.declared.exit.Exit.TheVariants.{Done, Usage, ReadFault, WriteFault, BadLine, TooLong, TooMany, NoMemory, DoorFault, LinkFault, LinkEnded, LinkLong, BadRecord, LongJournal, StoreFault}
 use Rattle.link_play.specs.declared.stop.LineStatus.{LineStatus}
 use Rattle.link_play.specs.declared.stop.LineStatus.TheVariants as ran
 use Rattle.link_play.specs.declared.stop.Stop.{Stop}
@@ -59,6 +59,9 @@ module _ {G : Type 0} (rules : Rules G) (who : Who) where
   completes NoMemory bytes left s t at a b c d x y e r w f i k l o = tt
   completes Usage bytes left s t at a b c d x y e r w f i k l o = e
   completes DoorFault bytes left s t at a b c d x y e r w f i k l o = e
+  completes (BadRecord place) bytes left s t at a b c d x y e r w f i k l o = e
+  completes LongJournal bytes left s t at a b c d x y e r w f i k l o = e
+  completes StoreFault bytes left s t at a b c d x y e r w f i k l o = e
   completes ReadFault bytes left s t at a b c d x y e r w f i k l o = i r.0
   completes WriteFault bytes left s t at a b c d x y e r w f i k l o = k r.1
   completes LinkFault bytes left s t at a b c d x y e r w f i k l o = l r.2

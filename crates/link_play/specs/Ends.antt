@@ -69,8 +69,7 @@ module _ {G : Type 0} (rules : Rules G) (who : Who) where
   Ends LinkEnded bytes left s t = Interrupts stop.LinkEnded (plan_of (script bytes).lines).commands s t
   Ends LinkLong bytes left s t = Interrupts stop.LinkLong (plan_of (script bytes).lines).commands s t
   Ends NoMemory bytes left s t = Pauses (plan_of (script bytes).lines).commands s t ⊎ Interrupts stop.NoMemory (plan_of (script bytes).lines).commands s t
-  Ends Usage bytes left s t = ⊥
-  Ends DoorFault bytes left s t = ⊥
+  Ends other bytes left s t = ⊥
 
 -- all lines of the bytes are in form and within the limits
 pub record AreInForm (bytes : List ℕ) : Type 0 where

@@ -21,7 +21,7 @@ use Rattle.room_history.specs.Room.{latest_seat, number, reply, room_of, seat_in
 use Rattle.room_history.specs.Stream.{stream}
 use Rattle.room_history.specs.Session.{Session, after_detach, is_detached, latest_state, session_state, with_latest}
 use Rattle.room_history.specs.Verdict.{first_reason, match_accepting}
-use Rattle.room_history.specs.declared.call.RoomCall.TheVariants.{Attach, Detach, Submit}
+use Rattle.room_history.specs.declared.call.RoomCall.TheVariants.{Attach, Detach, Submit, Take}
 use Rattle.room_history.specs.declared.reply.RoomReply.{RoomReply}
 use Rattle.room_history.specs.declared.reply.RoomReply.TheVariants as answer
 use Rattle.wire_json.specs.declared.asked.Asked.{Asked}
@@ -30,10 +30,11 @@ use Rattle.wire_json.specs.declared.reason.Reason.{Reason}
 use Rattle.wire_json.specs.declared.submission.Submission.{Submission}
 use Rattle.game_trait.specs.Rules.{Rules}
 use Rattle.room_changes.specs.ChangesOf.{act_by, change_made, changes_of, is_accepted}
-use Rattle.room_changes.specs.Kept.{acted_by, kept, kept_with, submission, unless_refused}
+use Rattle.room_changes.specs.Kept.{Kept, acted_by, kept, kept_with, submission, unless_refused}
+use Rattle.room_changes.proofs.Making.{makes}
 use Rattle.room_changes.specs.declared.change.Change.{Change}
 use Rattle.room_changes.specs.declared.change.Change.TheVariants as change
-use Rattle.room_journal.specs.Coming.{Calls, Does, Fits, FitsMatch, key_at}
+use Rattle.room_journal.specs.Coming.{Calls, Does, Fits, FitsMatch, HasAdded, HasDone, HasStayed, key_at}
 use Rattle.room_journal.proofs.Made.{Entries, adds, done_fits, kept_next, kept_of}
 use Rattle.room_journal.proofs.Steps.{true_false}
 
@@ -50,7 +51,7 @@ closes : (l : List Session) → latest_state (with_latest after_detach l) ≡ Cl
 closes [] = refl
 closes (s ∷ before) = detached s
 
-itself : (n : ℕ) → (n == n) ≡ true
+pub itself : (n : ℕ) → (n == n) ≡ true
 itself n = grind (arith, nat_tests)
 
 no_change : (b : Bool) (cs : List (Change GameKind)) → cs ++ change_made b None ≡ cs
@@ -75,7 +76,7 @@ module _ {X G : Type 0} where
   lets : (m : Match X G) (seat : ℕ) (key : List ℕ) (player : Player) → player_at m.roster seat ≡ Some player → player.key ≡ key → lets_in m.roster (Some (seat, key)) ≡ true
   lets m seat key player e k = ap (λ (o : Option Player). option_map_or (λ (p : Player). bytes_eq p.key key) o false) e ∙ (bytes_eq-Decides player.key key).1 k
 
-  named : (m : Match X G) (serial : ℕ) → m.serial ≡ serial → named_match (Some m) serial ≡ Ok m
+  pub named : (m : Match X G) (serial : ℕ) → m.serial ≡ serial → named_match (Some m) serial ≡ Ok m
   named m serial e = by (m.serial == serial) (grind (arith, nat_tests, e))
     where
       by : (b : Bool) → b ≡ true → (if b then Ok m else Err answer.NoMatch) ≡ Ok m
@@ -90,10 +91,10 @@ module _ {X G : Type 0} where
       by false e = true_false (sym e)
 
 module _ (room : ℕ) (h : Entries room) (pass : ℕ) where
-  abbrev before : Entries room
+  abbrev pub before : Entries room
   before = entry pass Detach false ∷ h
 
-  closed : latest_state ((room_of any_rules room before).sessions pass) ≡ Closed
+  pub closed : latest_state ((room_of any_rules room before).sessions pass) ≡ Closed
   closed = by (pass == pass) (itself pass)
     where
       by : (b : Bool) → b ≡ true → latest_state (if b then with_latest after_detach ((room_of any_rules room h).sessions pass) else (room_of any_rules room h).sessions pass) ≡ Closed
@@ -236,21 +237,21 @@ acts room h pass seat serial number_now keys key asked s book r fits made at slo
             kept_next room h (change.Act seat asked) ∙ act_refused room h m seat key sits.0 asked s e sits.1 sits.2 s_is (sym (ap is_accepted heard) ∙ so.1)
         on replayed.NoMemory so seen heard s_is sits lets_so = tt
 
--- the pass that made an action again is detached
-released : (room : ℕ) (h : Entries room) (pass : ℕ) (c : Change GameKind) (book after : Held GameKind AnyG) (keys : List (Option (List ℕ))) (r : Replayed) → Does room h c book keys r
-    → ((before : Entries room) → StandsFor any_rules book before → StandsFor any_rules after (entry pass Detach false ∷ before)) → Does room h c after keys r
-released room h pass c book after keys replayed.Done does stands = record {
-  after = entry pass Detach false ∷ does.after;
+-- what the pass that made an action again was told is taken out
+taken : (room : ℕ) (h : Entries room) (pass : ℕ) (c : Change GameKind) (book after : Held GameKind AnyG) (keys : List (Option (List ℕ))) (r : Replayed) → Does room h c book keys r
+    → ((before : Entries room) → StandsFor any_rules book before → StandsFor any_rules after (entry pass Take false ∷ before)) → Does room h c after keys r
+taken room h pass c book after keys replayed.Done does stands = record {
+  after = entry pass Take false ∷ does.after;
   stands = stands does.after does.stands;
-  adds = no_change (is_accepted (reply any_rules room does.after (entry pass Detach false))) (changes_of any_rules room does.after) ∙ does.adds;
+  adds = no_change (is_accepted (reply any_rules room does.after (entry pass Take false))) (changes_of any_rules room does.after) ∙ does.adds;
   fits = does.fits;
 }
-released room h pass c book after keys replayed.Refused does stands = does
-released room h pass c book after keys replayed.NoMemory does stands = tt
+taken room h pass c book after keys replayed.Refused does stands = does
+taken room h pass c book after keys replayed.NoMemory does stands = tt
 
-pub released_keys : (room : ℕ) (h : Entries room) (pass : ℕ) (c : Change GameKind) (book after : Held GameKind AnyG) (keys keys_now : List (Option (List ℕ))) (r : Replayed) → Does room h c book keys r → keys_now ≡ keys
-    → ((before : Entries room) → StandsFor any_rules book before → StandsFor any_rules after (entry pass Detach false ∷ before)) → Does room h c after keys_now r
-released_keys room h pass c book after keys keys_now r does same stands = subst (λ (l : List (Option (List ℕ))). Does room h c after l r) (sym same) (released room h pass c book after keys r does stands)
+pub taken_keys : (room : ℕ) (h : Entries room) (pass : ℕ) (c : Change GameKind) (book after : Held GameKind AnyG) (keys keys_now : List (Option (List ℕ))) (r : Replayed) → Does room h c book keys r → keys_now ≡ keys
+    → ((before : Entries room) → StandsFor any_rules book before → StandsFor any_rules after (entry pass Take false ∷ before)) → Does room h c after keys_now r
+taken_keys room h pass c book after keys keys_now r does same stands = subst (λ (l : List (Option (List ℕ))). Does room h c after l r) (sym same) (taken room h pass c book after keys r does stands)
 
 no_one : {P : Type 0} (n : ℕ) → 1 ≤ n → n ≡ 0 → P
 no_one n some none = absurd (omega (arith, some, none))
@@ -280,3 +281,48 @@ acts_in room other e h pass seat serial number_now keys keys_now key asked name 
     subst (λ (l : List (Option (List ℕ))). Does room h (change.Act seat asked) book l r) (sym same)
     (acts room h pass seat serial number_now keys key asked (asking name key number_now asked) book r fits (sym made) (sym at) (sym slot_is) s_is
     (subst (λ (n : ℕ). (before : Entries n) → StandsFor any_rules mid before → Calls n before pass (Submit (asking name key number_now asked)) book r) e calls (attached room h pass serial seat key) stands))
+
+-- ---- an action that a session submits at once
+
+pub untouched : (room : ℕ) (h : Entries room) (book : Held GameKind AnyG) → StandsFor any_rules book h → HasStayed room h book
+untouched room h book stands = record { after = h; stands = stands; same = refl }
+
+pub stays_on : (room : ℕ) (h : Entries room) (mid book : Held GameKind AnyG) → HasStayed room h mid → ((before : Entries room) → StandsFor any_rules mid before → HasStayed room before book) → HasStayed room h book
+stays_on room h mid book stayed on = let next = on stayed.after stayed.stands in record { after = next.after; stands = next.stands; same = next.same ∙ stayed.same }
+
+-- no change leaves the match and its keys
+fits_same : (room : ℕ) (h after : Entries room) (keys : List (Option (List ℕ))) → changes_of any_rules room after ≡ changes_of any_rules room h → Fits keys (serials any_rules room h) (standing any_rules room h)
+    → Fits keys (serials any_rules room after) (standing any_rules room after)
+fits_same room h after keys same fits =
+    let told : Some (kept_of room h) ≡ Some (kept_of room after) = sym (makes any_rules room h) ∙ ap (kept any_rules room) (sym same) ∙ makes any_rules room after in
+    let is : kept_of room h ≡ kept_of room after = cc in
+    subst (λ (k : Kept GameKind AnyG). Fits keys k.serials k.standing) is fits
+
+-- what becomes of it after calls that made no change
+does_after : (room : ℕ) (h after : Entries room) (c : Change GameKind) (book : Held GameKind AnyG) (keys : List (Option (List ℕ))) (r : Replayed) → changes_of any_rules room after ≡ changes_of any_rules room h
+    → Does room after c book keys r → Does room h c book keys r
+does_after room h after c book keys replayed.Done same does = record {
+  after = does.after;
+  stands = does.stands;
+  adds = does.adds ∙ ap (λ (cs : List (Change GameKind)). cs ++ c ∷ []) same;
+  fits = does.fits;
+}
+does_after room h after c book keys replayed.Refused same does = ap (λ (cs : List (Change GameKind)). kept any_rules room (cs ++ c ∷ [])) (sym same) ∙ does
+does_after room h after c book keys replayed.NoMemory same does = tt
+
+pub tries_on : (room other : ℕ) → other ≡ room → (h : Entries room) (c : Change GameKind) (mid book : Held GameKind AnyG) (keys keys_mid keys_now : List (Option (List ℕ))) (r : Replayed) → keys_mid ≡ keys → Fits keys (serials any_rules room h) (standing any_rules room h)
+    → HasStayed room h mid → ((before : Entries other) → StandsFor any_rules mid before → Fits keys_mid (serials any_rules other before) (standing any_rules other before) → Does other before c book keys_now r) → Does room h c book keys_now r
+tries_on room other e h c mid book keys keys_mid keys_now r same fits stayed does =
+    let at_room = subst (λ (n : ℕ). (before : Entries n) → StandsFor any_rules mid before → Fits keys_mid (serials any_rules n before) (standing any_rules n before) → Does n before c book keys_now r) e does in
+    let still : Fits keys_mid (serials any_rules room stayed.after) (standing any_rules room stayed.after) =
+    subst (λ (l : List (Option (List ℕ))). Fits l (serials any_rules room stayed.after) (standing any_rules room stayed.after)) (sym same) (fits_same room h stayed.after keys stayed.same fits) in
+    does_after room h stayed.after c book keys_now r stayed.same (at_room stayed.after stayed.stands still)
+
+pub has_acted : (room : ℕ) (h : Entries room) (seat : ℕ) (asked : Asked) (book : Held GameKind AnyG) (keys keys_now : List (Option (List ℕ))) → keys_now ≡ keys → Fits keys (serials any_rules room h) (standing any_rules room h) → HasAdded room h (change.Act seat asked) book
+    → HasDone room h (change.Act seat asked) book keys_now
+has_acted room h seat asked book keys keys_now same fits added = record {
+  after = added.after;
+  stands = added.stands;
+  adds = added.adds;
+  fits = subst (λ (l : List (Option (List ℕ))). Fits l (serials any_rules room added.after) (standing any_rules room added.after)) (sym same) (done_fits room h added.after (change.Act seat asked) keys added.adds fits);
+}

@@ -2,3 +2,4 @@ pub mod Acting
 pub mod Adding
 pub mod Made
 pub mod Steps
+pub mod Opened

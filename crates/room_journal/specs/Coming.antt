@@ -58,6 +58,24 @@ module _ (room : ℕ) (h : List (Entry (RoomCall GameKind))) where
   Does c book keys replayed.Refused = kept any_rules room (changes_of any_rules room h ++ c ∷ []) ≡ None
   Does c book keys replayed.NoMemory = Unit {0}
 
+  -- calls were made, and no change
+  pub record HasStayed (book : Held GameKind AnyG) : Type 0 where
+    pub after : List (Entry (RoomCall GameKind))
+    pub stands : StandsFor any_rules book after
+    pub same : changes_of any_rules room after ≡ changes_of any_rules room h
+
+  -- a change was made more
+  pub record HasAdded (c : Change GameKind) (book : Held GameKind AnyG) : Type 0 where
+    pub after : List (Entry (RoomCall GameKind))
+    pub stands : StandsFor any_rules book after
+    pub adds : changes_of any_rules room after ≡ changes_of any_rules room h ++ c ∷ []
+
+  -- what becomes of an action that a session submits, which may not be its player's any more
+  abbrev pub Tries : Change GameKind → Held GameKind AnyG → Replayed → Type 0
+  Tries c book replayed.Done = HasAdded c book
+  Tries c book replayed.Refused = HasStayed book
+  Tries c book replayed.NoMemory = Unit {0}
+
   -- what becomes of its call
   abbrev pub Calls : ℕ → RoomCall GameKind → Held GameKind AnyG → Replayed → Type 0
   Calls pass call book replayed.Done = StandsFor any_rules book (entry pass call false ∷ h) × (is_accepted (reply any_rules room h (entry pass call false)) ≡ true)

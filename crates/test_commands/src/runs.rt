@@ -30,6 +30,15 @@ const WORLD_TRANSCRIPT: &[u8] = b"open 0-1
 1 none
 ";
 
+/// A journal of one record, which creates a match.
+const JOURNAL: &[u8] =
+    b"\x01\x7a\x00\x00\x00{\"game\":\"tic-tac-toe\",\"kind\":\"create\",\"seats\":2,\"seed\":\"0000000000000000000000000000000000000000000000000000000000000000\"}\x00";
+
+const REPLAYED: &[u8] = b"records 1
+match 0-1
+view {\"ctx\":{\"activePlayers\":null,\"currentPlayer\":0,\"gameover\":null,\"numMoves\":0,\"numPlayers\":2,\"phase\":null,\"playOrder\":[0,1],\"playOrderPos\":0,\"turn\":1},\"g\":{\"cells\":[null,null,null,null,null,null,null,null,null]},\"log\":[],\"number\":0}
+";
+
 /// A run, and what comes of it.
 #[derive(Clone, Copy)]
 struct Row {
@@ -62,6 +71,41 @@ const WHOLE: Row = Row {
     status: 0,
     printed: TRANSCRIPT,
 };
+
+#[test]
+fn journals_are_replayed(rt: HostRuntime) -> Result<(), Fail> {
+    let whole = Row {
+        word: "replay",
+        lines: JOURNAL,
+        count: JOURNAL.len(),
+        printed: REPLAYED,
+        ..WHOLE
+    };
+    let rows = [
+        whole,
+        Row {
+            count: JOURNAL.len() - 1,
+            exit: Exit::BadRecord { place: 0 },
+            status: 12,
+            printed: b"",
+            ..whole
+        },
+        Row {
+            lines: b"\x00",
+            printed: b"records 0\nmatch -\n",
+            ..whole
+        },
+        Row {
+            count: 0,
+            printed: b"records 0\nmatch -\n",
+            ..whole
+        },
+    ];
+    for row in rows {
+        runs(&rt, rt.alloc(), row)?;
+    }
+    Ok(())
+}
 
 #[test]
 fn runs_end_by_their_words_and_faults(rt: HostRuntime) -> Result<(), Fail> {

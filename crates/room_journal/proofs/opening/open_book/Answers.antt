@@ -1,6 +1,6 @@
 use Rattle.std.proofs.Common.{◌≡◌, List, ℕ, IfOk, IfErr, sym, subst}
 use Rattle.any_game.specs.GameKind.{GameKind}
-use Rattle.object_journal.specs.Opening.{IsOpened, IsRefused}
+use Rattle.object_journal.specs.Opening.{IsOpened, IsRefused, StandsOpen}
 use Rattle.record_file.specs.Records.{HasRecords}
 use Rattle.record_file.proofs.Moments.{started}
 use Rattle.room_history.specs.declared.call.RoomCall.{RoomCall}
@@ -14,16 +14,22 @@ pub returns-in-Ok-clause-opened : goal.returns-in-Ok-clause-opened
 returns-in-Ok-clause-opened g c told =
     let d = g.D.Disk in
     subst
-    (λ (n : ℕ). IfOk c.open.result (λ k. (h : List (Entry (RoomCall GameKind))) × IsOpened (λ (b : RoomBook) (l : List (Entry (RoomCall GameKind))). StandsIn b.room b.book l) (room_records n) (may_follow n) d.is_told d.seen d.may_leave c.args.disk k.object k.file.disk k.file.end k.broken h))
-    c.in-Ok.ensures.room (c.open.ensures.opened told)
+    (λ (n : ℕ). IfOk c.open_for.result (λ k. (h : List (Entry (RoomCall GameKind))) × IsOpened (λ (b : RoomBook) (l : List (Entry (RoomCall GameKind))). StandsIn b.room b.book l) (room_records n) (may_follow n) d.is_told d.seen d.may_leave c.args.disk k.object k.file.disk k.file.end k.broken h))
+    c.in-Ok.ensures.room (c.open_for.ensures.opened told)
+
+pub returns-in-Ok-clause-stands : goal.returns-in-Ok-clause-stands
+returns-in-Ok-clause-stands g c =
+    subst
+    (λ (n : ℕ). IfOk c.open_for.result (λ k. (h : List (Entry (RoomCall GameKind))) × StandsOpen (λ (b : RoomBook) (l : List (Entry (RoomCall GameKind))). StandsIn b.room b.book l) (room_records n) (may_follow n) k.object k.file.end k.broken h))
+    c.in-Ok.ensures.room c.open_for.ensures.stands
 
 pub returns-in-Ok-clause-room : goal.returns-in-Ok-clause-room
-returns-in-Ok-clause-room g c = subst (λ (n : ℕ). IfOk c.open.result (λ k. k.object.room ≡ n)) c.in-Ok.ensures.room c.open.ensures.number
+returns-in-Ok-clause-room g c = subst (λ (n : ℕ). IfOk c.open_for.result (λ k. k.object.room ≡ n)) c.in-Ok.ensures.room c.open_for.ensures.room
 
 pub returns-in-Ok-clause-refused : goal.returns-in-Ok-clause-refused
 returns-in-Ok-clause-refused g c =
     let d = g.D.Disk in
-    subst (λ (n : ℕ). IfErr c.open.result (λ e. IsRefused (may_follow n) d.is_told d.seen d.faults c.args.disk e.1 e.0)) c.in-Ok.ensures.room c.open.ensures.refused
+    subst (λ (n : ℕ). IfErr c.open_for.result (λ e. IsRefused (may_follow n) d.is_told d.seen d.faults c.args.disk e.1 e.0)) c.in-Ok.ensures.room c.open_for.ensures.refused
 
 -- nothing has been done to the disk
 pub returns-in-Err-clause-crash_err : goal.returns-in-Err-clause-crash_err

@@ -1,7 +1,6 @@
 use Rattle.std.proofs.Common.{◌≡◌, ◌≤◌, ℕ, true, sym, ap, ◌∙◌, subst, arith}
 use Rattle.any_game.specs.AnyRules.{any_rules}
 use Rattle.room_history.specs.Room.{number, serials}
-use Rattle.room_journal.specs.Coming.{replayer}
 use Rattle.room_journal.proofs.Acting.{acts_in, no_match, nobody, unmade}
 use Rattle.room_journal.proofs.room_book.RoomBook.submit.Goals as goal
 
@@ -23,6 +22,6 @@ new-requires-clause-room c = subst (λ (n : ℕ). n ≤ 63) (sym c.attach.ensure
 pub returns-clause-does : goal.returns-clause-does
 returns-clause-does c h stands fits =
     let attached : c.attach.result ≡ true = grind (arith, c.if-not-attach.false) in
-    acts_in c.args.self.now.room c.attach.new.self.room c.attach.ensures.room h replayer c.args.seat c.serial-serial.result c.in-Some-number.number c.args.self.now.keys.items c.call.new.self.keys.items c.in-Some.key c.args.asked c.new.result
+    acts_in c.args.self.now.room c.attach.new.self.room c.attach.ensures.room h c.args.pass c.args.seat c.serial-serial.result c.in-Some-number.number c.args.self.now.keys.items c.call.new.self.keys.items c.in-Some.key c.args.asked c.new.result
     c.attach.new.self.book c.call.new.self.book c.call.result fits (c.serial-serial.ensures h stands ∙ ap (λ (n : ℕ). serials any_rules n h) c.requires.same) (c.in-Some-number.ensures h stands ∙ ap (λ (n : ℕ). number any_rules n h) c.requires.same) c.in-Some.ensures
     c.new.ensures (c.call.ensures.keys ∙ c.attach.ensures.keys) (c.attach.ensures.attaches h stands attached) c.call.ensures.calls

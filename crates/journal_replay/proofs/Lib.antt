@@ -1,0 +1,4 @@
+pub mod Asking
+pub mod Cutting
+pub mod Pieces
+pub mod Reading

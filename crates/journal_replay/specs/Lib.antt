@@ -1,0 +1,3 @@
+pub mod ReplayText
+pub mod Replaying
+pub mod Showing
