@@ -1,3 +1,4 @@
+pub mod Benches
 pub mod Filling
 pub mod Moves
 pub mod Rooms

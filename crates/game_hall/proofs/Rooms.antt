@@ -1,14 +1,20 @@
 -- A call is of a room that is there, and so is each room that its request speaks of.
-use Rattle.std.proofs.Common.{◌≡◌, ◌≤◌, ◌<◌, ℕ, ◌+◌, Bool, true, false, nat_lt, if◌then◌else◌, List, [], Option, Some, None, IfSome, refl, arith}
+use Rattle.std.proofs.Common.{◌≡◌, ◌<◌, ℕ, ◌+◌, Bool, true, false, nat_lt, if◌then◌else◌, List, [], Option, Some, None, Result, Ok, Err, IfSome, IsSome, refl, ap, ◌∙◌, arith}
 use Rattle.std.proofs.lemmas.Bool.Decides.{nat_tests}
+use Rattle.wire_json.specs.RefusalText.{refusal_of}
+use Rattle.wire_json.specs.Refusals.{Refusal as Fault, Refuses, Line, UnknownMessage, ExtraField, Field}
+use Rattle.wire_json.specs.declared.wire_no.WireNo.{WireNo}
+use Rattle.wire_json.specs.declared.wire_no.WireNo.TheVariants as no
 use Rattle.wire_json.specs.declared.match_row.MatchRow.{MatchRow}
-use Rattle.wire_json.specs.declared.refusal.Refusal.{Refusal}
 use Rattle.wire_json.specs.declared.refusal.Refusal.TheVariants.{Full, NoMatch}
 use Rattle.room_history.specs.declared.call.RoomCall.{RoomCall}
 use Rattle.room_history.specs.declared.call.RoomCall.TheVariants as call
 use Rattle.wire_json.specs.declared.client.ClientMsg.{ClientMsg}
 use Rattle.wire_json.specs.declared.client.ClientMsg.TheVariants as line
 use Rattle.room_history.specs.declared.reply.RoomReply.{RoomReply}
+use Rattle.game_hall.specs.Bench.{or_bench}
+use Rattle.game_hall.specs.declared.bench.Bench.{Bench}
+use Rattle.game_hall.specs.declared.bench.Bench.TheVariants.{Absent, Idle, Wants, Sought}
 use Rattle.game_hall.specs.Kept.{NextIn, RequestIn}
 use Rattle.game_hall.specs.Requests.{acts, after_attach, after_listing, after_submit, begins, created_by, in_room, is_attached, is_busy, is_judged, is_starved, lists, lists_of, makes, next, refuses, syncs, tries, undone, with_row}
 use Rattle.game_hall.specs.Words.{seed_of}
@@ -106,3 +112,37 @@ module _ {X : Type 0} (named : List ℕ → Option X) (rooms : ℕ) where
   begins_in at (line.Sync name viewer protocol) words seed h = syncs_in rooms at name.room _
   begins_in at (line.Act submission) words seed h = acts_in rooms at _ submission.ticket h
   begins_in at (line.Takeover name seat) words seed h = tt
+
+false_true : false ≡ true → ⊥
+false_true e = cc
+
+-- a line that is no message is put to no bench
+no_message_benched : {X : Type 0} (bench : Bench) (fault : Fault) (n : Next X) → or_bench bench (Err fault) n ≡ n
+no_message_benched Absent fault n = refl
+no_message_benched Idle fault n = refl
+no_message_benched (Wants name seat) fault n = refl
+no_message_benched (Sought name seat) fault n = refl
+
+pub unread_is : {X : Type 0} (fault : WireNo) (read : Result ClientMsg Fault) (bench : Bench) (n : Next X) → Refuses fault read → IsSome (refusal_of fault)
+    → or_bench bench read n ≡ n
+unread_is (no.Line fault) read bench n e some = ap (λ r. or_bench bench r n) e ∙ no_message_benched bench (Line fault) n
+unread_is no.UnknownMessage read bench n e some = ap (λ r. or_bench bench r n) e ∙ no_message_benched bench UnknownMessage n
+unread_is no.ExtraField read bench n e some = ap (λ r. or_bench bench r n) e ∙ no_message_benched bench ExtraField n
+unread_is (no.Field name fault) read bench n e some = ap (λ r. or_bench bench r n) e ∙ no_message_benched bench (Field name.now fault) n
+unread_is no.NoMemory read bench n e some = absurd (false_true some)
+
+-- what waits for the bench speaks of no room
+pub benched_in : {X : Type 0} (rooms : ℕ) (bench : Bench) (message : ClientMsg) (n : Next X) → NextIn rooms n → NextIn rooms (or_bench bench (Ok message) n)
+benched_in rooms Absent message n h = h
+benched_in rooms Idle (line.Takeover name seat) n h = tt
+benched_in rooms Idle line.Games n h = h
+benched_in rooms Idle (line.Matches game) n h = h
+benched_in rooms Idle (line.Look name) n h = h
+benched_in rooms Idle (line.Create game seats) n h = h
+benched_in rooms Idle (line.Join name player seat) n h = h
+benched_in rooms Idle (line.Rename key name player seat) n h = h
+benched_in rooms Idle (line.Leave key name seat) n h = h
+benched_in rooms Idle (line.Sync name viewer protocol) n h = h
+benched_in rooms Idle (line.Act submission) n h = h
+benched_in rooms (Wants name seat) message n h = h
+benched_in rooms (Sought name seat) message n h = h

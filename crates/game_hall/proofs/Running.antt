@@ -1,5 +1,5 @@
 -- What runs of requests come to.
-use Rattle.std.proofs.Common.{◌≡◌, ◌≤◌, ◌<◌, ℕ, zero, suc, ◌+◌, Bool, true, false, nat_lt, if◌then◌else◌, List, [], ◌∷◌, ◌++◌, length, take, Option, Some, None, Result, Ok, Err, IsSome, refl, sym, ap, ◌∙◌, arith}
+use Rattle.std.proofs.Common.{◌≡◌, ◌≤◌, ◌<◌, ℕ, zero, suc, ◌+◌, Bool, true, false, nat_lt, if◌then◌else◌, List, [], ◌∷◌, ◌++◌, length, take, Option, Some, None, Result, Ok, Err, refl, sym, ap, ◌∙◌, arith}
 use Rattle.std.specs.Prelude.{replicate}
 use Rattle.std.proofs.lemmas.Bool.Decides.{nat_tests}
 use Rattle.wire_json.specs.Refusals.{Refusal as Fault}
@@ -7,15 +7,18 @@ use Rattle.wire_json.specs.declared.client.ClientMsg.{ClientMsg}
 use Rattle.wire_json.specs.declared.client.ClientMsg.TheVariants as line
 use Rattle.wire_json.specs.declared.match_row.MatchRow.{MatchRow}
 use Rattle.wire_json.specs.declared.refusal.Refusal.{Refusal}
-use Rattle.wire_json.specs.declared.refusal.Refusal.TheVariants.{BadMessage, Full, NoMatch}
+use Rattle.wire_json.specs.declared.refusal.Refusal.TheVariants.{Full, NoMatch}
 use Rattle.wire_json.specs.declared.submission.Submission.{Submission}
 use Rattle.room_history.specs.declared.call.RoomCall.{RoomCall}
 use Rattle.room_history.specs.declared.call.RoomCall.TheVariants as call
 use Rattle.room_history.specs.declared.reply.RoomReply.{RoomReply}
 use Rattle.room_history.specs.declared.reply.RoomReply.TheVariants as reply
+use Rattle.game_hall.specs.Bench.{bench_after, or_bench}
 use Rattle.game_hall.specs.Core.{Core, asked, heard, moved}
-use Rattle.game_hall.specs.Requests.{acts, after_attach, after_listing, after_submit, begins, created_by, hears, in_room, is_attached, is_busy, is_judged, is_starved, lists, lists_of, makes, member_of, next, refusal_by, refuses, syncs, tries, undone, with_row}
-use Rattle.game_hall.specs.Run.{AreServed, goes_on, reply_next, rows_from, run}
+use Rattle.game_hall.specs.declared.bench.Bench.{Bench}
+use Rattle.game_hall.specs.declared.bench.Bench.TheVariants.{Absent, Idle, Wants, Sought}
+use Rattle.game_hall.specs.Requests.{acts, after_attach, after_listing, after_submit, begins, created_by, hears, in_room, is_attached, is_busy, is_judged, is_starved, lists, lists_of, makes, next, refuses, syncs, tries, undone, with_row}
+use Rattle.game_hall.specs.Run.{AreServed, reply_next, rows_from, run}
 use Rattle.game_hall.specs.Words.{key_of, seed_of}
 use Rattle.game_hall.specs.declared.answer.Answer.{Answer}
 use Rattle.game_hall.specs.declared.answer.Answer.TheVariants as answer
@@ -34,10 +37,22 @@ moved_over c room made request Silent = refl
 none_some : {A : Type 0} (x : A) → None ≡ Some x → ⊥
 none_some x e = cc
 
+-- an act is not put to the bench
+not_benched : {X : Type 0} (bench : Bench) (submission : Submission) (n : Next X) → or_bench bench (Ok (line.Act submission)) n ≡ n
+not_benched Absent submission n = refl
+not_benched Idle submission n = refl
+not_benched (Wants name seat) submission n = refl
+not_benched (Sought name seat) submission n = refl
+
 -- an act goes to the attached room, whatever match it names
 pub act_goes : {X : Type 0} (named : List ℕ → Option X) (c : Core X) (room : ℕ) (submission : Submission) (words : List ℕ) (seed : Option (List ℕ))
     → c.at ≡ Some room → (heard named c (Ok (line.Act submission)) words seed).call ≡ Some (room, call.Submit submission)
-act_goes named c room submission words seed h = ap (λ at. (moved c (begins named c.rooms at (line.Act submission) words seed)).call) h
+act_goes {X = X} named c room submission words seed h =
+    ap (λ n. (moved benched n).call) (not_benched c.bench submission (begins named c.rooms c.at (line.Act submission) words seed))
+    ∙ ap (λ at. (moved benched (begins named c.rooms at (line.Act submission) words seed)).call) h
+  where
+    benched : Core X
+    benched = record c { bench = bench_after c.bench (Ok (line.Act submission)) }
 
 said_alone : {X : Type 0} (c : Core X) (a : Answer) (y : Next X) → c.said ≡ None → (moved c y).said ≡ Some a → moved c y ≡ moved c (Says a)
 said_alone c a (Calls room made request) none some = absurd (none_some a (sym none ∙ some))
@@ -63,6 +78,40 @@ module _ {X S : Type 0} (named : List ℕ → Option X) (ask : ℕ → RoomCall 
   answer_alone n c x s a none some =
       let w = went n c x s in
       w.1 ∙ said_alone c a w.0 none (sym (ap (λ (d : Core X). d.said) w.1) ∙ some)
+
+  silent_run : (n : ℕ) (c : Core X) (s : S) → c.said ≡ (run named ask n (moved c Silent) s).0.said
+  silent_run zero c s = refl
+  silent_run (suc n) c s = refl
+
+  kept_alone : (n : ℕ) (c : Core X) (bench : Bench) (x : Next X) (s : S) (a : Answer) → c.bench ≡ bench → c.said ≡ None
+      → (run named ask n (moved (record c { bench = bench }) x) s).0.said ≡ Some a
+      → (run named ask n (moved (record c { bench = bench }) x) s).0 ≡ moved c (Says a)
+  kept_alone n c bench x s a is none some =
+      answer_alone n (record c { bench = bench }) x s a none some ∙ ap (λ b. moved (record c { bench = b }) (Says a)) (sym is)
+
+  -- a line that is put to the bench ends with no answer yet; every other leaves the bench as it was
+  benched_alone : (n : ℕ) (c : Core X) (bench : Bench) (read : Result ClientMsg Fault) (x : Next X) (s : S) (a : Answer) → c.bench ≡ bench → c.said ≡ None
+      → (run named ask n (moved (record c { bench = bench_after bench read }) (or_bench bench read x)) s).0.said ≡ Some a
+      → (run named ask n (moved (record c { bench = bench_after bench read }) (or_bench bench read x)) s).0 ≡ moved c (Says a)
+  benched_alone n c Absent read x s a is none some = kept_alone n c Absent x s a is none some
+  benched_alone n c (Wants name seat) read x s a is none some = kept_alone n c (Wants name seat) x s a is none some
+  benched_alone n c (Sought name seat) read x s a is none some = kept_alone n c (Sought name seat) x s a is none some
+  benched_alone n c Idle (Ok (line.Takeover name seat)) x s a is none some = absurd (none_some a (sym none ∙ silent_run n (record c { bench = Wants name seat }) s ∙ some))
+  benched_alone n c Idle (Ok line.Games) x s a is none some = kept_alone n c Idle x s a is none some
+  benched_alone n c Idle (Ok (line.Matches game)) x s a is none some = kept_alone n c Idle x s a is none some
+  benched_alone n c Idle (Ok (line.Look name)) x s a is none some = kept_alone n c Idle x s a is none some
+  benched_alone n c Idle (Ok (line.Create game seats)) x s a is none some = kept_alone n c Idle x s a is none some
+  benched_alone n c Idle (Ok (line.Join name player seat)) x s a is none some = kept_alone n c Idle x s a is none some
+  benched_alone n c Idle (Ok (line.Rename key name player seat)) x s a is none some = kept_alone n c Idle x s a is none some
+  benched_alone n c Idle (Ok (line.Leave key name seat)) x s a is none some = kept_alone n c Idle x s a is none some
+  benched_alone n c Idle (Ok (line.Sync name viewer protocol)) x s a is none some = kept_alone n c Idle x s a is none some
+  benched_alone n c Idle (Ok (line.Act submission)) x s a is none some = kept_alone n c Idle x s a is none some
+  benched_alone n c Idle (Err fault) x s a is none some = kept_alone n c Idle x s a is none some
+
+  -- a line whose request ends with a direct answer has left the core as it was but for the answer
+  pub line_answer_alone : (n : ℕ) (c : Core X) (read : Result ClientMsg Fault) (words : List ℕ) (seed : Option (List ℕ)) (s : S) (a : Answer) → c.said ≡ None
+      → (run named ask n (heard named c read words seed) s).0.said ≡ Some a → (run named ask n (heard named c read words seed) s).0 ≡ moved c (Says a)
+  line_answer_alone n c read words seed s a none some = benched_alone n c c.bench read (hears named c.rooms c.at read words seed) s a refl none some
 
 -- ---- the end of a request
 
@@ -195,10 +244,28 @@ module _ {X S : Type 0} (named : List ℕ → Option X) (ask : ℕ → RoomCall 
       ap (λ d. (run named ask n d told.1).0.request) (moved_over c room made request (next named c.rooms request told.0))
       ∙ comes_to_end n c (next named c.rooms request told.0) told.1 (next_within named c.rooms n request told.0 h)
 
+  within_bench : (rooms n : ℕ) (bench : Bench) (read : Result ClientMsg Fault) (x : Next X) → AreWithin rooms n x → AreWithin rooms n (or_bench bench read x)
+  within_bench rooms n Absent read x h = h
+  within_bench rooms n Idle (Ok (line.Takeover name seat)) x h = tt
+  within_bench rooms n Idle (Ok line.Games) x h = h
+  within_bench rooms n Idle (Ok (line.Matches game)) x h = h
+  within_bench rooms n Idle (Ok (line.Look name)) x h = h
+  within_bench rooms n Idle (Ok (line.Create game seats)) x h = h
+  within_bench rooms n Idle (Ok (line.Join name player seat)) x h = h
+  within_bench rooms n Idle (Ok (line.Rename key name player seat)) x h = h
+  within_bench rooms n Idle (Ok (line.Leave key name seat)) x h = h
+  within_bench rooms n Idle (Ok (line.Sync name viewer protocol)) x h = h
+  within_bench rooms n Idle (Ok (line.Act submission)) x h = h
+  within_bench rooms n Idle (Err fault) x h = h
+  within_bench rooms n (Wants name seat) read x h = h
+  within_bench rooms n (Sought name seat) read x h = h
+
   -- whatever the line and the replies, the request is closed
   pub line_ends : (c : Core X) (read : Result ClientMsg Fault) (words : List ℕ) (seed : Option (List ℕ)) (s : S)
       → (run named ask (c.rooms + 1) (heard named c read words seed) s).0.request ≡ None
-  line_ends c read words seed s = comes_to_end (c.rooms + 1) c (hears named c.rooms c.at read words seed) s (hears_within named c.rooms c.at read words seed)
+  line_ends c read words seed s =
+      comes_to_end (c.rooms + 1) (record c { bench = bench_after c.bench read }) (or_bench c.bench read (hears named c.rooms c.at read words seed)) s
+      (within_bench c.rooms (c.rooms + 1) c.bench read (hears named c.rooms c.at read words seed) (hears_within named c.rooms c.at read words seed))
 
 -- ---- a create that finds every room busy
 

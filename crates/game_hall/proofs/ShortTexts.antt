@@ -1,5 +1,5 @@
 -- The short lines are the texts of their messages.
-use Rattle.std.proofs.Common.{◌≡◌, ◌≤◌, ◌<◌, ◌^◌, ℕ, zero, suc, ◌+◌, ◌/◌, ◌%◌, Bool, true, false, cond, ◌&&◌, ◌==◌, inl, inr, List, [], ◌∷◌, ◌++◌, Option, Some, None, codes, refl, sym, ap, ◌∙◌, append_assoc, arith}
+use Rattle.std.proofs.Common.{◌≡◌, ◌≤◌, ◌<◌, ◌^◌, ℕ, zero, suc, ◌/◌, ◌%◌, Bool, true, false, ◌&&◌, ◌==◌, inl, inr, List, [], ◌∷◌, ◌++◌, Option, Some, None, codes, refl, sym, ap, ◌∙◌, append_assoc, arith}
 use Rattle.std.specs.Prelude.{decimal, nat_le, not, slice_index}
 use Rattle.std.specs.Char.{digit_value}
 use Rattle.std.specs.Str.Parse.{AllDigits}
@@ -119,6 +119,10 @@ renamed_is name seat h = ap (λ x. codes "{\"match\":\"" ++ x) (sym (place_is na
 pub left_is : (name : Name) (seat : ℕ) → IsName name → codes "{\"match\":\"" ++ place_text name seat (codes ",\"type\":\"left\"}\n") ≡ text (message.Left name seat)
 unfolding text escape_byte
 left_is name seat h = ap (λ x. codes "{\"match\":\"" ++ x) (sym (place_is name seat (codes ",\"type\":\"left\"}") h))
+
+pub asked_is : (name : Name) (seat : ℕ) → IsName name → codes "{\"match\":\"" ++ place_text name seat (codes ",\"type\":\"asked\"}\n") ≡ text (message.Asked name seat)
+unfolding text escape_byte
+asked_is name seat h = ap (λ x. codes "{\"match\":\"" ++ x) (sym (place_is name seat (codes ",\"type\":\"asked\"}") h))
 
 pub joined_is : (key : List ℕ) (name : Name) (seat : ℕ) → IsBytes key → IsName name
     → codes "{\"key\":\"" ++ encode_lower key ++ codes "\",\"match\":\"" ++ place_text name seat (codes ",\"type\":\"joined\"}\n") ≡ text (message.Joined key name seat)

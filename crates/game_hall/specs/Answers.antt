@@ -5,7 +5,7 @@ use Rattle.wire_json.specs.declared.server.ServerMsg.{ServerMsg}
 use Rattle.wire_json.specs.declared.server.ServerMsg.TheVariants as message
 use Rattle.wire_json.specs.ServerText.{text}
 use Rattle.game_hall.specs.declared.answer.Answer.{Answer}
-use Rattle.game_hall.specs.declared.answer.Answer.TheVariants.{Games, Matches, Match, Created, Joined, Renamed, Left, Again, Refused}
+use Rattle.game_hall.specs.declared.answer.Answer.TheVariants.{Games, Matches, Match, Created, Joined, Renamed, Left, Asked, Again, Refused}
 
 abbrev pub message_of : Answer → ServerMsg
 message_of Games = message.Games all_names
@@ -15,6 +15,7 @@ message_of (Created name) = message.Created name
 message_of (Joined key name seat) = message.Joined key name seat
 message_of (Renamed name seat) = message.Renamed name seat
 message_of (Left name seat) = message.Left name seat
+message_of (Asked name seat) = message.Asked name seat
 message_of (Again ticket) = message.Again ticket
 message_of (Refused refusal) = message.Refused refusal
 

@@ -1,5 +1,6 @@
 -- A session's core: a machine from a session's lines and the rooms' replies to calls of rooms and direct answers.
 use Rattle.std.specs.Prelude.{◌≡◌, ℕ, List, [], Bool, true, false, Option, Some, None, IsSome, Result}
+use Rattle.game_sheet.specs.MatchName.{Name}
 use Rattle.wire_json.specs.Refusals.{Refusal as Fault}
 use Rattle.room_history.specs.declared.call.RoomCall.{RoomCall}
 use Rattle.room_history.specs.declared.reply.RoomReply.{RoomReply}
@@ -7,6 +8,9 @@ use Rattle.wire_json.specs.declared.client.ClientMsg.{ClientMsg}
 use Rattle.game_hall.specs.declared.answer.Answer.{Answer}
 use Rattle.game_hall.specs.declared.answer.Answer.TheVariants.{Again}
 use Rattle.game_hall.specs.Answers.{line_of}
+use Rattle.game_hall.specs.Bench.{bench_after, bench_answer, or_bench, sought, sought_for}
+use Rattle.game_hall.specs.declared.bench.Bench.{Bench}
+use Rattle.game_hall.specs.declared.bench.Bench.TheVariants.{Absent, Idle}
 use Rattle.game_hall.specs.declared.next.Next.{Next}
 use Rattle.game_hall.specs.declared.next.Next.TheVariants.{Calls, Says, Attaches, Silent}
 use Rattle.game_hall.specs.declared.request.Request.{Request}
@@ -26,9 +30,17 @@ pub record Core (X : Type 0) : Type 0 where
   pub request : Option Request
   -- the direct answer, until it is handed out
   pub said : Option Answer
+  -- the bench of bots, as far as the session asks for it
+  pub bench : Bench
+  -- whether a bot of the session has sat down
+  pub sat : Bool
 
 abbrev pub fresh : {X : Type 0} → ℕ → ℕ → Core X
-fresh pass rooms = record { pass = pass; rooms = rooms; at = None; call = None; request = None; said = None }
+fresh pass rooms = record { pass = pass; rooms = rooms; at = None; call = None; request = None; said = None; bench = Absent; sat = false }
+
+-- takeovers are put to a bench
+abbrev pub with_bench : {X : Type 0} → Core X → Core X
+with_bench c = record c { bench = Idle }
 
 abbrev pub moved : {X : Type 0} → Core X → Next X → Core X
 moved c (Calls room asked request) = record c { call = Some (room, asked); request = Some request }
@@ -43,7 +55,7 @@ starved c ticket = moved c (Says (Again ticket))
 module _ {X : Type 0} (named : List ℕ → Option X) where
   -- a line was read, with these words to draw, and this seed if one stands ready
   abbrev pub heard : Core X → Result ClientMsg Fault → List ℕ → Option (List ℕ) → Core X
-  heard c read words seed = moved c (hears named c.rooms c.at read words seed)
+  heard c read words seed = moved (record c { bench = bench_after c.bench read }) (or_bench c.bench read (hears named c.rooms c.at read words seed))
 
   abbrev pub replied : Core X → Option Request → RoomReply → Core X
   replied c None told = c
@@ -52,6 +64,22 @@ module _ {X : Type 0} (named : List ℕ → Option X) where
   -- the call was replied to
   abbrev pub answered : Core X → RoomReply → Core X
   answered c told = replied c c.request told
+
+-- the takeover was put to the bench
+abbrev pub bot_wanted : {X : Type 0} → Core X → Core X
+bot_wanted c = record c { bench = sought c.bench }
+
+abbrev pub bot_told : {X : Type 0} → Core X → Option (Name × ℕ) → Bool → Core X
+bot_told c None held = c
+bot_told c (Some place) held = record c { bench = Idle; said = Some (bench_answer held place) }
+
+-- the bench answered: whether a bot has the seat, and is asked to leave it
+abbrev pub bot_answered : {X : Type 0} → Core X → Bool → Core X
+bot_answered c held = bot_told c (sought_for c.bench) held
+
+-- a bot of the session has sat down
+abbrev pub bot_sat : {X : Type 0} → Core X → Core X
+bot_sat c = record c { sat = true }
 
 -- the call was handed out
 abbrev pub asked : {X : Type 0} → Core X → Core X

@@ -1,10 +1,10 @@
 -- What a core keeps to: its rooms are there, and so is each room that it speaks of.
-use Rattle.std.specs.Prelude.{◌≤◌, ◌<◌, ℕ, Option, Some, None, IfSome}
+use Rattle.std.specs.Prelude.{◌≤◌, ◌<◌, ℕ, Option, IfSome}
 use Rattle.room_history.specs.declared.call.RoomCall.{RoomCall}
 use Rattle.room_history.specs.declared.reply.RoomReply.{RoomReply}
 use Rattle.room_history.specs.declared.reply.RoomReply.TheVariants as reply
 use Rattle.game_hall.specs.declared.next.Next.{Next}
-use Rattle.game_hall.specs.declared.next.Next.TheVariants.{Calls, Says, Attaches, Silent}
+use Rattle.game_hall.specs.declared.next.Next.TheVariants.{Calls, Attaches}
 use Rattle.game_hall.specs.declared.request.Request.{Request}
 use Rattle.game_hall.specs.declared.request.Request.TheVariants.{Creating, Listing, Looking, Syncing}
 

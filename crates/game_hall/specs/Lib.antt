@@ -1,4 +1,5 @@
 pub mod Answers
+pub mod Bench
 pub mod Core
 pub mod Kept
 pub mod Requests

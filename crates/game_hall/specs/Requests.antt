@@ -1,7 +1,6 @@
 -- What a session's line asks of rooms, and what each reply makes of it: the table of lines and the table of replies.
 use Rattle.std.specs.Prelude.{ℕ, ◌+◌, Bool, true, false, if◌then◌else◌, nat_lt, List, [], ◌∷◌, ◌++◌, Option, Some, None, Result, Ok, Err, bytes_eq}
 use Rattle.game_sheet.specs.MatchName.{Name}
-use Rattle.game_sheet.specs.Viewer.{Viewer}
 use Rattle.wire_json.specs.RefusalText.{member_from}
 use Rattle.wire_json.specs.Refusals.{Refusal as Fault, Line, UnknownMessage, ExtraField, Field}
 use Rattle.wire_json.specs.declared.refusal.Member.{Member}

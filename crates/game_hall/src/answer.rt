@@ -40,6 +40,13 @@ pub enum Answer {
         /// The seat, which is free.
         seat: Seat,
     },
+    /// The bot at a seat was asked to leave it.
+    Asked {
+        /// The match.
+        name: MatchName,
+        /// The seat.
+        seat: Seat,
+    },
     /// There was no memory for the request.
     Again {
         /// The ticket of an act; none for another request.

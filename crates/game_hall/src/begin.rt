@@ -1,8 +1,10 @@
 //! What a session's message begins.
 
-ghost use Rattle.std.specs.Prelude.{◌≡◌, ◌≤◌, ◌<◌, length, IfOk, IfSome, OnOk, OnErr, None, is_some};
+ghost use Rattle.std.specs.Prelude.{◌≡◌, ◌≤◌, ◌<◌, length, IfOk, IfSome, Ok, OnOk, OnErr, None, is_some};
+ghost use Rattle.wire_json.specs.declared.refusal.Refusal.TheVariants.{NotABot};
 ghost use Rattle.any_game.specs.AnyRules.{named};
 ghost use Rattle.wire_json.specs.ClientReading.{client_read};
+ghost use Rattle.game_hall.specs.Bench.{bench_after, or_bench};
 ghost use Rattle.game_hall.specs.Kept.{NextIn};
 ghost use Rattle.game_hall.specs.Requests.{begins, hears, in_room as in_room_of, makes as made_of, lists_of, syncs as synced_by, acts as acted_by, refuses, tries};
 ghost use Rattle.game_hall.specs.Words.{drawn, key_of, seed_left, seed_left_by, words_drawn, words_drawn_by, seed_of, seed_words};
@@ -12,6 +14,7 @@ ghost use Rattle.game_hall.specs.declared.answer.Answer.TheVariants.{Games as Is
 ghost use Rattle.game_hall.specs.declared.next.Next.TheVariants.{Says as IsSaid};
 ghost use Rattle.game_hall.specs.declared.request.Request.TheVariants.{Joining as IsJoining};
 
+use crate::bench::Bench;
 use crate::next::Next;
 use crate::reply::look_on;
 use crate::request::Request;
@@ -26,7 +29,7 @@ use std::alloc::Global;
 use wire_json::{ClientMsg, Refusal, Submission, read_client};
 
 /// What a line comes to in a session that is attached to this room, if any. A create takes the seed that stands ready, or else draws
-/// eight words; a join draws four. Without memory nothing is drawn.
+/// eight words; a join draws four; a takeover is put to the bench, if there is one. Without memory nothing is drawn.
 pub fn hear(
     alloc: Global,
     rooms: u8,
@@ -34,19 +37,22 @@ pub fn hear(
     line: &[u8],
     tape: &mut Tape,
     seed: &mut Option<[u8; 32]>,
+    bench: &mut Bench,
 ) -> Result<Next<AnyGame>, NoMemory>
     requires rooms { 1 ≤ rooms }
     requires attached { IfSome at (λ room. room < rooms) }
     requires words { 8 ≤ length tape.old.left }
-    ensures heard { IfOk result (λ n. n ≡ hears named rooms at (client_read line.now) tape.old.left seed.old) }
+    ensures heard { IfOk result (λ n. n ≡ or_bench bench.old (client_read line.now) (hears named rooms at (client_read line.now) tape.old.left seed.old)) }
     ensures there { IfOk result (NextIn rooms) }
     ensures drawn { OnOk result (tape.new ≡ drawn (words_drawn_by (client_read line.now) seed.old) tape.old) }
     ensures taken { OnOk result (seed.new ≡ seed_left_by (client_read line.now) seed.old) }
+    ensures asked { OnOk result (bench.new ≡ bench_after bench.old (client_read line.now)) }
     ensures words_kept { OnErr result (tape.new ≡ tape.old) }
     ensures seed_kept { OnErr result (seed.new ≡ seed.old) }
+    ensures bench_kept { OnErr result (bench.new ≡ bench.old) }
 {
     match read_client(alloc, line) {
-        Ok(message) => begin(alloc, rooms, at, message, tape, seed),
+        Ok(message) => begin(alloc, rooms, at, message, tape, seed, bench),
         Err(no) => match Refusal::of_fault(no) {
             Some(refusal) => Ok(refuse(refusal)),
             None => Err(NoMemory),
@@ -62,14 +68,17 @@ fn begin(
     message: ClientMsg,
     tape: &mut Tape,
     seed: &mut Option<[u8; 32]>,
+    bench: &mut Bench,
 ) -> Result<Next<AnyGame>, NoMemory>
     requires rooms { 1 ≤ rooms }
     requires words { 8 ≤ length tape.old.left }
-    ensures begun { IfOk result (λ n. n ≡ begins named rooms at message tape.old.left seed.old) }
+    ensures begun { IfOk result (λ n. n ≡ or_bench bench.old (Ok message) (begins named rooms at message tape.old.left seed.old)) }
     ensures drawn { OnOk result (tape.new ≡ drawn (words_drawn message seed.old) tape.old) }
     ensures taken { OnOk result (seed.new ≡ seed_left message seed.old) }
+    ensures asked { OnOk result (bench.new ≡ bench_after bench.old (Ok message)) }
     ensures words_kept { OnErr result (tape.new ≡ tape.old) }
     ensures seed_kept { OnErr result (seed.new ≡ seed.old) }
+    ensures bench_kept { OnErr result (bench.new ≡ bench.old) }
 {
     match message {
         ClientMsg::Games => games(alloc),
@@ -117,7 +126,21 @@ fn begin(
             Ok(sync(rooms, at, name.room(), call))
         }
         ClientMsg::Act(submission) => Ok(act(at, submission)),
-        ClientMsg::Takeover { .. } => Ok(refuse(Refusal::NotABot)),
+        ClientMsg::Takeover { name, seat } => Ok(take_over(bench, name, seat)),
+    }
+}
+
+/// A takeover is put to the bench. Without one no seat is a bot's.
+fn take_over<X>(bench: &mut Bench, name: MatchName, seat: Seat) -> Next<X>
+    ensures next { result ≡ or_bench bench.old (Ok (line.Takeover name seat)) (refuses NotABot) }
+    ensures asked { bench.new ≡ bench_after bench.old (Ok (line.Takeover name seat)) }
+{
+    match bench {
+        Bench::Idle => {
+            *bench = Bench::Wants { name, seat };
+            Next::Silent
+        }
+        _ => refuse(Refusal::NotABot),
     }
 }
 

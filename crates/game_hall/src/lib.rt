@@ -6,6 +6,7 @@
 
 mod answer;
 mod begin;
+mod bench;
 mod laws;
 mod next;
 mod reply;
@@ -19,6 +20,7 @@ mod written;
 pub use laws::{
     acts_go_to_the_attached_room, answers_change_nothing_else,
     creates_are_full_where_rooms_are_busy, lists_have_a_row_for_each_room, requests_end,
+    takeovers_ask_the_bench,
 };
 pub use session::SessionCore;
 pub use words::match_seed;

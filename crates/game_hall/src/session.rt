@@ -3,29 +3,33 @@
 ghost use Rattle.std.specs.Prelude.{◌≡◌, ◌≤◌, ◌<◌, None, IsSome, IsOk, IsErr, IfSome, OnOk, OnErr, IfOk};
 ghost use Rattle.any_game.specs.AnyRules.{named};
 ghost use Rattle.wire_json.specs.ClientReading.{client_read};
-ghost use Rattle.game_hall.specs.Core.{IsSettled, answered, asked, fresh, heard, is_again, moved, plain, released, starved, ticket_of, written};
+ghost use Rattle.game_hall.specs.Bench.{sought_for, wanted};
+ghost use Rattle.game_hall.specs.Core.{IsSettled, answered, asked, bot_answered, bot_sat, bot_wanted, fresh, heard, is_again, moved, plain, released, starved, ticket_of, with_bench, written};
 ghost use Rattle.room_history.specs.declared.reply.RoomReply.TheVariants.{NoMemory as NoMemoryThere};
 ghost use Rattle.game_hall.specs.Kept.{IsNamed, MayWantMemory, NextIn};
 ghost use Rattle.game_hall.specs.Words.{drawn, next_action, seed_left_by, words_drawn_by};
 
 use crate::begin::hear;
+use crate::bench::Bench;
 use crate::next::Next;
 use crate::reply::next;
 use crate::request::Request;
 use crate::written::WrittenAnswer;
 use any_game::AnyGame;
 use dice_words::Tape;
-use game_sheet::{Bytes, NoMemory};
+use game_sheet::{Bytes, MatchName, NoMemory, Seat};
 use room_history::{RoomCall, RoomReply};
 use std::alloc::Global;
 use std::marker::Model;
 use std::mem;
+use wire_json::Refusal;
 
-/// A session's core. Contracts see its pass, the count of rooms, the room that it is attached to, the next call, the open request
-/// and the direct answer.
+/// A session's core. Contracts see its pass, the count of rooms, the room that it is attached to, the next call, the open request,
+/// the direct answer, what the bench is asked, and whether a bot of the session has sat down.
 ///
-/// A line is given to `on_line`. As long as `wants` hands out a call it is made, and its reply given to `answered`. Then `written`
-/// hands out the direct answer, if there is one.
+/// A line is given to `on_line`. As long as `wants` hands out a call it is made, and its reply given to `answered`. With a bench,
+/// `wants_bot` hands out the seat of a takeover, and `bot_answer` is given what the bench said of it. Then `written` hands out the
+/// direct answer, if there is one.
 pub struct SessionCore {
     pass: u32,
     rooms: u8,
@@ -33,6 +37,8 @@ pub struct SessionCore {
     call: Option<(u8, RoomCall<AnyGame>)>,
     request: Option<Request>,
     said: Option<WrittenAnswer>,
+    bench: Bench,
+    sat: bool,
 }
 
 impl Drop for SessionCore {
@@ -44,7 +50,10 @@ impl Drop for SessionCore {
             call,
             request,
             said,
+            bench,
+            sat: _,
         } = self;
+        drop(bench);
         drop(call);
         drop(request);
         drop(said);
@@ -58,7 +67,7 @@ impl Model for SessionCore {
 
     ghost Value = { Core GameKind };
 
-    ghost view = { λ s. record { pass = s.pass; rooms = s.rooms; at = s.at; call = s.call; request = s.request; said = s.said } };
+    ghost view = { λ s. record { pass = s.pass; rooms = s.rooms; at = s.at; call = s.call; request = s.request; said = s.said; bench = s.bench; sat = s.sat } };
 
     ghost invariant = { λ s. IsKept s.rooms s.at s.call s.request };
 }
@@ -77,7 +86,19 @@ impl SessionCore {
             call: None,
             request: None,
             said: None,
+            bench: Bench::Absent,
+            sat: false,
         }
+    }
+
+    /// The core of a session whose takeovers are put to a bench. Without one each is answered that no bot has the seat.
+    pub fn with_bench(self) -> SessionCore
+        ensures { result ≡ with_bench self }
+    {
+        let mut core = self;
+        let absent = mem::replace(&mut core.bench, Bench::Idle);
+        drop(absent);
+        core
     }
 
     /// The pass by which rooms know the session.
@@ -111,7 +132,15 @@ impl SessionCore {
         ensures settled { IsSettled self.new.call self.new.request self.new.said }
     {
         tape.begin();
-        let next = hear(alloc, self.rooms, self.at, line, tape, seed);
+        let next = hear(
+            alloc,
+            self.rooms,
+            self.at,
+            line,
+            tape,
+            seed,
+            &mut self.bench,
+        );
         self.go_on(next)
     }
 
@@ -145,6 +174,57 @@ impl SessionCore {
         };
         let next = next(alloc, self.rooms, request, reply);
         self.go_on(next)
+    }
+
+    /// Hands out the match and the seat of a takeover that the bench is to be asked of. It is none where no takeover waits.
+    pub fn wants_bot(&mut self) -> Option<(MatchName, Seat)>
+        ensures seat { result ≡ wanted self.old.bench }
+        ensures sought { self.new ≡ bot_wanted self.old }
+    {
+        match mem::replace(&mut self.bench, Bench::Idle) {
+            Bench::Wants { name, seat } => {
+                self.bench = Bench::Sought { name, seat };
+                Some((name, seat))
+            }
+            other => {
+                self.bench = other;
+                None
+            }
+        }
+    }
+
+    /// Takes the bench's answer to the takeover that was handed out last: whether a bot has the seat, and is asked to leave it. The
+    /// session is answered `asked` then, and else that no bot has the seat. It takes no memory, and is never an error.
+    pub fn bot_answer(&mut self, held: bool) -> Result<(), NoMemory>
+        requires sought { IsSome (sought_for self.old.bench) }
+        requires written { self.old.said ≡ None }
+        ensures done { IsOk result }
+        ensures answered { self.new ≡ bot_answered self.old held }
+    {
+        let Bench::Sought { name, seat } = mem::replace(&mut self.bench, Bench::Idle) else {
+            unreachable!();
+        };
+        let answer = if held {
+            WrittenAnswer::asked(name, seat)
+        } else {
+            WrittenAnswer::refused(Refusal::NotABot)
+        };
+        put(&mut self.said, Some(answer));
+        Ok(())
+    }
+
+    /// Whether a bot of the session has sat down; at first none has.
+    pub fn has_sat(&self) -> bool
+        ensures { result ≡ self.now.sat }
+    {
+        self.sat
+    }
+
+    /// A bot of the session has sat down.
+    pub fn sat(&mut self)
+        ensures { self.new ≡ bot_sat self.old }
+    {
+        self.sat = true;
     }
 
     /// Whether the direct answer that waits is `again`. It takes no memory.

@@ -87,6 +87,17 @@ pub fn left_line(name: &MatchName, seat: Seat) -> ArrayVec<u8, 128>
     line
 }
 
+/// The line that the bot at a seat was asked to leave it.
+#[tactic(auto, using(crate::proofs::ShortTexts::asked_is))]
+pub fn asked_line(name: &MatchName, seat: Seat) -> ArrayVec<u8, 128>
+    ensures { result.items ≡ text (message.Asked name.now seat) }
+{
+    let mut line = ArrayVec::new();
+    add(&mut line, b"{\"match\":\"");
+    add_place(&mut line, name, seat, b",\"type\":\"asked\"}\n");
+    line
+}
+
 /// Adds bytes that have room.
 fn add(line: &mut ArrayVec<u8, 128>, piece: &[u8])
     requires { array_vec_len line.old + length piece.now ≤ 128 }

@@ -8,7 +8,7 @@ ghost use Rattle.game_hall.specs.declared.answer.Answer.TheVariants as answer;
 use crate::answer::Answer;
 use crate::rows::{Rows, row_line};
 use crate::short_lines::{
-    again_line, created_line, joined_line, left_line, refused_line, renamed_line,
+    again_line, asked_line, created_line, joined_line, left_line, refused_line, renamed_line,
 };
 use any_game::game_names;
 use arrayvec::ArrayVec;
@@ -123,6 +123,17 @@ impl WrittenAnswer {
         let line = short(&left_line(&name, seat));
         WrittenAnswer {
             answer: Answer::Left { name, seat },
+            line,
+        }
+    }
+
+    /// The bot at a seat was asked to leave it.
+    pub fn asked(name: MatchName, seat: Seat) -> WrittenAnswer
+        ensures { result ≡ answer.Asked name seat }
+    {
+        let line = short(&asked_line(&name, seat));
+        WrittenAnswer {
+            answer: Answer::Asked { name, seat },
             line,
         }
     }

@@ -1,5 +1,5 @@
 -- What is known of rooms by one view of them is known by another that it gives.
-use Rattle.std.proofs.Common.{◌≡◌, ℕ, true, false, if◌then◌else◌, inl, inr, List, [], ◌∷◌, Option, Some, None, refl, ap, sym, ◌∙◌, subst}
+use Rattle.std.proofs.Common.{◌≡◌, ℕ, true, false, if◌then◌else◌, inl, inr, List, [], ◌∷◌, Option, Some, None, refl, ap, sym, ◌∙◌}
 use Rattle.any_game.specs.GameKind.{GameKind}
 use Rattle.game_hall.specs.Core.{Core, is_again, starved}
 use Rattle.game_hall.specs.Words.{drawn, next_action, seed_left_by, words_drawn_by}
@@ -8,7 +8,7 @@ use Rattle.room_history.specs.declared.call.RoomCall.{RoomCall}
 use Rattle.room_history.specs.declared.reply.RoomReply.{RoomReply}
 use Rattle.session_driver.specs.Calls.{Did, did}
 use Rattle.session_driver.specs.Freeing.{Frees, FreesAt}
-use Rattle.session_driver.specs.Hearing.{Draws, Hears, HearsLine, Makes, MakesCounted, RunsOut, Side, draws, side}
+use Rattle.session_driver.specs.Hearing.{Draws, Hears, HearsLine, Makes, RunsOut, Side, draws, side}
 use Rattle.session_driver.specs.declared.tally.Tally.{Tally}
 
 module _ {S T : Type 0} (calls : S → ℕ → Did → S → Type 0) (there : T → ℕ → Did → T → Type 0) (f : S → T)

@@ -1,5 +1,5 @@
 -- A Take or a Detach, by whether the session is attached and what it is replied.
-use Rattle.std.proofs.Common.{◌≡◌, ℕ, Bool, true, false, if◌then◌else◌, Option, Some, None, refl, sym, ap, ◌∙◌, subst}
+use Rattle.std.proofs.Common.{◌≡◌, ℕ, true, false, if◌then◌else◌, Some, None, refl, sym, ap, ◌∙◌, subst}
 use Rattle.any_game.specs.GameKind.{GameKind}
 use Rattle.game_hall.specs.Core.{Core, released}
 use Rattle.room_history.specs.Presence.{attached_after}

@@ -1,6 +1,6 @@
 pub mod Along
+pub mod Benches
 pub mod BookCalls
 pub mod Freed
-pub mod Passes
 pub mod Replies
 pub mod Steps

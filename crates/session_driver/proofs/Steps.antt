@@ -1,13 +1,14 @@
 -- What a core hears by what its calls answer, and that each reply leaves a request fewer calls.
-use Rattle.std.proofs.Common.{◌≡◌, ◌≤◌, ◌<◌, ◌-◌, ℕ, suc, ◌+◌, Bool, true, false, if◌then◌else◌, List, [], ◌∷◌, length, Option, Some, None, Result, Ok, Err, inl, inr, refl, sym, ap, subst, ◌∙◌, arith}
+use Rattle.std.proofs.Common.{◌≡◌, ◌≤◌, ◌<◌, ◌-◌, ℕ, suc, ◌+◌, Bool, true, false, if◌then◌else◌, List, ◌∷◌, length, Option, Some, None, Result, Ok, Err, inl, inr, refl, sym, ap, subst, ◌∙◌, arith}
 use Rattle.std.specs.Prelude.{IsSome, IfSome, OnOk, OnErr, nat_lt}
 use Rattle.std.proofs.lemmas.Bool.Decides.{nat_tests}
 use Rattle.any_game.specs.AnyRules.{named}
 use Rattle.any_game.specs.GameKind.{GameKind}
-use Rattle.dice_words.specs.Strip.{Strip, begun, place_of}
-use Rattle.game_hall.specs.Core.{Core, IsSettled, answered, asked, heard, is_again, moved, replied, starved}
+use Rattle.dice_words.specs.Strip.{Strip}
+use Rattle.game_hall.specs.Bench.{bench_after, or_bench}
+use Rattle.game_hall.specs.Core.{Core, IsSettled, answered, asked, heard, moved, replied, starved}
 use Rattle.game_hall.specs.Kept.{MayWantMemory}
-use Rattle.game_hall.specs.Requests.{hears, is_attached, is_busy, is_judged, is_starved, lists, makes, next, tries, after_attach, after_submit, after_listing, with_row}
+use Rattle.game_hall.specs.Requests.{hears, is_attached, is_busy, is_judged, is_starved, lists, makes, next, tries, with_row}
 use Rattle.game_hall.specs.Words.{drawn, next_action, seed_left_by, words_drawn_by}
 use Rattle.game_hall.specs.declared.answer.Answer.{Answer}
 use Rattle.game_hall.specs.declared.next.Next.{Next}
@@ -17,10 +18,9 @@ use Rattle.game_hall.specs.declared.request.Request.TheVariants.{Creating, Listi
 use Rattle.room_history.specs.declared.call.RoomCall.{RoomCall}
 use Rattle.room_history.specs.declared.reply.RoomReply.{RoomReply}
 use Rattle.wire_json.specs.ClientReading.{client_read}
-use Rattle.wire_json.specs.declared.match_row.MatchRow.{MatchRow}
 use Rattle.session_driver.specs.Counts.{accepts, counted, refuses}
 use Rattle.session_driver.specs.Calls.{Did, did}
-use Rattle.session_driver.specs.Hearing.{Draws, HearsLine, HearsReply, MakesCounted, Side, draws, drawn_after, side}
+use Rattle.session_driver.specs.Hearing.{Draws, HearsLine, HearsReply, MakesCounted, Side, draws, side}
 use Rattle.session_driver.specs.declared.tally.Tally.{Tally}
 use Rattle.session_driver.specs.Left.{left}
 
@@ -124,7 +124,8 @@ moved_keeps c Silent = (refl, refl)
 
 pub line_keeps : (line : List ℕ) (c : Core GameKind) (before : Draws) (d : Core GameKind) (rest : Draws) → HearsLine line c before d rest → (d.rooms ≡ c.rooms) × (d.pass ≡ c.pass)
 line_keeps line c before d rest (inl h) =
-    let keeps = moved_keeps c (hears named c.rooms c.at (client_read line) (next_action before.words).left before.seed) in
+    let read = client_read line in
+    let keeps = moved_keeps (record c { bench = bench_after c.bench read }) (or_bench c.bench read (hears named c.rooms c.at read (next_action before.words).left before.seed)) in
     (ap (λ (x : Core GameKind). x.rooms) h.0 ∙ keeps.0, ap (λ (x : Core GameKind). x.pass) h.0 ∙ keeps.1)
 line_keeps line c before d rest (inr h) = (ap (λ (x : Core GameKind). x.rooms) h.0, ap (λ (x : Core GameKind). x.pass) h.0)
 
@@ -185,6 +186,27 @@ closed_by_call (Some y) open_one said e s = absurd (cc)
 
 pub asked_none : (c : Core GameKind) → c.call ≡ None → asked c ≡ c
 asked_none c none = ap (λ k. record c { call = k }) (sym none)
+
+-- a line and a reply that are heard leave a settled core
+pub moved_settled : (c : Core GameKind) (x : Next GameKind) → c.said ≡ None → IsSettled (moved c x).call (moved c x).request (moved c x).said
+moved_settled c (Calls room made request) e = (refl, e)
+moved_settled c (Says a) e = refl
+moved_settled c (Attaches room) e = refl
+moved_settled c Silent e = refl
+
+pub replied_settled : (c : Core GameKind) (request : Request) (told : RoomReply) (d : Core GameKind) → c.said ≡ None → c.request ≡ Some request → HearsReply c told d
+    → IsSettled d.call d.request d.said
+replied_settled c request told d plain is (inl e) =
+    subst (λ (x : Core GameKind). IsSettled x.call x.request x.said) (sym (e ∙ ap (λ q. replied named c q told) is)) (moved_settled c (next named c.rooms request told) plain)
+replied_settled c request told d plain is (inr e) = subst (λ (x : Core GameKind). IsSettled x.call x.request x.said) (sym e.0) refl
+
+pub line_settled : (line : List ℕ) (c : Core GameKind) (before : Draws) (d : Core GameKind) (rest : Draws) → c.said ≡ None → HearsLine line c before d rest
+    → IsSettled d.call d.request d.said
+line_settled line c before d rest plain (inl e) =
+    let read = client_read line in
+    let next = or_bench c.bench read (hears named c.rooms c.at read (next_action before.words).left before.seed) in
+    subst (λ (x : Core GameKind). IsSettled x.call x.request x.said) (sym e.0) (moved_settled (record c { bench = bench_after c.bench read }) next plain)
+line_settled line c before d rest plain (inr e) = subst (λ (x : Core GameKind). IsSettled x.call x.request x.said) (sym e.0) refl
 
 -- ---- calls, one after another
 

@@ -6,6 +6,7 @@ ghost use Rattle.game_hall.specs.Core.{IsSettled, is_again};
 ghost use Rattle.game_hall.specs.Kept.{IsNamed};
 ghost use Rattle.session_driver.specs.Counts.{accepts, refuses};
 ghost use Rattle.room_history.specs.declared.reply.RoomReply.{RoomReply as Told};
+ghost use Rattle.session_driver.specs.Bench.{IsAtRest, TurnsToBench};
 ghost use Rattle.session_driver.specs.Calls.{did};
 ghost use Rattle.session_driver.specs.Hearing.{Hears, HearsLine, HearsReply, RunsOut, draws, side};
 
@@ -116,6 +117,8 @@ pub fn hear<M: Rooms>(
     ensures rooms { core.new.rooms ≡ core.old.rooms }
     ensures pass { core.new.pass ≡ core.old.pass }
     ensures same_source { tape.new.source ≡ tape.old.source }
+    ensures bench { IsAtRest core.old.bench → TurnsToBench core.old core.new }
+    ensures sat { core.new.sat ≡ core.old.sat }
     ensures hears { Hears M.calls line.now (side rooms.old core.old) (draws tape.old seed.old) (side rooms.new core.new) (draws tape.new seed.new) result }
 {
     let place = tape.place();

@@ -2,7 +2,6 @@
 #![tactic(auto)]
 
 mod books;
-mod desks;
 mod driver;
 mod freeing;
 mod room;
@@ -10,7 +9,6 @@ mod rooms;
 mod tally;
 
 pub use books::Books;
-pub use desks::Desks;
 pub use driver::hear;
 pub use freeing::{detach, take};
 pub use room::Room;

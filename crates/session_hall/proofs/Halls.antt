@@ -6,7 +6,7 @@ use Rattle.std.proofs.Math.Seq.{take-append_seam}
 use Rattle.any_game.specs.AnyRules.{any_rules, named}
 use Rattle.any_game.specs.GameKind.{GameKind}
 use Rattle.any_game.specs.declared.any_g.AnyG.{AnyG}
-use Rattle.dice_words.specs.Strip.{Strip, begun, place_of}
+use Rattle.dice_words.specs.Strip.{Strip}
 use Rattle.game_hall.specs.Core.{Core, fresh, is_again, moved, plain, released, written}
 use Rattle.game_hall.specs.Words.{drawn, next_action, seed_left_by, seed_of, seed_words, words_drawn_by}
 use Rattle.game_hall.specs.declared.next.Next.{Next}

@@ -1,22 +1,20 @@
 -- A line that the driver heard over books is a line that a hall heard.
-use Rattle.std.proofs.Common.{◌≡◌, ℕ, ◌+◌, List, [], length, Option, Some, None, inl, inr, refl, sym, ap, ◌∙◌, subst, arith}
+use Rattle.std.proofs.Common.{◌≡◌, ℕ, List, length, None, inl, inr, sym, ap, ◌∙◌, subst}
 use Rattle.any_game.specs.AnyRules.{named}
 use Rattle.any_game.specs.GameKind.{GameKind}
-use Rattle.game_hall.specs.Core.{Core, IsSettled, heard, is_again, moved, plain, starved, written}
-use Rattle.game_hall.specs.Requests.{hears}
-use Rattle.game_hall.specs.Words.{drawn, next_action, seed_left_by, words_drawn_by}
+use Rattle.game_hall.specs.Core.{Core, heard, is_again, plain, starved, written}
+use Rattle.game_hall.specs.Words.{next_action}
 use Rattle.session_driver.specs.Counts.{accepts, counted, refuses}
-use Rattle.hall_history.specs.Hall.{Hall, core_of}
+use Rattle.hall_history.specs.Hall.{Hall}
 use Rattle.wire_json.specs.ClientReading.{client_read}
-use Rattle.session_driver.specs.Hearing.{Draws, Hears, HearsLine, Side, draws, side}
-use Rattle.session_hall.specs.Held.{AreBooks}
+use Rattle.session_driver.specs.Hearing.{Draws, Hears, HearsLine, Side, side}
 use Rattle.session_hall.proofs.Requests.{HearsRequest, IsReady, Runs}
 use Rattle.session_driver.specs.declared.tally.Tally.{Tally}
 use Rattle.session_driver.proofs.Along.{none_called, none_made}
 use Rattle.session_hall.proofs.Hearing.{hears_served, hears_unread}
 use Rattle.session_hall.proofs.Books.{Books}
-use Rattle.session_hall.proofs.RunsBooks.{calls_book, hall_runs, moved_settled}
-use Rattle.session_driver.proofs.Steps.{moved_keeps}
+use Rattle.session_hall.proofs.RunsBooks.{calls_book, hall_runs}
+use Rattle.session_driver.proofs.Steps.{line_keeps, line_settled}
 
 module _ (words : ℕ → List ℕ) (h : Hall GameKind) (pass : ℕ) (line : List ℕ) (c : Core GameKind) (books : Books) (before : Draws)
     (r : IsReady words h pass c books (next_action before.words).left before.seed) where
@@ -36,9 +34,8 @@ module _ (words : ℕ → List ℕ) (h : Hall GameKind) (pass : ℕ) (line : Lis
 
       by : HearsLine line c before k.core k.left → HearsRequest words h pass (client_read line) (plain d) after (written d) (is_again d.said) tally
       by (inl e) =
-          let x = hears named c.rooms c.at (client_read line) (next_action before.words).left before.seed in
-          let settled : IsSettled k.core.call k.core.request k.core.said = subst (λ (y : Core GameKind). IsSettled y.call y.request y.said) (sym e.0) (moved_settled c x quiet) in
-          let rooms_are : k.core.rooms ≡ length books = ap (λ (y : Core GameKind). y.rooms) e.0 ∙ (moved_keeps c x).0 ∙ many in
+          let settled = line_settled line c before k.core k.left quiet (inl e) in
+          let rooms_are : k.core.rooms ≡ length books = (line_keeps line c before k.core k.left (inl e)).0 ∙ many in
           served k.core d after tally e.0 (hall_runs k.core h.rooms books tally d after r.are_books settled rooms_are k.runs)
       by (inr e) =
           let none : k.core.call ≡ None = ap (λ (y : Core GameKind). y.call) e.0 in

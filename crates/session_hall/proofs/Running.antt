@@ -1,16 +1,13 @@
 -- A request's calls, one after another, are a run of hall_history's.
-use Rattle.std.proofs.Common.{◌≡◌, ◌≤◌, ◌<◌, ◌-◌, inl, inr, ℕ, zero, suc, ◌+◌, Bool, true, false, List, length, slice_index_or, slice_set, ◌&&◌, ◌==◌, if◌then◌else◌, Option, Some, None, IfSome, refl, sym, ap, ◌∙◌, subst, arith}
+use Rattle.std.proofs.Common.{◌≡◌, ◌≤◌, ◌<◌, ◌-◌, inl, inr, ℕ, zero, suc, ◌+◌, Bool, true, false, List, length, slice_index_or, slice_set, ◌&&◌, ◌==◌, if◌then◌else◌, Option, Some, None, refl, sym, ap, ◌∙◌, subst, arith}
 use Rattle.std.proofs.lemmas.Bool.Decides.{nat_tests}
 use Rattle.any_game.specs.AnyRules.{any_rules, named}
 use Rattle.any_game.specs.GameKind.{GameKind}
 use Rattle.any_game.specs.declared.any_g.AnyG.{AnyG}
-use Rattle.game_hall.specs.Core.{Core, IsSettled, answered, asked, moved, replied, starved, ticket_of}
+use Rattle.game_hall.specs.Core.{Core, answered, asked, replied, starved, ticket_of}
 use Rattle.game_hall.specs.Kept.{MayWantMemory}
 use Rattle.game_hall.specs.Run.{goes_on, run}
 use Rattle.game_hall.specs.Requests.{next}
-use Rattle.game_hall.specs.declared.answer.Answer.{Answer}
-use Rattle.game_hall.specs.declared.next.Next.{Next}
-use Rattle.game_hall.specs.declared.next.Next.TheVariants.{Calls, Says, Attaches, Silent}
 use Rattle.game_hall.specs.declared.request.Request.{Request}
 use Rattle.game_hall.specs.declared.request.Request.TheVariants.{Creating, Listing, Looking, Joining, Renaming, Leaving, Syncing, Acting}
 use Rattle.game_hall.proofs.Moves.{is_starved_by}

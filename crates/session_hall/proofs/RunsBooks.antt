@@ -1,29 +1,25 @@
 -- The calls that the driver makes on books in one thread are a run of hall_history's.
-use Rattle.std.proofs.Common.{◌≡◌, ◌≤◌, ◌<◌, inl, inr, ℕ, suc, ◌+◌, Bool, true, List, [], ◌∷◌, length, slice_index_or, slice_set, Option, Some, None, IfSome, refl, sym, ap, ◌∙◌, subst, arith}
+use Rattle.std.proofs.Common.{◌≡◌, ◌≤◌, ◌<◌, inl, inr, ℕ, suc, ◌+◌, Bool, true, List, [], ◌∷◌, length, slice_index_or, Some, None, refl, sym, ap, ◌∙◌, subst, arith}
 use Rattle.any_game.specs.AnyRules.{any_rules, named}
 use Rattle.any_game.specs.GameKind.{GameKind}
 use Rattle.any_game.specs.declared.any_g.AnyG.{AnyG}
-use Rattle.game_hall.specs.Core.{Core, IsSettled, answered, asked, moved, replied, starved}
-use Rattle.game_hall.specs.Kept.{MayWantMemory}
+use Rattle.game_hall.specs.Core.{Core, IsSettled, asked, moved, replied}
 use Rattle.game_hall.specs.Requests.{next}
-use Rattle.game_hall.specs.declared.answer.Answer.{Answer}
 use Rattle.game_hall.specs.declared.next.Next.{Next}
 use Rattle.game_hall.specs.declared.next.Next.TheVariants.{Calls, Says, Attaches, Silent}
 use Rattle.game_hall.specs.declared.request.Request.{Request}
 use Rattle.session_driver.specs.Counts.{accepts, counted, refuses}
 use Rattle.hall_history.specs.Rooms.{History, Rooms, history_of}
 use Rattle.match_master.specs.Held.{Held, StandsFor}
-use Rattle.room_history.specs.declared.call.RoomCall.{RoomCall}
-use Rattle.room_history.specs.declared.reply.RoomReply.{RoomReply}
 use Rattle.session_driver.specs.Calls.{Did}
-use Rattle.session_driver.specs.Hearing.{HearsReply, Makes, MakesCounted, RunsOut, Side, side}
+use Rattle.session_driver.specs.Hearing.{HearsReply, Makes, RunsOut, Side, side}
 use Rattle.session_driver.specs.OfBooks.{AreInOrder, CallsBook, RoomCalls}
 use Rattle.session_hall.specs.Held.{AreBooks, IsBook}
-use Rattle.session_hall.proofs.Requests.{Asks, Runs, RunsTo}
+use Rattle.session_hall.proofs.Requests.{Asks, Runs}
 use Rattle.session_driver.specs.declared.tally.Tally.{Tally}
 use Rattle.session_hall.proofs.Books.{Books}
 use Rattle.session_hall.proofs.Running.{RunsFrom, runs_closed, runs_first, runs_next}
-use Rattle.session_driver.proofs.Steps.{asked_none, open_request}
+use Rattle.session_driver.proofs.Steps.{asked_none, open_request, replied_settled}
 
 -- ---- the books as the driver knows them
 
@@ -43,18 +39,6 @@ pub in_order : (books : Books) (rooms : Rooms GameKind) → AreBooks books rooms
 in_order books rooms a room d low =
     let book : IsBook room rooms (slice_index_or books room d) = a.each room d (subst (λ k. room < k) a.count low) in
     (book.number, (history_of rooms room, book.stands))
-
--- a reply that is heard leaves a settled core
-pub moved_settled : (c : Core GameKind) (x : Next GameKind) → c.said ≡ None → IsSettled (moved c x).call (moved c x).request (moved c x).said
-moved_settled c (Calls room made request) e = (refl, e)
-moved_settled c (Says a) e = refl
-moved_settled c (Attaches room) e = refl
-moved_settled c Silent e = refl
-
-pub replied_settled : (c : Core GameKind) (request : Request) (told : RoomReply) (d : Core GameKind) → c.said ≡ None → c.request ≡ Some request → HearsReply c told d → IsSettled d.call d.request d.said
-replied_settled c request told d plain is (inl e) =
-    subst (λ (x : Core GameKind). IsSettled x.call x.request x.said) (sym (e ∙ ap (λ q. replied named c q told) is)) (moved_settled c (next named c.rooms request told) plain)
-replied_settled c request told d plain is (inr e) = subst (λ (x : Core GameKind). IsSettled x.call x.request x.said) (sym e.0) refl
 
 -- what calls count together
 abbrev tally_of : List Did → Tally

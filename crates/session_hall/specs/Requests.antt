@@ -1,5 +1,5 @@
 -- How many actions the calls of a request had accepted and refused.
-use Rattle.std.specs.Prelude.{◌≡◌, ◌+◌, ℕ}
+use Rattle.std.specs.Prelude.{◌≡◌, ◌+◌}
 use Rattle.any_game.specs.AnyRules.{any_rules}
 use Rattle.any_game.specs.GameKind.{GameKind}
 use Rattle.hall_history.specs.Counts.{accepts, count_from, refuses}

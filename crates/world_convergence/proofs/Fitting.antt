@@ -188,6 +188,7 @@ module _ {X : Type 0} where
   seated_by_adds (Some (answer.Joined key name seat)) seats rooms = adds_none IsLobby own_pass rooms
   seated_by_adds (Some (answer.Renamed name seat)) seats rooms = adds_none IsLobby own_pass rooms
   seated_by_adds (Some (answer.Left name seat)) seats rooms = adds_none IsLobby own_pass rooms
+  seated_by_adds (Some (answer.Asked name seat)) seats rooms = adds_none IsLobby own_pass rooms
   seated_by_adds (Some (answer.Again ticket)) seats rooms = adds_none IsLobby own_pass rooms
   seated_by_adds (Some (answer.Refused why)) seats rooms = adds_none IsLobby own_pass rooms
 

@@ -60,6 +60,7 @@ made_is (Some (answer.Created name)) = refl
 made_is (Some (answer.Joined key name seat)) = refl
 made_is (Some (answer.Renamed name seat)) = refl
 made_is (Some (answer.Left name seat)) = refl
+made_is (Some (answer.Asked name seat)) = refl
 made_is (Some (answer.Again ticket)) = refl
 made_is (Some (answer.Refused refusal)) = refl
 

@@ -1,4 +1,4 @@
-use Rattle.std.proofs.Common.{◌≡◌, ◌+◌, ◌*◌, ◌-◌, ◌++◌, take, length}
+use Rattle.std.proofs.Common.{◌≡◌, ◌*◌, ◌-◌, ◌++◌, take, length}
 use Rattle.game_hall.specs.Words.{bytes_of_words, drawn}
 use Rattle.game_hall.proofs.words.fill.Given as goal
 
