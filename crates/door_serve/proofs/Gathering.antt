@@ -4,7 +4,7 @@ use Rattle.std.specs.Prelude.{All, replicate}
 use Rattle.std.proofs.lemmas.List.{get_or-set_same, get_or-set_other, get_or-replicate, get_or-map, length-map, length-replicate, length-set, map-append, replicate_more}
 use mathlib.Core.Logic.{dite}
 use native.Mathlib.Decide.{ℕ_discrete}
-use Rattle.room_desk.specs.History.{DeskId, SetUp}
+use Rattle.room_desk.specs.History.{DeskId, Held, SetUp, dealt, held}
 use Rattle.session_pool.specs.Passes.{Belong, Pass, dealt_by, number_of, unseen}
 use Rattle.door_serve.specs.Rooms.{desks_of}
 
@@ -116,3 +116,16 @@ all_last P xs ys x e all = all_front P ys x (subst (All P) e all)
 pub rows_end : {Row : Type 0} (items : Row → List Pass) (desks left : List SetUp) (d : SetUp) (rows : List Row) → desks ≡ left ++ d ∷ [] → All (λ r. desks_of (items r) ≡ map (λ e. e.desk) desks) rows
     → All (λ r. desks_of (items r) ≡ map (λ e. e.desk) left ++ d.desk ∷ []) rows
 rows_end items desks left d rows e all k r low = all k r low ∙ (ap (λ ds. map (λ (e : SetUp). e.desk) ds) e ∙ map-append (λ (e : SetUp). e.desk) left (d ∷ []))
+
+all_dealt : (C : Type 0) (desk : DeskId) (n : ℕ) → length (dealt {C = C} desk n) ≡ n
+all_dealt C desk zero = refl
+all_dealt C desk (suc n) = let l = length-append (dealt {C = C} desk n) (held desk n [] ∷ []) in let m = all_dealt C desk n in omega (arith, l, m)
+
+-- a desk deals as many passes as it was set up with
+pub as_many_dealt : {C : Type 0} (passes : List (Held C)) (desk : DeskId) (n : ℕ) → passes ≡ dealt desk n → length passes ≡ n
+as_many_dealt {C} passes desk n e = ap length e ∙ all_dealt C desk n
+
+-- as many rows are handed back
+pub as_many_back : {V : Type 0} (items : V → List Pass) (before after : List V) → map (λ v. map unseen (items v)) after ≡ map (λ v. map unseen (items v)) before → length after ≡ length before
+as_many_back items before after e =
+    let l = ap length e in let m = length-map after (λ v. map unseen (items v)) in let n = length-map before (λ v. map unseen (items v)) in omega (arith, l, m, n)

@@ -15,12 +15,12 @@ use Rattle.door_serve.specs.declared.serving.ServeEnd.{ServeEnd}
 use Rattle.door_serve.specs.declared.serving.ServeEnd.TheVariants as end
 
 -- the door is shut or gave its last session, and then so many links were given as it held or as there were sessions, whichever are fewer;
--- it failed; or the sink failed. The sink's count of faults rises at its fault alone.
+-- it failed; or the sink failed. The sink's count of faults rises at its fault alone, and without a sink's fault the door's at its own alone.
 abbrev pub EndsBy : ServeEnd → ℕ → ℕ → Option ℕ → Bool → ℕ → ℕ → ℕ → ℕ → Type 0
 EndsBy end.Done sessions before held shut faults count sink_old sink_new = Ended sessions before held shut faults count (Some door.Done) × (sink_new ≡ sink_old)
 EndsBy end.DoorFault sessions before held shut faults count sink_old sink_new = HasRisen before faults × (sink_new ≡ sink_old)
 EndsBy end.WriteFault sessions before held shut faults count sink_old sink_new = HasRisen sink_old sink_new
-EndsBy end.NoMemory sessions before held shut faults count sink_old sink_new = sink_new ≡ sink_old
+EndsBy end.NoMemory sessions before held shut faults count sink_old sink_new = (faults ≡ before) × (sink_new ≡ sink_old)
 
 -- by how the door's serving ended, and what came of the report
 abbrev pub end_of : DoorEnd → sink.Put → ServeEnd

@@ -11,6 +11,7 @@ ghost use Rattle.door_serve.specs.Ends.{EndsBy, Reports, end_of};
 use crate::closing::close_all;
 use crate::reporting::print_report;
 use any_game::AnyGame;
+use bench_wishes::Wishes;
 use board_links::{Door, Put, Sink};
 use game_sheet::NoMemory;
 use link_rounds::{DoorEnd, Ready};
@@ -136,7 +137,17 @@ where
     }
 }
 
-/// Sets the rooms up, and serves.
+/// The desk of the bench, and a pass for each place.
+fn set_up_bench(alloc: Global, places: u16) -> Result<(Desk<Wishes>, Vec<Pass<Wishes>>), NoMemory>
+    requires places { (0 < places) × (places ≤ 4096) }
+    ensures many { IfOk result (λ r. vec_len r.1 ≡ places) }
+    ensures own { IfOk result (λ r. All (λ p. p.desk ≡ r.0.desk) r.1.items) }
+{
+    let (bench, passes) = Desk::set_up(alloc, Wishes::new(alloc), u32::from(places))?;
+    Ok((bench, passes))
+}
+
+/// Sets the bench and the rooms up, and serves.
 fn serve_with<D: Door + Send, W: Ready<D::L> + Send, K: Sink, R: Threads + Wait + Sync>(
     rt: &R,
     alloc: Global,
@@ -164,11 +175,29 @@ where
     ensures ended { EndsBy result.0 sessions (D.faults door) (D.left door) (D.shut result.1) (D.faults result.1) (D.given result.1) (K.faults sink.old) (K.faults sink.new) }
     ensures reports { IsSome (K.held sink.old) → Reports rooms (D.given result.1) result.2.items result.0 (told_bytes (K.held sink.old)) (K.held sink.new) }
 {
+    let Ok((bench, bench_passes)) = set_up_bench(alloc, places) else {
+        drop(spare);
+        drop(readies);
+        return (ServeEnd::NoMemory, door, Vec::new(alloc));
+    };
     match set_up_rooms(alloc, rooms, u32::from(places)) {
         Ok((desks, rows)) => serve_hall(
-            rt, alloc, desks, rows, readies, spare, sessions, door, sink, seed,
+            rt,
+            alloc,
+            desks,
+            rows,
+            bench,
+            bench_passes,
+            readies,
+            spare,
+            sessions,
+            door,
+            sink,
+            seed,
         ),
         Err(NoMemory) => {
+            drop(bench_passes);
+            drop(bench);
             drop(spare);
             drop(readies);
             (ServeEnd::NoMemory, door, Vec::new(alloc))
@@ -176,12 +205,14 @@ where
     }
 }
 
-/// Serves rooms that were set up.
+/// Serves rooms that were set up, with a bench.
 fn serve_hall<D: Door + Send, W: Ready<D::L> + Send, K: Sink, R: Threads + Wait + Sync>(
     rt: &R,
     alloc: Global,
     desks: Vec<Desk<Book<AnyGame>>>,
     rows: Vec<Vec<Pass<Book<AnyGame>>>>,
+    bench: Desk<Wishes>,
+    bench_passes: Vec<Pass<Wishes>>,
     readies: Vec<W>,
     spare: Spare,
     sessions: u32,
@@ -200,6 +231,7 @@ where
     requires belong { All (λ p. Belong desks.items (number_of p.items) p.items) rows.items }
     requires free { All (λ p. AttachedBy p.items None) rows.items }
     requires within { All (λ p. number_of p.items < spare.places) rows.items }
+    requires bench { (vec_len bench_passes ≡ spare.places) × All (λ p. p.desk ≡ bench.desk) bench_passes.items }
     requires fresh { (D.given door ≡ 0) × (D.out door ≡ 0) × (D.bots_out door ≡ 0) × (D.shut door ≡ false) }
     requires none_back { IfSome (D.returned door) (λ told. told ≡ []) }
     ensures out { (D.out result.1 ≡ 0) × (D.bots_out result.1 ≡ 0) }
@@ -215,16 +247,20 @@ where
         mut lists,
         mut books,
     } = spare;
-    let (end, count, mut rows, door) = serve_door(
+    let (end, count, mut rows, bench_passes, door) = serve_door(
         rt,
         alloc,
         desks.as_slice(),
         rows,
+        &bench,
+        bench_passes,
         readies,
         seed,
         door,
         sessions,
     );
+    drop(bench_passes);
+    drop(bench);
     close_all(&mut desks, rows.as_mut_slice(), &mut lists, &mut books);
     drop(desks);
     drop(rows);

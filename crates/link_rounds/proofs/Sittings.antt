@@ -17,9 +17,9 @@ some_told None d is = absurd (cc)
 some_told (Some x) d is = refl
 
 pub shows_link : (why : SessionEnd) (old new : ℕ) (at : Stage) (sent : Option (List ℕ)) → ShowsEnd old new at (Some why) → ByeSent (Some why) sent → Shows why at new sent
-shows_link end.Ended old new at sent is bye = is
+shows_link end.Ended old new at sent is bye = is.0
 shows_link end.LinkFault old new at sent is bye = λ none. absurd (omega (arith, is, none))
-shows_link end.TooLong old new at sent is bye = is
+shows_link end.TooLong old new at sent is bye = is.0
 shows_link (end.Bye b) old new at sent is bye = bye
 shows_link end.NoMemory old new at sent is bye = tt
 

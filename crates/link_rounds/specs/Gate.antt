@@ -27,12 +27,13 @@ abbrev pub IsLesser : Option ℕ → ℕ → ℕ → Type 0
 IsLesser None sessions count = Unit {0}
 IsLesser (Some held) sessions count = count ≡ min sessions held
 
--- why no link is taken any more: the door is shut or gave its last session, it failed, or there was no memory
+-- why no link is taken any more: the door is shut or gave its last session, it failed, or there was no memory. It failed exactly where its count of
+-- faults rose.
 abbrev pub Ended : ℕ → ℕ → Option ℕ → Bool → ℕ → ℕ → Option DoorEnd → Type 0
-Ended sessions before held shut faults count None = Unit {0}
-Ended sessions before held shut faults count (Some door.Done) = ((shut ≡ true) ⊎ (count ≡ sessions)) × IsLesser held sessions count
+Ended sessions before held shut faults count None = faults ≡ before
+Ended sessions before held shut faults count (Some door.Done) = ((shut ≡ true) ⊎ (count ≡ sessions)) × IsLesser held sessions count × (faults ≡ before)
 Ended sessions before held shut faults count (Some door.DoorFault) = HasRisen before faults
-Ended sessions before held shut faults count (Some door.NoMemory) = Unit {0}
+Ended sessions before held shut faults count (Some door.NoMemory) = faults ≡ before
 
 -- so many links were given as are counted, and so many of each sort are out as its ledger says
 pub record Counted (sessions before : ℕ) (held : Option ℕ) (given out bots_out : ℕ) (shut : Bool) (faults : ℕ) (left : Option ℕ) (total bots count most : ℕ) (end : Option DoorEnd) : Type 0 where

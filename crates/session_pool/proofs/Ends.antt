@@ -1,7 +1,7 @@
 -- How the end of a turn and of a session is shown.
-use Rattle.std.proofs.Common.{◌≡◌, ◌≤◌, ◌++◌, ℕ, List, Option, Some, None, refl, arith, ap, sym, subst}
+use Rattle.std.proofs.Common.{◌≡◌, ◌++◌, ◌∙◌, ℕ, List, Option, Some, None, refl, ap, sym, subst}
 use Rattle.std.specs.Prelude.{IsSome, IfSome, is_some}
-use Rattle.board_links.specs.Doors.{EndsWith, Shows}
+use Rattle.board_links.specs.Doors.{EndsWith}
 use Rattle.board_links.specs.Faults.{HasRisen}
 use Rattle.board_links.specs.Pieces.{told_bytes}
 use Rattle.board_links.specs.declared.link.SessionEnd.{SessionEnd}
@@ -11,32 +11,17 @@ use Rattle.link_rounds.specs.Ends.{ByeSent, ShowsEnd}
 use Rattle.session_pool.specs.Ends.{ShowsWhy}
 use Rattle.session_pool.specs.Lines.{IsSendEnd}
 
-pub risen : (old mid new : ℕ) → old ≤ mid → HasRisen mid new → HasRisen old new
-risen old mid new le is = omega (arith, is)
+-- after steps that raised nothing
+pub shows_later : (why : Option SessionEnd) (old mid new : ℕ) → mid ≡ old → ShowsWhy mid new why → ShowsWhy old new why
+shows_later why old mid new same is = subst (λ n. ShowsWhy n new why) same is
 
-pub shows_later : (why : Option SessionEnd) (old mid new : ℕ) → old ≤ mid → ShowsWhy mid new why → ShowsWhy old new why
-shows_later None old mid new le is = tt
-shows_later (Some end.Ended) old mid new le is = absurd is
-shows_later (Some end.LinkFault) old mid new le is = risen old mid new le is
-shows_later (Some end.TooLong) old mid new le is = absurd is
-shows_later (Some (end.Bye bye)) old mid new le is = tt
-shows_later (Some end.NoMemory) old mid new le is = tt
-
-pub shows_end : (why : Option SessionEnd) (old mid new : ℕ) (at : Stage) → old ≤ mid → ShowsWhy mid new why → ShowsEnd old new at why
-shows_end None old mid new at le is = tt
-shows_end (Some end.Ended) old mid new at le is = absurd is
-shows_end (Some end.LinkFault) old mid new at le is = risen old mid new le is
-shows_end (Some end.TooLong) old mid new at le is = absurd is
-shows_end (Some (end.Bye bye)) old mid new at le is = tt
-shows_end (Some end.NoMemory) old mid new at le is = tt
-
-pub ends_later : (why : Option SessionEnd) (old mid new : ℕ) (at : Stage) → old ≤ mid → ShowsEnd mid new at why → ShowsEnd old new at why
-ends_later None old mid new at le is = tt
-ends_later (Some end.Ended) old mid new at le is = is
-ends_later (Some end.LinkFault) old mid new at le is = risen old mid new le is
-ends_later (Some end.TooLong) old mid new at le is = is
-ends_later (Some (end.Bye bye)) old mid new at le is = tt
-ends_later (Some end.NoMemory) old mid new at le is = tt
+pub shows_end : (why : Option SessionEnd) (old mid new : ℕ) (at : Stage) → mid ≡ old → ShowsWhy mid new why → ShowsEnd old new at why
+shows_end None old mid new at same is = is ∙ same
+shows_end (Some end.Ended) old mid new at same is = absurd is
+shows_end (Some end.LinkFault) old mid new at same is = subst (λ n. HasRisen n new) same is
+shows_end (Some end.TooLong) old mid new at same is = absurd is
+shows_end (Some (end.Bye bye)) old mid new at same is = is ∙ same
+shows_end (Some end.NoMemory) old mid new at same is = is ∙ same
 
 pub unwritten : (why : Option SessionEnd) (sent : Option (List ℕ)) → IsSendEnd why → ByeSent why sent
 unwritten None sent is = tt
@@ -54,10 +39,3 @@ bye_last None (Some x) line text is a tells = absurd (cc)
 bye_last (Some y) (Some x) line text is a tells =
     let e : Some x ≡ Some (y ++ text) = tells refl in
     subst (λ o. IfSome o (EndsWith line)) (sym e) (y, ap (λ t. y ++ t) is)
-
-pub shows_link : (why : SessionEnd) (old new : ℕ) (at : Stage) (sent : Option (List ℕ)) → ShowsEnd old new at (Some why) → ByeSent (Some why) sent → Shows why at new sent
-shows_link end.Ended old new at sent is bye = is
-shows_link end.LinkFault old new at sent is bye = λ none. absurd (omega (arith, is, none))
-shows_link end.TooLong old new at sent is bye = is
-shows_link (end.Bye b) old new at sent is bye = bye
-shows_link end.NoMemory old new at sent is bye = tt

@@ -1,8 +1,11 @@
 pub mod Attaching
+pub mod Benching
 pub mod Dealing
 pub mod Ends
-pub mod Hearing
+pub mod Freed
+pub mod Heeding
 pub mod Lines
+pub mod OfDesks
 pub mod Passes
 pub mod Places
 pub mod Placing

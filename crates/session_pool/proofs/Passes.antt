@@ -1,44 +1,7 @@
--- The passes of a session belong to the desks, in order, and go on doing so after each call.
-use Rattle.std.proofs.Common.{◌≡◌, ◌<◌, ℕ, List, [], ◌∷◌, refl, length, arith, ap, sym, ◌∙◌, true, slice_index_or, slice_set}
-use Rattle.std.proofs.lemmas.List.{get_or-map, length-map}
-use Rattle.std.proofs.lemmas.Option.{slice_get-get_or}
-use Rattle.std.proofs.Math.Seq.{map-set_same}
-use Rattle.any_game.specs.AnyRules.{any_rules}
-use Rattle.any_game.specs.GameKind.{GameKind}
-use Rattle.match_master.specs.Held.{is_starved, may_starve}
-use Rattle.room_desk.specs.History.{Called, SetUp, held}
-use Rattle.room_history.specs.Room.{reply}
-use Rattle.room_history.specs.declared.call.RoomCall.{RoomCall}
-use Rattle.room_history.specs.declared.reply.RoomReply.{RoomReply}
-use Rattle.room_object.specs.Entry.{entry}
-use Rattle.session_pool.specs.Passes.{Belong, Calls, Pass, dealt_by, did, number_of, unseen}
-
-pub as_many : (desks : List SetUp) (number : ℕ) (passes : List Pass) → Belong desks number passes → length passes ≡ length desks
-as_many desks number passes b =
-    let l = ap length b in
-    omega (arith, l, length-map passes unseen, length-map desks (dealt_by number))
-
-pub belongs_at : (desks : List SetUp) (number : ℕ) (passes : List Pass) → Belong desks number passes → (i : ℕ) (p : Pass) (d : SetUp) → i < length desks
-    → (slice_index_or passes i p).desk ≡ (slice_index_or desks i d).desk
-belongs_at desks number passes b i p d low =
-    let n = as_many desks number passes b in
-    let one = get_or-map unseen passes i p (dealt_by number d) (omega arith) in
-    let two = get_or-map (dealt_by number) desks i d (dealt_by number d) low in
-    ap (λ (q : Pass). q.desk) (sym one ∙ (ap (λ xs. slice_index_or xs i (dealt_by number d)) b ∙ two))
-
-pub belongs_set : (desks : List SetUp) (number : ℕ) (passes : List Pass) → Belong desks number passes → (i : ℕ) (p q : Pass) → unseen q ≡ unseen (slice_index_or passes i p)
-    → Belong desks number (slice_set passes i q)
-belongs_set desks number passes b i p q same = map-set_same unseen passes i q p same ∙ b
-
--- a call by the pass at a place
-pub calls_made : (passes : List Pass) (i : ℕ) (p q : Pass) (call : RoomCall GameKind) (r : RoomReply) → i < length passes
-    → q ≡ held (slice_index_or passes i p).desk (slice_index_or passes i p).number q.seen
-    → Called (reply any_rules (slice_index_or passes i p).desk.object) (slice_index_or passes i p).seen (entry (slice_index_or passes i p).number call (is_starved r)) r q.seen
-    → (is_starved r ≡ true → may_starve call ≡ true)
-    → Calls passes (did i call r) (slice_set passes i q)
-calls_made passes i p q call r low is called fed = (slice_index_or passes i p, q.seen, slice_get-get_or passes i p low, called, ap (slice_set passes i) is, fed)
-
--- ---- the number that they have
+-- The number of passes that belong to the desks.
+use Rattle.std.proofs.Common.{◌≡◌, ◌<◌, ℕ, List, [], ◌∷◌, refl, length, arith, ap, slice_index_or}
+use Rattle.room_desk.specs.History.{SetUp}
+use Rattle.session_pool.specs.Passes.{Belong, Pass, dealt_by, number_of, unseen}
 
 pub number_is : (desks : List SetUp) (number : ℕ) (passes : List Pass) → 0 < length desks → Belong desks number passes → number_of passes ≡ number
 number_is [] number passes some b = absurd (omega (arith, some))

@@ -1,10 +1,10 @@
 -- Places of sessions: what holds of each, as they are made from passes and taken apart again.
-use Rattle.std.proofs.Common.{◌≡◌, ◌<◌, ◌+◌, refl, ℕ, zero, List, [], ◌∷◌, ◌++◌, map, length, ap, sym, ◌∙◌, subst, arith, slice_index_or, Option, Some, None}
+use Rattle.std.proofs.Common.{◌≡◌, ◌<◌, refl, ℕ, zero, List, [], ◌∷◌, ◌++◌, map, length, ap, sym, ◌∙◌, subst, arith, slice_index_or, Option, Some, None}
 use Rattle.std.specs.Prelude.{All, IfSome, drop, suc, take}
 use Rattle.std.proofs.lemmas.List.{append-nil, append_assoc, get_or-map, length-map, map-append, nil_from_length, take_at}
 use Rattle.std.proofs.lemmas.List.Elements.{All-append, All-map}
 use Rattle.board_links.specs.Doors.{Returned}
-use Rattle.room_desk.specs.History.{SetUp}
+use Rattle.room_desk.specs.History.{DeskId, SetUp}
 use Rattle.session_pool.specs.Passes.{Pass, dealt_by, number_of, unseen}
 use Rattle.session_pool.specs.Placed.{AttachedBy}
 use Rattle.session_pool.specs.Sittings.{AreServed, Fits, Rests}
@@ -22,6 +22,20 @@ all_one P x here (suc k) d low = absurd (omega arith)
 
 pub all_more : {X : Type 0} (P : X → Type 0) (xs after : List X) (x : X) → after ≡ xs ++ x ∷ [] → All P xs → P x → All P after
 all_more P xs after x push all here = subst (All P) (sym push) (All-append P xs (x ∷ []) all (all_one P x here))
+
+all_front : {X : Type 0} (P : X → Type 0) (x : X) (xs : List X) → P x → All P xs → All P (x ∷ xs)
+all_front P x xs here all zero d low = here
+all_front P x xs here all (suc k) d low = all k d (omega (arith, low))
+
+all_last : {X : Type 0} (P : X → Type 0) (xs : List X) (x : X) → All P (xs ++ x ∷ []) → P x × All P xs
+all_last P [] x all = (all 0 x (omega arith), λ k d low. absurd (omega arith))
+all_last P (y ∷ xs) x all =
+    let more = all_last P xs x (λ k d low. all (suc k) d (omega (arith, low))) in
+    (more.0, all_front P y xs (all 0 y (omega arith)) more.1)
+
+-- the last of a list, and those before it
+pub all_but_last : {X : Type 0} (P : X → Type 0) (xs ys : List X) (x : X) → xs ≡ ys ++ x ∷ [] → All P xs → P x × All P ys
+all_but_last P xs ys x e all = all_last P ys x (subst (All P) e all)
 
 -- what a call wrote over a whole list
 pub written : {X : Type 0} (n : ℕ) (xs ys : List X) → length ys ≡ n → take n (ys ++ drop (length ys) xs) ≡ ys
@@ -62,26 +76,26 @@ pub as_many_mapped : {X Y Z : Type 0} (f : X → Y) (g : Z → Y) (xs : List X) 
 as_many_mapped f g xs zs e = let l = ap length e in let m = length-map xs f in let n = length-map zs g in omega (arith, l, m, n)
 
 -- the passes of a place are those of its number
-passes_of : (desks : List SetUp) (seed : List ℕ) (places : ℕ) (s : Stand) → Fits desks seed places s → map unseen s.passes ≡ map (dealt_by (number_of s.passes)) desks
-passes_of desks seed places s fit =
+passes_of : (desks : List SetUp) (bench : DeskId) (seed : List ℕ) (places : ℕ) (s : Stand) → Fits desks bench seed places s → map unseen s.passes ≡ map (dealt_by (number_of s.passes)) desks
+passes_of desks bench seed places s fit =
     fit.belong ∙ ap (λ n. map (dealt_by n) desks) (sym (number_is desks s.core.pass s.passes fit.some fit.belong))
 
 -- places of the same numbers have the same passes, whatever these have seen
-pub same_passes : (desks : List SetUp) (seed : List ℕ) (places : ℕ) (before after : List Stand) → map (λ s. number_of s.passes) after ≡ map (λ s. number_of s.passes) before
-    → All (Fits desks seed places) before → All (Fits desks seed places) after → map (λ s. map unseen s.passes) after ≡ map (λ s. map unseen s.passes) before
-same_passes desks seed places before after e fit fits =
+pub same_passes : (desks : List SetUp) (bench : DeskId) (seed : List ℕ) (places : ℕ) (before after : List Stand) → map (λ s. number_of s.passes) after ≡ map (λ s. number_of s.passes) before
+    → All (Fits desks bench seed places) before → All (Fits desks bench seed places) after → map (λ s. map unseen s.passes) after ≡ map (λ s. map unseen s.passes) before
+same_passes desks bench seed places before after e fit fits =
     let number : Stand → ℕ = λ s. number_of s.passes in
     let many = as_many_mapped number number after before e in
     same_map (λ s. map unseen s.passes) before after (sym many) (λ k d low.
     let there : k < length after = omega (arith, low, many) in
     let same : number (slice_index_or after k d) ≡ number (slice_index_or before k d) =
     sym (get_or-map number after k d (number d) there) ∙ (ap (λ l. slice_index_or l k (number d)) e ∙ get_or-map number before k d (number d) low) in
-    passes_of desks seed places (slice_index_or after k d) (fits k d there)
-    ∙ (ap (λ n. map (dealt_by n) desks) same ∙ sym (passes_of desks seed places (slice_index_or before k d) (fit k d low))))
+    passes_of desks bench seed places (slice_index_or after k d) (fits k d there)
+    ∙ (ap (λ n. map (dealt_by n) desks) same ∙ sym (passes_of desks bench seed places (slice_index_or before k d) (fit k d low))))
 
 -- at a place without a session no pass is attached
-free_at : (desks : List SetUp) (seed : List ℕ) (places : ℕ) (s : Stand) → Fits desks seed places s → Rests seed places s → AttachedBy s.passes None
-free_at desks seed places s fit rest = subst (AttachedBy s.passes) (ap (λ c. c.at) rest.fresh_is) fit.attached
+free_at : (desks : List SetUp) (bench : DeskId) (seed : List ℕ) (places : ℕ) (s : Stand) → Fits desks bench seed places s → Rests seed places s → AttachedBy s.passes None
+free_at desks bench seed places s fit rest = subst (AttachedBy s.passes) (ap (λ c. c.at) rest.fresh_is) fit.attached
 
 pub all_of_map : {X Y : Type 0} (P : Y → Type 0) (f : X → Y) (xs : List X) (ys : List Y) → map f xs ≡ ys → All P ys → All (λ x. P (f x)) xs
 all_of_map P f xs ys e all k d low =
@@ -89,13 +103,23 @@ all_of_map P f xs ys e all k d low =
     let len = ap length e in
     subst P (ap (λ z. slice_index_or z k (f d)) (sym e) ∙ get_or-map f xs k d (f d) low) (all k (f d) (omega arith))
 
-pub all_free : {V : Type 0} (items : V → List Pass) (desks : List SetUp) (seed : List ℕ) (places : ℕ) (sittings : List Stand) (back : List V) → map items back ≡ map (λ s. s.passes) sittings
-    → All (Fits desks seed places) sittings → All (Rests seed places) sittings → All (λ v. AttachedBy (items v) None) back
-all_free items desks seed places sittings back e fit rest =
+pub all_free : {V : Type 0} (items : V → List Pass) (desks : List SetUp) (bench : DeskId) (seed : List ℕ) (places : ℕ) (sittings : List Stand) (back : List V) → map items back ≡ map (λ s. s.passes) sittings
+    → All (Fits desks bench seed places) sittings → All (Rests seed places) sittings → All (λ v. AttachedBy (items v) None) back
+all_free items desks bench seed places sittings back e fit rest =
     all_of_map (λ p. AttachedBy p None) items back (map (λ s. s.passes) sittings) e
-    (All-map (λ p. AttachedBy p None) (λ s. s.passes) sittings (λ k d low. free_at desks seed places (slice_index_or sittings k d) (fit k d low) (rest k d low)))
+    (All-map (λ p. AttachedBy p None) (λ s. s.passes) sittings (λ k d low. free_at desks bench seed places (slice_index_or sittings k d) (fit k d low) (rest k d low)))
 
 -- a door that tells of no link that came back
 pub none_served : (seed : List ℕ) (places : ℕ) (told : Option (List Returned)) → IfSome told (λ links. links ≡ []) → AreServed seed places told
 none_served seed places None none = tt
 none_served seed places (Some links) none = subst (λ l. AreServed seed places (Some l)) (sym none) (λ k d low. absurd (omega arith))
+
+-- places whose passes at the bench are of its desk
+at_the_bench : (desks : List SetUp) (bench : DeskId) (seed : List ℕ) (places : ℕ) (sittings : List Stand) → All (Fits desks bench seed places) sittings → All (λ (s : Stand). s.bench.desk ≡ bench) sittings
+at_the_bench desks bench seed places sittings fit k d low = (fit k d low).at_bench
+
+pub all_at_bench : {V : Type 0} (desk : V → DeskId) (desks : List SetUp) (bench : DeskId) (seed : List ℕ) (places : ℕ) (sittings : List Stand) (back : List V) → map desk back ≡ map (λ s. s.bench.desk) sittings
+    → All (Fits desks bench seed places) sittings → All (λ v. desk v ≡ bench) back
+all_at_bench desk desks bench seed places sittings back e fit =
+    all_of_map (λ b. b ≡ bench) desk back (map (λ s. s.bench.desk) sittings) e
+    (All-map (λ b. b ≡ bench) (λ s. s.bench.desk) sittings (at_the_bench desks bench seed places sittings fit))

@@ -5,37 +5,60 @@ use Rattle.board_links.specs.Answers.{answers_after, with_answer}
 use Rattle.board_links.specs.Pieces.{told_bytes}
 use Rattle.board_links.specs.declared.link.Came.{Came}
 use Rattle.board_links.specs.declared.link.SessionEnd.{SessionEnd}
-use Rattle.game_hall.specs.Core.{plain, written}
+use Rattle.game_hall.specs.Core.{Core, plain, written}
 use Rattle.link_rounds.specs.Turns.{told_answers}
+use Rattle.room_history.specs.declared.call.RoomCall.TheVariants as call
+use Rattle.room_history.specs.declared.reply.RoomReply.{RoomReply}
+use Rattle.session_driver.specs.Freeing.{Frees}
+use Rattle.session_driver.specs.Hearing.{Side, side}
 use Rattle.session_pool.specs.Lines.{IsSendEnd, SentAs}
-use Rattle.session_pool.specs.Turn.{Goes, Says, Side, Stand, Takes, Turn, side}
+use Rattle.session_pool.specs.Passes.{Pass}
+use Rattle.any_game.specs.GameKind.{GameKind}
+use Rattle.dice_words.specs.Strip.{Strip}
+use Rattle.game_sheet.specs.MatchName.{Name}
+use Rattle.session_bench.specs.Wishing.{Seen}
+use Rattle.session_pool.specs.Passes.{Pass}
+use Rattle.session_pool.specs.Turn.{Calls, Goes, GoesOn, HandsTaken, Says, Stand, stand}
 use Rattle.session_pool.proofs.Turns.{some_told}
 
--- a session that isn't attached is sent its direct answer alone
-pub says_free : (s : Side) (sent : List ℕ) (after : Option (List ℕ)) → s.core.at ≡ None → after ≡ Some (sent ++ written s.core) → Says s sent None (side s.passes (plain s.core)) after
-says_free s sent after none h = inl (subst (λ o. Takes o (side s.passes (plain s.core)) (sent ++ written s.core) None (side s.passes (plain s.core)) after) (sym none) (refl, refl, h))
+-- the direct answer, and what the Take gave
+pub says_taken : (s : Side (List Pass)) (sent : List ℕ) (why : Option SessionEnd) (told : Option RoomReply) (new : Side (List Pass)) (mid after : Option (List ℕ)) → mid ≡ Some (sent ++ written s.core)
+    → Frees Calls call.Take (side s.rooms (plain s.core)) told new → (IsSome mid → HandsTaken told (told_bytes mid) why after) → Says s sent why new after
+says_taken s sent why told new mid after is_mid frees tells = inl (told, frees, subst (λ m. IsSome m → HandsTaken told (told_bytes m) why after) is_mid tells refl)
 
--- and one that is attached what its Take gave too
-pub says_taken : (s : Side) (room : ℕ) (sent : List ℕ) (why : Option SessionEnd) (new : Side) (mid after : Option (List ℕ)) → s.core.at ≡ Some room → mid ≡ Some (sent ++ written s.core)
-    → (IsSome mid → Takes (Some room) (side s.passes (plain s.core)) (told_bytes mid) why new after) → Says s sent why new after
-says_taken s room sent why new mid after is is_mid tells =
-    inl (subst (λ o. Takes o (side s.passes (plain s.core)) (sent ++ written s.core) why new after) (sym is)
-    (subst (λ m. IsSome m → Takes (Some room) (side s.passes (plain s.core)) (told_bytes m) why new after) is_mid tells refl))
+-- the direct answer alone
+pub says_alone : (s : Side (List Pass)) (sent : List ℕ) (told : Option RoomReply) (new : Side (List Pass)) (after : Option (List ℕ)) → after ≡ Some (sent ++ written s.core)
+    → told ≡ None → Frees Calls call.Take (side s.rooms (plain s.core)) told new → Says s sent None new after
+says_alone s sent told new after is none frees = inl (told, frees, subst (λ o. HandsTaken o (sent ++ written s.core) None after) (sym none) (refl, is))
 
-pub says_stopped : (s : Side) (sent : List ℕ) (w : SessionEnd) (after : Option (List ℕ)) → IsSendEnd (Some w) → SentAs (Some w) (written s.core) sent after
-    → Says s sent (Some w) (side s.passes (plain s.core)) after
+pub says_stopped : (s : Side (List Pass)) (sent : List ℕ) (w : SessionEnd) (after : Option (List ℕ)) → IsSendEnd (Some w) → SentAs (Some w) (written s.core) sent after
+    → Says s sent (Some w) (side s.rooms (plain s.core)) after
 says_stopped s sent w after ends part = inr (w, refl, ends, refl, part)
 
 answer_told : (c : Came) (old mid : Option (List Came)) → IsSome old → mid ≡ answers_after c old → mid ≡ Some (with_answer c (told_answers old))
 answer_told c None mid is h = absurd (cc)
 answer_told c (Some heard) mid is h = h
 
--- a turn over a link that tells its answers and its bytes, by what came and what was done then
-pub turned : (c : Came) (s new : Stand) (old mid last : Option (List Came)) (before between after : Option (List ℕ)) (why : Option SessionEnd) → IsSome old → IsSome before
+-- over a link that tells its answers and its bytes, by what came and what was done then
+pub went_on : (c : Came) (s new : Stand) (old mid last : Option (List Came)) (before between after : Option (List ℕ)) (why : Option SessionEnd) → IsSome old → IsSome before
     → mid ≡ answers_after c old → last ≡ mid → between ≡ before → (IsSome between → Goes c s (told_bytes between) why new after)
-    → Turn s (told_answers old) (told_bytes before) why new last after
-turned c s new old mid last before between after why told_a told_s heard same same_sent goes =
+    → GoesOn s (told_answers old) (told_bytes before) why new last after
+went_on c s new old mid last before between after why told_a told_s heard same same_sent goes =
     (c, same ∙ answer_told c old mid told_a heard, subst (λ m. IsSome m → Goes c s (told_bytes m) why new after) same_sent goes told_s)
+
+-- the same after a bot got ready, which kept what the link tells
+pub readied_on : (passes : List Pass) (c d : Core GameKind) (words : Strip) (p : Seen) (seat : Option (Name × ℕ)) (new : Stand) (old mid last : Option (List Came))
+    (before between after : Option (List ℕ)) (why : Option SessionEnd) → d ≡ record c { sat = d.sat } → mid ≡ old → between ≡ before
+    → (IsSome mid → IsSome between → GoesOn (stand passes d words p seat) (told_answers mid) (told_bytes between) why new last after)
+    → IsSome old → IsSome before → GoesOn (stand passes (record c { sat = d.sat }) words p seat) (told_answers old) (told_bytes before) why new last after
+readied_on passes c d words p seat new old mid last before between after why core same same_sent goes a b =
+    subst (λ (k : Core GameKind). GoesOn (stand passes k words p seat) (told_answers old) (told_bytes before) why new last after) core (there a b)
+  where
+    here : IsSome old → IsSome between → GoesOn (stand passes d words p seat) (told_answers old) (told_bytes between) why new last after
+    here = subst (λ m. IsSome m → IsSome between → GoesOn (stand passes d words p seat) (told_answers m) (told_bytes between) why new last after) same goes
+
+    there : IsSome old → IsSome before → GoesOn (stand passes d words p seat) (told_answers old) (told_bytes before) why new last after
+    there = subst (λ m. IsSome old → IsSome m → GoesOn (stand passes d words p seat) (told_answers old) (told_bytes m) why new last after) same_sent here
 
 -- nothing was sent
 pub stopped_at : (between : Option (List ℕ)) → IsSome between → between ≡ Some (told_bytes between)

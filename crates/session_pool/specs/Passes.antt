@@ -1,4 +1,4 @@
--- The passes of a session, one for each room, and what a call in a room does to them.
+-- Rooms behind desks: the passes of a session, one for each room, and what a call in a room does to them.
 use Rattle.std.specs.Prelude.{◌≡◌, ℕ, true, List, [], ◌∷◌, map, Some, slice_get, slice_set}
 use Rattle.any_game.specs.AnyRules.{any_rules}
 use Rattle.any_game.specs.GameKind.{GameKind}
@@ -6,21 +6,12 @@ use Rattle.match_master.specs.Held.{is_starved, may_starve}
 use Rattle.room_desk.specs.History.{Called, Held, SetUp, held}
 use Rattle.room_history.specs.Room.{reply}
 use Rattle.room_history.specs.declared.call.RoomCall.{RoomCall}
-use Rattle.room_history.specs.declared.reply.RoomReply.{RoomReply}
 use Rattle.room_object.specs.Entry.{Entry, entry}
+use Rattle.session_driver.specs.Calls.{Did}
 
 -- a pass: its desk, its number, and the history of the room that it has seen
 abbrev pub Pass : Type 0
 Pass = Held (RoomCall GameKind)
-
--- a call that was made: in which room, what was asked, and the reply
-pub record Did : Type 0 where
-  pub room : ℕ
-  pub call : RoomCall GameKind
-  pub reply : RoomReply
-
-abbrev pub did : ℕ → RoomCall GameKind → RoomReply → Did
-did room call reply = record { room = room; call = call; reply = reply }
 
 -- a pass as it was dealt, with nothing seen
 abbrev pub unseen : Pass → Pass
@@ -33,15 +24,15 @@ dealt_by number d = held d.desk number []
 abbrev pub Belong : List SetUp → ℕ → List Pass → Type 0
 Belong desks number passes = map unseen passes ≡ map (dealt_by number) desks
 
+-- The call was made by the pass of its room. That pass has then seen the room's history longer by what others did and by the call, which
+-- is replied as the history says; the other passes are as they were. Only a call that takes memory is replied so.
+abbrev pub CallsDesk : List Pass → Did → List Pass → Type 0
+CallsDesk passes made after = (p : Pass) × (seen : List (Entry (RoomCall GameKind))) × (slice_get passes made.room ≡ Some p)
+    × Called (reply any_rules p.desk.object) p.seen (entry p.number made.call (is_starved made.reply)) made.reply seen
+    × (after ≡ slice_set passes made.room (held p.desk p.number seen))
+    × (is_starved made.reply ≡ true → may_starve made.call ≡ true)
+
 -- the number of passes that have one: that of the first
 abbrev pub number_of : List Pass → ℕ
 number_of [] = 0
 number_of (p ∷ passes) = p.number
-
--- The call was made by the pass of its room. That pass has then seen the room's history longer by what others did and by the call, which
--- is replied as the history says; the other passes are as they were. Only a call that takes memory is replied so.
-abbrev pub Calls : List Pass → Did → List Pass → Type 0
-Calls passes made after = (p : Pass) × (seen : List (Entry (RoomCall GameKind))) × (slice_get passes made.room ≡ Some p)
-    × Called (reply any_rules p.desk.object) p.seen (entry p.number made.call (is_starved made.reply)) made.reply seen
-    × (after ≡ slice_set passes made.room (held p.desk p.number seen))
-    × (is_starved made.reply ≡ true → may_starve made.call ≡ true)

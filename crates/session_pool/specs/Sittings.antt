@@ -2,18 +2,21 @@
 use Rattle.std.specs.Prelude.{◌≡◌, ◌<◌, ◌≤◌, ℕ, List, length, Option, Some, None}
 use Rattle.board_links.specs.Doors.{Returned}
 use Rattle.dice_words.specs.Strip.{Strip}
-use Rattle.game_hall.specs.Core.{fresh, released}
+use Rattle.game_hall.specs.Core.{fresh, with_bench}
 use Rattle.link_rounds.specs.Gate.{WereServed}
-use Rattle.room_desk.specs.History.{SetUp}
+use Rattle.room_desk.specs.History.{DeskId, SetUp}
 use Rattle.room_history.specs.declared.call.RoomCall.TheVariants as call
 use Rattle.room_history.specs.declared.reply.RoomReply.{RoomReply}
-use Rattle.session_pool.specs.Passes.{Belong, Calls, Pass, did, number_of}
+use Rattle.session_bench.specs.Wishing.{Rises, Seen}
+use Rattle.session_driver.specs.Freeing.{Frees}
+use Rattle.session_driver.specs.Hearing.{Side}
+use Rattle.session_pool.specs.Passes.{Belong, Pass, number_of}
 use Rattle.session_pool.specs.Placed.{AttachedBy, IsIdle}
-use Rattle.session_pool.specs.Turn.{Side, Stand, Turn, side_of, stand}
+use Rattle.session_pool.specs.Turn.{Calls, Stand, Turn, side_of, stand}
 
--- where a session stands that has done nothing yet, over so many rooms, with these passes and words
-abbrev pub begins : ℕ → List Pass → Strip → Stand
-begins rooms passes words = stand passes (fresh (number_of passes) rooms) words
+-- where a session stands that has done nothing yet, over so many rooms, with these passes and words, and this pass at the bench
+abbrev pub begins : ℕ → List Pass → Strip → Seen → Stand
+begins rooms passes words bench = stand passes (with_bench (fresh (number_of passes) rooms)) words bench None
 
 -- the words come from the stream of this number of the seed
 abbrev pub DrawsFrom : List ℕ → ℕ → Strip → Type 0
@@ -24,33 +27,31 @@ DrawsFrom seed stream words = words.source ≡ Some (seed, stream)
 pub record Rests (seed : List ℕ) (places : ℕ) (s : Stand) : Type 0 where
   pub own : number_of s.passes ≡ s.core.pass
   pub within : s.core.pass < places
-  pub fresh_is : s.core ≡ fresh s.core.pass s.core.rooms
+  pub fresh_is : s.core ≡ with_bench (fresh s.core.pass s.core.rooms)
   pub draws : DrawsFrom seed s.core.pass s.words
 
 -- One of so many places between two turns: there are 1 to 64 desks, and the passes are one for each, in their order, with the core's number; the
--- session is attached where its core is.
-pub record Fits (desks : List SetUp) (seed : List ℕ) (places : ℕ) (s : Stand) : Type 0 where
+-- session is attached where its core is. Its pass at the bench is one of that desk.
+pub record Fits (desks : List SetUp) (bench : DeskId) (seed : List ℕ) (places : ℕ) (s : Stand) : Type 0 where
   pub some : 0 < length desks
   pub few : length desks ≤ 64
   pub belong : Belong desks s.core.pass s.passes
   pub within : s.core.pass < places
   pub idle : IsIdle (length desks) s.core
   pub attached : AttachedBy s.passes s.core.at
+  pub at_bench : s.bench.desk ≡ bench
   pub draws : DrawsFrom seed s.core.pass s.words
 
 -- ---- the end of a session
 
-abbrev pub DetachesAt : Option ℕ → Side → Side → Type 0
-DetachesAt None s t = t ≡ s
-DetachesAt (Some room) s t = (told : RoomReply) × Calls s.passes (did room call.Detach told) t.passes × (t.core ≡ released s.core)
-
 -- a last Detach, where the session is attached
-abbrev pub Detaches : Side → Side → Type 0
-Detaches s t = DetachesAt s.core.at s t
+abbrev pub Detaches : Side (List Pass) → Side (List Pass) → Type 0
+Detaches s t = (told : Option RoomReply) × Frees Calls call.Detach s told t
 
--- a last Detach, and a core that has done nothing
+-- a last Detach; a bot that sat down rises from the bench; and a core that has done nothing
 abbrev pub Leaves : Stand → Stand → Type 0
-Leaves s t = (m : Side) × Detaches (side_of s) m × (t ≡ stand m.passes (fresh s.core.pass s.core.rooms) s.words)
+Leaves s t = (m : Side (List Pass)) × (p : Seen) × Detaches (side_of s) m × Rises s.core.sat s.seat s.bench p
+    × (t ≡ stand m.rooms (with_bench (fresh s.core.pass s.core.rooms)) s.words p None)
 
 -- ---- the links of a door
 

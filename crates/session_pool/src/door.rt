@@ -8,7 +8,9 @@ ghost use Rattle.session_pool.specs.Sittings.{AreServed, Fits, Rests};
 
 use crate::sitting::{Hall, Seeded, Sitting};
 use any_game::AnyGame;
+use bench_wishes::Wishes;
 use board_links::Door;
+use game_sheet::NoMemory;
 use link_rounds::{DoorEnd, Ready, serve_places};
 use match_master::Book;
 use room_desk::{Desk, Pass};
@@ -17,59 +19,91 @@ use std::marker::Brand;
 use std::sync::Wait;
 use std::thread::Threads;
 
-/// A place without a session, of these passes.
+/// A place without a session, of these passes, and of this one at the bench.
 fn rise<'a, K: Seeded>(
     desks: &'a [Desk<Book<AnyGame>>],
     passes: Vec<Pass<Book<AnyGame>>>,
+    bench: &'a Desk<Wishes>,
+    bench_pass: Pass<Wishes>,
     seed: [u8; 32],
 ) -> Sitting<'a, K>
     requires rooms { (0 < length desks.now) × (length desks.now ≤ 64) }
     requires belong { Belong desks.now (number_of passes.items) passes.items }
     requires free { AttachedBy passes.items None }
     requires within { number_of passes.items < K.places }
+    requires bench { bench_pass.desk ≡ bench.now.desk }
     requires seed { K.seed ≡ seed }
-    ensures fit { Fits desks.now K.seed K.places result }
+    ensures fit { Fits desks.now bench.now.desk K.seed K.places result }
     ensures rest { Rests K.seed K.places result }
     ensures passes { result.passes ≡ passes.items }
 {
-    Sitting::new(passes, desks.len() as u8, seed)
+    Sitting::new(passes, bench_pass, desks.len() as u8, seed)
 }
 
-/// A place for each list of passes. An Err is for want of memory, and hands them back.
+/// A place for each list of passes, with the bench pass of its place in the list. An Err is for want of memory, and hands both lists back.
 fn raise<'a, K: Seeded>(
     alloc: Global,
     desks: &'a [Desk<Book<AnyGame>>],
     passes: Vec<Vec<Pass<Book<AnyGame>>>>,
+    bench: &'a Desk<Wishes>,
+    bench_passes: Vec<Pass<Wishes>>,
     seed: [u8; 32],
-) -> Result<Vec<Sitting<'a, K>>, Vec<Vec<Pass<Book<AnyGame>>>>>
+) -> Result<Vec<Sitting<'a, K>>, (Vec<Vec<Pass<Book<AnyGame>>>>, Vec<Pass<Wishes>>)>
     requires rooms { (0 < length desks.now) × (length desks.now ≤ 64) }
     requires belong { All (λ p. Belong desks.now (number_of p.items) p.items) passes.items }
     requires free { All (λ p. AttachedBy p.items None) passes.items }
     requires within { All (λ p. number_of p.items < K.places) passes.items }
+    requires bench { (vec_len bench_passes ≡ vec_len passes) × All (λ p. p.desk ≡ bench.now.desk) bench_passes.items }
     requires seed { K.seed ≡ seed }
     ensures many { IfOk result (λ s. vec_len s ≡ vec_len passes) }
-    ensures fit { IfOk result (λ s. All (Fits desks.now K.seed K.places) s.items) }
+    ensures fit { IfOk result (λ s. All (Fits desks.now bench.now.desk K.seed K.places) s.items) }
     ensures rest { IfOk result (λ s. All (Rests K.seed K.places) s.items) }
     ensures passes { IfOk result (λ s. map (λ x. x.passes) s.items ≡ map (λ p. p.items) passes.items) }
-    ensures err { IfErr result (λ p. p.items ≡ passes.items) }
+    ensures err { IfErr result (λ p. (p.0.items ≡ passes.items) × (p.1.items ≡ bench_passes.items)) }
 {
     let Ok(mut sittings) = Vec::with_capacity(alloc, passes.len()) else {
-        return Err(passes);
+        return Err((passes, bench_passes));
     };
+    let mut at_bench = bench_passes;
+    at_bench.reverse();
     for passes in passes {
-        sittings.push_reserved(rise::<K>(desks, passes, seed));
+        let Some(bench_pass) = at_bench.pop() else {
+            unreachable!()
+        };
+        sittings.push_reserved(rise::<K>(desks, passes, bench, bench_pass, seed));
     }
+    drop(at_bench);
     Ok(sittings)
 }
 
-/// The places' passes, in order.
-fn dismiss<'a, K: Seeded>(sittings: Vec<Sitting<'a, K>>, back: &mut Vec<Vec<Pass<Book<AnyGame>>>>)
-    requires room { vec_len back.old + vec_len sittings ≤ vec_capacity back.old }
-    requires empty { back.old.items ≡ [] }
+/// Empty lists with room for the passes of so many places, and for those at the bench.
+fn lists_for(
+    alloc: Global,
+    places: usize,
+) -> Result<(Vec<Vec<Pass<Book<AnyGame>>>>, Vec<Pass<Wishes>>), NoMemory>
+    ensures room { IfOk result (λ r. (places ≤ vec_capacity r.0) × (places ≤ vec_capacity r.1)) }
+    ensures empty { IfOk result (λ r. (r.0.items ≡ []) × (r.1.items ≡ [])) }
+{
+    let back = Vec::with_capacity(alloc, places)?;
+    let bench_back = Vec::with_capacity(alloc, places)?;
+    Ok((back, bench_back))
+}
+
+/// The places' passes, and those at the bench, in order.
+fn dismiss<'a, K: Seeded>(
+    sittings: Vec<Sitting<'a, K>>,
+    back: &mut Vec<Vec<Pass<Book<AnyGame>>>>,
+    bench_back: &mut Vec<Pass<Wishes>>,
+)
+    requires room { (vec_len sittings ≤ vec_capacity back.old) × (vec_len sittings ≤ vec_capacity bench_back.old) }
+    requires empty { (back.old.items ≡ []) × (bench_back.old.items ≡ []) }
     ensures back { map (λ p. p.items) back.new.items ≡ map (λ s. s.passes) sittings.entry.items }
+    ensures bench_back { map (λ p. p.desk) bench_back.new.items ≡ map (λ s. s.bench.desk) sittings.entry.items }
 {
     for sitting in sittings {
-        back.push_reserved(sitting.into_passes());
+        let (passes, bench_pass) = sitting.into_passes();
+        back.push_reserved(passes);
+        bench_back.push_reserved(bench_pass);
     }
 }
 
@@ -78,37 +112,50 @@ fn serve_at<'a, K: Seeded + Send, D: Door + Send, W: Ready<D::L> + Send, R: Thre
     rt: &R,
     alloc: Global,
     desks: &'a [Desk<Book<AnyGame>>],
+    bench: &'a Desk<Wishes>,
     sittings: Vec<Sitting<'a, K>>,
     readies: Vec<W>,
     door: D,
     sessions: u32,
     mut back: Vec<Vec<Pass<Book<AnyGame>>>>,
-) -> (DoorEnd, u32, Vec<Vec<Pass<Book<AnyGame>>>>, D)
+    mut bench_back: Vec<Pass<Wishes>>,
+) -> (
+    DoorEnd,
+    u32,
+    Vec<Vec<Pass<Book<AnyGame>>>>,
+    Vec<Pass<Wishes>>,
+    D,
+)
 where
     D::L: Send,
     requires some { 0 < vec_len readies }
     requires enough { vec_len readies ≤ vec_len sittings }
     requires few { vec_len sittings < 4294967296 }
-    requires fit { All (Fits desks.now K.seed K.places) sittings.items }
+    requires fit { All (Fits desks.now bench.now.desk K.seed K.places) sittings.items }
     requires rest { All (Rests K.seed K.places) sittings.items }
     requires fresh { (D.given door ≡ 0) × (D.out door ≡ 0) × (D.bots_out door ≡ 0) × (D.shut door ≡ false) }
     requires served { AreServed K.seed K.places (D.returned door) }
-    requires room { vec_len sittings ≤ vec_capacity back }
-    requires empty { back.items ≡ [] }
-    ensures out { (D.out result.3 ≡ 0) × (D.bots_out result.3 ≡ 0) }
-    ensures given { D.given result.3 ≡ result.1 }
-    ensures ended { Ended sessions (D.faults door) (D.left door) (D.shut result.3) (D.faults result.3) result.1 (Some result.0) }
-    ensures served { AreServed K.seed K.places (D.returned result.3) }
+    requires room { (vec_len sittings ≤ vec_capacity back) × (vec_len sittings ≤ vec_capacity bench_back) }
+    requires empty { (back.items ≡ []) × (bench_back.items ≡ []) }
+    ensures out { (D.out result.4 ≡ 0) × (D.bots_out result.4 ≡ 0) }
+    ensures given { D.given result.4 ≡ result.1 }
+    ensures ended { Ended sessions (D.faults door) (D.left door) (D.shut result.4) (D.faults result.4) result.1 (Some result.0) }
+    ensures served { AreServed K.seed K.places (D.returned result.4) }
     ensures handed { map (λ p. map unseen p.items) result.2.items ≡ map (λ s. map unseen s.passes) sittings.entry.items }
     ensures free { All (λ p. AttachedBy p.items None) result.2.items }
+    ensures benched { (vec_len result.3 ≡ vec_len sittings.entry) × All (λ p. p.desk ≡ bench.now.desk) result.3.items }
 {
-    let hall = Hall { alloc, desks };
+    let hall = Hall {
+        alloc,
+        desks,
+        bench,
+    };
     let (end, count, sittings, door) = serve_places(
         rt, alloc, &hall, sittings, readies, door, sessions,
     );
     drop(hall);
-    dismiss(sittings, &mut back);
-    (end, count, back, door)
+    dismiss(sittings, &mut back, &mut bench_back);
+    (end, count, back, bench_back, door)
 }
 
 /// Serves the door at places of these passes, whose seed `K` has too.
@@ -117,11 +164,19 @@ fn run<K: Seeded + Send, D: Door + Send, W: Ready<D::L> + Send, R: Threads + Wai
     alloc: Global,
     desks: &[Desk<Book<AnyGame>>],
     passes: Vec<Vec<Pass<Book<AnyGame>>>>,
+    bench: &Desk<Wishes>,
+    bench_passes: Vec<Pass<Wishes>>,
     readies: Vec<W>,
     seed: [u8; 32],
     door: D,
     sessions: u32,
-) -> (DoorEnd, u32, Vec<Vec<Pass<Book<AnyGame>>>>, D)
+) -> (
+    DoorEnd,
+    u32,
+    Vec<Vec<Pass<Book<AnyGame>>>>,
+    Vec<Pass<Wishes>>,
+    D,
+)
 where
     D::L: Send,
     requires seeded { (K.seed ≡ seed) × (K.places ≡ vec_len passes) }
@@ -132,24 +187,28 @@ where
     requires belong { All (λ p. Belong desks.now (number_of p.items) p.items) passes.items }
     requires free { All (λ p. AttachedBy p.items None) passes.items }
     requires within { All (λ p. number_of p.items < vec_len passes) passes.items }
+    requires bench { (vec_len bench_passes ≡ vec_len passes) × All (λ p. p.desk ≡ bench.now.desk) bench_passes.items }
     requires fresh { (D.given door ≡ 0) × (D.out door ≡ 0) × (D.bots_out door ≡ 0) × (D.shut door ≡ false) }
     requires none_back { IfSome (D.returned door) (λ told. told ≡ []) }
-    ensures out { (D.out result.3 ≡ 0) × (D.bots_out result.3 ≡ 0) }
-    ensures given { D.given result.3 ≡ result.1 }
-    ensures ended { Ended sessions (D.faults door) (D.left door) (D.shut result.3) (D.faults result.3) result.1 (Some result.0) }
-    ensures served { AreServed seed (vec_len passes) (D.returned result.3) }
+    ensures out { (D.out result.4 ≡ 0) × (D.bots_out result.4 ≡ 0) }
+    ensures given { D.given result.4 ≡ result.1 }
+    ensures ended { Ended sessions (D.faults door) (D.left door) (D.shut result.4) (D.faults result.4) result.1 (Some result.0) }
+    ensures served { AreServed seed (vec_len passes) (D.returned result.4) }
     ensures handed { map (λ p. map unseen p.items) result.2.items ≡ map (λ p. map unseen p.items) passes.items }
     ensures free { All (λ p. AttachedBy p.items None) result.2.items }
+    ensures benched { (vec_len result.3 ≡ vec_len bench_passes) × All (λ p. p.desk ≡ bench.now.desk) result.3.items }
 {
-    let Ok(back) = Vec::with_capacity(alloc, passes.len()) else {
+    let Ok((back, bench_back)) = lists_for(alloc, passes.len()) else {
         drop(readies);
-        return (DoorEnd::NoMemory, 0, passes, door);
+        return (DoorEnd::NoMemory, 0, passes, bench_passes, door);
     };
-    match raise::<K>(alloc, desks, passes, seed) {
-        Ok(sittings) => serve_at(rt, alloc, desks, sittings, readies, door, sessions, back),
-        Err(passes) => {
+    match raise::<K>(alloc, desks, passes, bench, bench_passes, seed) {
+        Ok(sittings) => serve_at(
+            rt, alloc, desks, bench, sittings, readies, door, sessions, back, bench_back,
+        ),
+        Err((passes, bench_passes)) => {
             drop(readies);
-            (DoorEnd::NoMemory, 0, passes, door)
+            (DoorEnd::NoMemory, 0, passes, bench_passes, door)
         }
     }
 }
@@ -159,7 +218,8 @@ where
 /// handed back in their order.
 ///
 /// There are 1 to 64 desks, at least one worker, and a place or more for each. A list of passes has one for each desk, in their order, all with one
-/// number below the count of lists, and none is attached; so they are afterwards. The door has given no link, hasn't answered that it is shut, and
+/// number below the count of lists, and none is attached; so they are afterwards. There is a pass at the bench for each list; the place of a list
+/// has the bench pass at the list's index, and these passes are handed back too. The door has given no link, hasn't answered that it is shut, and
 /// tells of no link that came back. The place of number p draws its words from stream p of the seed, one session after another. With every end
 /// comes the count of the links that the door gave. A door that tells what came back tells only links that were served.
 pub fn serve_door<D: Door + Send, W: Ready<D::L> + Send, R: Threads + Wait + Sync>(
@@ -167,11 +227,19 @@ pub fn serve_door<D: Door + Send, W: Ready<D::L> + Send, R: Threads + Wait + Syn
     alloc: Global,
     desks: &[Desk<Book<AnyGame>>],
     passes: Vec<Vec<Pass<Book<AnyGame>>>>,
+    bench: &Desk<Wishes>,
+    bench_passes: Vec<Pass<Wishes>>,
     readies: Vec<W>,
     seed: [u8; 32],
     door: D,
     sessions: u32,
-) -> (DoorEnd, u32, Vec<Vec<Pass<Book<AnyGame>>>>, D)
+) -> (
+    DoorEnd,
+    u32,
+    Vec<Vec<Pass<Book<AnyGame>>>>,
+    Vec<Pass<Wishes>>,
+    D,
+)
 where
     D::L: Send,
     requires rooms { (0 < length desks.now) × (length desks.now ≤ 64) }
@@ -181,14 +249,27 @@ where
     requires belong { All (λ p. Belong desks.now (number_of p.items) p.items) passes.items }
     requires free { All (λ p. AttachedBy p.items None) passes.items }
     requires within { All (λ p. number_of p.items < vec_len passes) passes.items }
+    requires bench { (vec_len bench_passes ≡ vec_len passes) × All (λ p. p.desk ≡ bench.now.desk) bench_passes.items }
     requires fresh { (D.given door ≡ 0) × (D.out door ≡ 0) × (D.bots_out door ≡ 0) × (D.shut door ≡ false) }
     requires none_back { IfSome (D.returned door) (λ told. told ≡ []) }
-    ensures out { (D.out result.3 ≡ 0) × (D.bots_out result.3 ≡ 0) }
-    ensures given { D.given result.3 ≡ result.1 }
-    ensures ended { Ended sessions (D.faults door) (D.left door) (D.shut result.3) (D.faults result.3) result.1 (Some result.0) }
-    ensures served { AreServed seed (vec_len passes) (D.returned result.3) }
+    ensures out { (D.out result.4 ≡ 0) × (D.bots_out result.4 ≡ 0) }
+    ensures given { D.given result.4 ≡ result.1 }
+    ensures ended { Ended sessions (D.faults door) (D.left door) (D.shut result.4) (D.faults result.4) result.1 (Some result.0) }
+    ensures served { AreServed seed (vec_len passes) (D.returned result.4) }
     ensures handed { map (λ p. map unseen p.items) result.2.items ≡ map (λ p. map unseen p.items) passes.items }
     ensures free { All (λ p. AttachedBy p.items None) result.2.items }
+    ensures benched { (vec_len result.3 ≡ vec_len bench_passes) × All (λ p. p.desk ≡ bench.now.desk) result.3.items }
 {
-    run::<Brand, D, W, R>(rt, alloc, desks, passes, readies, seed, door, sessions)
+    run::<Brand, D, W, R>(
+        rt,
+        alloc,
+        desks,
+        passes,
+        bench,
+        bench_passes,
+        readies,
+        seed,
+        door,
+        sessions,
+    )
 }

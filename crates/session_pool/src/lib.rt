@@ -2,9 +2,10 @@
 //! And places of such sessions, dealt over workers in threads, which serve the links of a door.
 #![tactic(auto)]
 
+mod desks;
 mod door;
+mod heed;
 mod link;
-mod request;
 mod rooms;
 mod say;
 mod sitting;

@@ -23,6 +23,7 @@ fn say<L: Link, R: Wait>(rt: &R, link: &mut L, bytes: &[u8]) -> Option<SessionEn
     ensures answers { L.answers link.new ≡ L.answers link.old }
     ensures tells { is_some (L.sent link.new) ≡ is_some (L.sent link.old) }
     ensures is_bot { L.is_bot link.new ≡ L.is_bot link.old }
+    ensures asked_out { L.asked_out link.new ≡ L.asked_out link.old }
     ensures told { IsSome (L.sent link.old) → SentAs result bytes.now (told_bytes (L.sent link.old)) (L.sent link.new) }
 {
     match link.send(rt, bytes) {
@@ -42,6 +43,7 @@ pub(crate) fn say_all<L: Link, R: Wait>(rt: &R, link: &mut L, bytes: &Bytes) -> 
     ensures answers { L.answers link.new ≡ L.answers link.old }
     ensures tells { is_some (L.sent link.new) ≡ is_some (L.sent link.old) }
     ensures is_bot { L.is_bot link.new ≡ L.is_bot link.old }
+    ensures asked_out { L.asked_out link.new ≡ L.asked_out link.old }
     ensures told { IsSome (L.sent link.old) → SentAs result bytes.now (told_bytes (L.sent link.old)) (L.sent link.new) }
 {
     for place in 0..bytes.count() {
@@ -61,6 +63,7 @@ fn say_bye<L: Link, R: Wait>(rt: &R, link: &mut L, bye: Bye) -> SessionEnd
     ensures answers { L.answers link.new ≡ L.answers link.old }
     ensures tells { is_some (L.sent link.new) ≡ is_some (L.sent link.old) }
     ensures is_bot { L.is_bot link.new ≡ L.is_bot link.old }
+    ensures asked_out { L.asked_out link.new ≡ L.asked_out link.old }
     ensures told { IsSome (L.sent link.old) → Hands [] (Some bye) (told_bytes (L.sent link.old)) (Some result) (L.sent link.new) }
 {
     match say(rt, link, bye_line(bye)) {
@@ -84,6 +87,7 @@ pub(crate) fn hand_out<L: Link, R: Wait>(
     ensures answers { L.answers link.new ≡ L.answers link.old }
     ensures tells { is_some (L.sent link.new) ≡ is_some (L.sent link.old) }
     ensures is_bot { L.is_bot link.new ≡ L.is_bot link.old }
+    ensures asked_out { L.asked_out link.new ≡ L.asked_out link.old }
     ensures told { IsSome (L.sent link.old) → Hands bytes.now over (told_bytes (L.sent link.old)) result (L.sent link.new) }
 {
     if let Some(why) = say_all(rt, link, bytes) {

@@ -8,12 +8,15 @@ ghost use Rattle.session_pool.specs.Sittings.{begins};
 use crate::link::detach;
 use crate::turn::take_turn;
 use any_game::AnyGame;
+use bench_wishes::Wishes;
 use board_links::{Link, SessionEnd};
 use dice_words::Tape;
 use game_hall::SessionCore;
+use game_sheet::{MatchName, Seat};
 use link_rounds::{Service, Stir};
 use match_master::Book;
 use room_desk::{Desk, Pass};
+use session_bench::rise;
 use std::alloc::Global;
 use std::marker::{Brand, Model, PhantomData};
 use std::sync::Wait;
@@ -44,14 +47,18 @@ pub struct Hall<'a> {
     pub alloc: Global,
     /// A desk for each room, in their order.
     pub desks: &'a [Desk<Book<AnyGame>>],
+    /// The desk of the bench.
+    pub bench: &'a Desk<Wishes>,
 }
 
-/// A place of sessions: a pass for each room, the core of the session that is there, and the words that its lines draw. The words come from the
-/// seed of `K`. Contracts see where the session stands.
+/// A place of sessions: a pass for each room and one for the bench, the core of the session that is there, the words that its lines draw, and the
+/// seat of its bot, if it has one. The words come from the seed of `K`. Contracts see where the session stands.
 pub struct Sitting<'a, K: Seeded> {
     passes: Vec<Pass<Book<AnyGame>>>,
+    bench: Pass<Wishes>,
     core: SessionCore,
     words: Tape,
+    seat: Option<(MatchName, Seat)>,
     stir: Stir,
     seed: PhantomData<K>,
     hall: PhantomData<&'a ()>,
@@ -61,13 +68,16 @@ impl<'a, K: Seeded> Drop for Sitting<'a, K> {
     fn drop(self) {
         let Sitting {
             passes,
+            bench,
             core,
             words,
+            seat: _,
             stir: _,
             seed: _,
             hall: _,
         } = self;
         drop(passes);
+        drop(bench);
         drop(core);
         drop(words);
     }
@@ -78,21 +88,29 @@ impl<'a, K: Seeded> Model for Sitting<'a, K> {
 
     ghost Value = { Stand };
 
-    ghost view = { λ s. stand s.passes.items s.core s.words };
+    ghost view = { λ s. stand s.passes.items s.core s.words s.bench s.seat };
 }
 
 impl<'a, K: Seeded> Sitting<'a, K> {
-    /// A place without a session, of these passes over so many rooms. Its words are those of the stream of the passes' number, from the first on.
-    pub fn new(passes: Vec<Pass<Book<AnyGame>>>, rooms: u8, seed: [u8; 32]) -> Sitting<'a, K>
+    /// A place without a session, of these passes over so many rooms, and of this pass at the bench. Its words are those of the stream of the passes'
+    /// number, from the first on.
+    pub fn new(
+        passes: Vec<Pass<Book<AnyGame>>>,
+        bench: Pass<Wishes>,
+        rooms: u8,
+        seed: [u8; 32],
+    ) -> Sitting<'a, K>
         requires some { 0 < vec_len passes }
         requires rooms { (1 ≤ rooms) × (rooms ≤ 64) }
-        ensures { result ≡ begins rooms passes.items (live seed (number_of passes.items) 0) }
+        ensures { result ≡ begins rooms passes.items (live seed (number_of passes.items) 0) bench }
     {
         let number = passes[0].number();
         Sitting {
             passes,
-            core: SessionCore::new(number, rooms),
+            bench,
+            core: SessionCore::new(number, rooms).with_bench(),
             words: Tape::live(seed, u64::from(number), 0),
+            seat: None,
             stir: Stir {
                 at: None,
                 changed: 0,
@@ -103,21 +121,24 @@ impl<'a, K: Seeded> Sitting<'a, K> {
         }
     }
 
-    /// Its passes.
-    pub fn into_passes(self) -> Vec<Pass<Book<AnyGame>>>
-        ensures { result.items ≡ self.entry.passes }
+    /// Its passes, and that at the bench.
+    pub fn into_passes(self) -> (Vec<Pass<Book<AnyGame>>>, Pass<Wishes>)
+        ensures passes { result.0.items ≡ self.entry.passes }
+        ensures bench { result.1 ≡ self.entry.bench }
     {
         let Sitting {
             passes,
+            bench,
             core,
             words,
+            seat: _,
             stir: _,
             seed: _,
             hall: _,
         } = self;
         drop(core);
         drop(words);
-        passes
+        (passes, bench)
     }
 }
 
@@ -128,7 +149,7 @@ impl<'a, K: Seeded> Service for Sitting<'a, K> {
 
     type Hall = Hall<'a>;
 
-    ghost fits = { λ hall s. Fits hall.desks.now K.seed K.places s };
+    ghost fits = { λ hall s. Fits hall.desks.now hall.bench.now.desk K.seed K.places s };
 
     ghost rests = { λ s. Rests K.seed K.places s };
 
@@ -146,19 +167,24 @@ impl<'a, K: Seeded> Service for Sitting<'a, K> {
     ) -> Option<SessionEnd> {
         let Sitting {
             passes,
+            bench,
             core,
             words,
+            seat,
             stir,
             seed: _,
             hall: _,
         } = self;
         stir.changed = 0;
         stir.more = false;
+        *seat = link.bot_seat();
         take_turn(
             rt,
             hall.alloc,
             hall.desks,
             passes.as_mut_slice(),
+            hall.bench,
+            bench,
             link,
             words,
             core,
@@ -177,13 +203,16 @@ impl<'a, K: Seeded> Service for Sitting<'a, K> {
     fn leave<R: Wait>(&mut self, rt: &R, hall: &Hall<'a>) {
         let Sitting {
             passes,
+            bench,
             core,
             words: _,
+            seat,
             stir: _,
             seed: _,
             hall: _,
         } = self;
         detach(rt, hall.desks, passes.as_mut_slice(), core);
-        *core = SessionCore::new(core.pass(), hall.desks.len() as u8);
+        rise(rt, hall.bench, bench, seat.take(), core.has_sat());
+        *core = SessionCore::new(core.pass(), hall.desks.len() as u8).with_bench();
     }
 }

@@ -3,9 +3,11 @@
 ghost use Rattle.std.specs.Prelude.{◌≡◌, ◌-◌, [], false, vec_len, IfOk, Some, None};
 ghost use Rattle.board_links.specs.Answers.{CameRaises, IsWithin, stage_after};
 
+use bench_wishes::Wishes;
 use board_links::{Came, Door, Link, MemoryDoor, Out, SessionEnd, Stage};
 use game_sheet::{Bytes, List, MatchName, NoMemory, Seat};
 use link_rounds::{DoorEnd, InTurn};
+use room_desk::Desk;
 use session_pool::{serve_door, set_up_rooms};
 use std::alloc::Global;
 use std::sync::Wait;
@@ -222,21 +224,26 @@ fn two_links_that_wait_for_each_other_are_served_by_two_workers(
     };
     let door = door(&rt, &flags, alloc)?;
     let (desks, passes) = set_up_rooms(alloc, 1, 2)?;
+    let (bench, bench_passes) = Desk::set_up(alloc, Wishes::new(alloc), 2)?;
     let mut readies = Vec::with_capacity(alloc, 2)?;
     readies.push_reserved(InTurn::new(1));
     readies.push_reserved(InTurn::new(1));
-    let (end, count, passes, door) = serve_door(
+    let (end, count, passes, bench_passes, door) = serve_door(
         &rt,
         alloc,
         desks.as_slice(),
         passes,
+        &bench,
+        bench_passes,
         readies,
         [0; 32],
         door,
         1000,
     );
     drop(passes);
+    drop(bench_passes);
     drop(desks);
+    drop(bench);
     assert!(rt; end == DoorEnd::Done && count == 2);
     let mut sends = [u32::MAX; 2];
     for (link, end) in door.ended() {

@@ -1,10 +1,11 @@
 //! A session that makes a match, sits down, looks at it and acts, over a link of which any one call may fail.
 
-ghost use Rattle.std.specs.Prelude.{◌≡◌, ◌<◌, ◌≤◌, None, length, vec_len, IfOk};
+ghost use Rattle.std.specs.Prelude.{◌≡◌, ◌<◌, ◌≤◌, All, None, length, vec_len, IfOk};
 ghost use Rattle.session_pool.specs.Passes.{Belong, number_of};
 ghost use Rattle.session_pool.specs.Placed.{AttachedBy};
 
 use any_game::AnyGame;
+use bench_wishes::Wishes;
 use board_links::{AtEnd, MemoryLink, Scripted, SessionEnd};
 use dice_words::Tape;
 use game_sheet::{List, NoMemory};
@@ -75,21 +76,31 @@ const SENT: [&[u8]; 21] = [
 /// Another session: a spectator looks.
 const LOOKS: [&[u8]; 1] = [b"{\"key\":null,\"match\":\"0-1\",\"seat\":null,\"type\":\"sync\"}"];
 
-/// One room, and a pass to it.
+/// One room and a bench, and a pass to each.
 #[derive(Drop)]
 struct Rooms {
     desks: Vec<Desk<Book<AnyGame>>>,
     passes: Vec<Pass<Book<AnyGame>>>,
+    bench: Desk<Wishes>,
+    bench_passes: Vec<Pass<Wishes>>,
     ghost one: { vec_len desks ≡ 1 },
     ghost belong: { Belong desks.items (number_of passes.items) passes.items },
     ghost free: { AttachedBy passes.items None },
+    ghost one_place: { vec_len bench_passes ≡ 1 },
+    ghost own: { All (λ p. p.desk ≡ bench.desk) bench_passes.items },
 }
 
 fn opened(alloc: Global) -> Result<Rooms, NoMemory> {
     let mut desks = Vec::with_capacity(alloc, 1)?;
     let (desk, passes) = Desk::set_up(alloc, Book::new(alloc, 0)?, 1)?;
     desks.push_reserved(desk);
-    Ok(Rooms { desks, passes })
+    let (bench, bench_passes) = Desk::set_up(alloc, Wishes::new(alloc), 1)?;
+    Ok(Rooms {
+        desks,
+        passes,
+        bench,
+        bench_passes,
+    })
 }
 
 /// A link that says these lines and then ends, of which the calls of these numbers fail.
@@ -118,12 +129,19 @@ fn serve<R: Wait>(
 ) -> Result<Served, NoMemory> {
     let mut link = link?;
     let mut words = Tape::live([0; 32], 0, 0);
-    let Rooms { desks, passes } = rooms;
+    let Rooms {
+        desks,
+        passes,
+        bench,
+        bench_passes,
+    } = rooms;
     let end = serve_link(
         rt,
         alloc,
         desks.as_slice(),
         passes.as_mut_slice(),
+        bench,
+        &mut bench_passes[0],
         &mut link,
         &mut words,
     );

@@ -5,9 +5,11 @@ ghost use Rattle.std.specs.Prelude.{◌≡◌, ◌-◌, ◌<◌, ◌≤◌, [], 
 ghost use Rattle.board_links.specs.Answers.{CameRaises, IsWithin};
 
 use crate::meetings::stage_after;
+use bench_wishes::Wishes;
 use board_links::{Came, Door, Link, MemoryDoor, Out, SessionEnd, Stage};
 use game_sheet::{Bytes, List, MatchName, NoMemory, Seat};
 use link_rounds::{DoorEnd, Ready, Stir};
+use room_desk::Desk;
 use session_pool::{serve_door, set_up_rooms};
 use std::alloc::Global;
 use std::process::Abort;
@@ -362,18 +364,23 @@ fn both_served<R: Abort + Clock + Threads + Wait + Sync>(
     let door = door(rt, &told, alloc)?;
     let readies = readies(rt, &told, alloc, workers)?;
     let (desks, passes) = set_up_rooms(alloc, 1, 2)?;
-    let (end, count, passes, door) = serve_door(
+    let (bench, bench_passes) = Desk::set_up(alloc, Wishes::new(alloc), 2)?;
+    let (end, count, passes, bench_passes, door) = serve_door(
         rt,
         alloc,
         desks.as_slice(),
         passes,
+        &bench,
+        bench_passes,
         readies,
         [0; 32],
         door,
         1000,
     );
     drop(passes);
+    drop(bench_passes);
     drop(desks);
+    drop(bench);
     assert!(rt; end == DoorEnd::Done && count == 2);
     for (_link, end) in door.ended() {
         assert_eq!(rt; *end, SessionEnd::Ended);

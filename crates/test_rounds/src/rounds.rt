@@ -14,7 +14,7 @@ use std::thread::Threads;
 
 /// Names both places of its bench in turn, the second in bursts, and one beyond them.
 #[derive(Drop)]
-struct Everyone;
+pub struct Everyone;
 
 impl<L: Link> Ready<L> for Everyone {
     ghost use Rattle.std.specs.Prelude.{None};
@@ -34,7 +34,7 @@ impl<L: Link> Ready<L> for Everyone {
 }
 
 /// A link that says these lines, and ends.
-fn link(alloc: Global, lines: &[&[u8]]) -> Result<MemoryLink, NoMemory>
+pub fn link(alloc: Global, lines: &[&[u8]]) -> Result<MemoryLink, NoMemory>
     ensures { IfOk result (λ l. IsFresh l.faults l.finished (Some l.answers) (Some l.sent)) }
 {
     let mut script = Vec::new(alloc);
@@ -77,7 +77,7 @@ fn door(alloc: Global, said: &[&[&[u8]]]) -> Result<MemoryDoor<MemoryLink>, NoMe
 }
 
 /// Serves a door at one bench with these services.
-fn serve<S: Service + Send, D: Door + Send, W: Ready<D::L> + Send, R: Threads + Wait + Sync>(
+pub fn serve<S: Service + Send, D: Door + Send, W: Ready<D::L> + Send, R: Threads + Wait + Sync>(
     rt: &R,
     alloc: Global,
     hall: &S::Hall,
@@ -109,7 +109,7 @@ where
 }
 
 /// Two services that send back what they are said.
-fn echoes(alloc: Global) -> Result<Vec<Echo>, NoMemory>
+pub fn echoes(alloc: Global) -> Result<Vec<Echo>, NoMemory>
     ensures { IfOk result (λ s. vec_len s ≡ 2) }
 {
     let mut services = Vec::new(alloc);

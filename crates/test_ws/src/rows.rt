@@ -1,10 +1,11 @@
 //! A session over bytes that are known, and the bytes that it is sent.
 
-ghost use Rattle.std.specs.Prelude.{◌≡◌, None, vec_len};
+ghost use Rattle.std.specs.Prelude.{◌≡◌, All, None, vec_len};
 ghost use Rattle.session_pool.specs.Passes.{Belong, number_of};
 ghost use Rattle.session_pool.specs.Placed.{AttachedBy};
 
 use any_game::AnyGame;
+use bench_wishes::Wishes;
 use board_links::SessionEnd;
 use dice_words::Tape;
 use game_sheet::NoMemory;
@@ -31,21 +32,31 @@ const ENDED: &[u8] = b"\x88\x02\x03\xe8";
 /// The close of one whose line was too long.
 const TOO_LONG: &[u8] = b"\x88\x02\x03\xf1";
 
-/// One room, and a pass to it.
+/// One room and a bench, and a pass to each.
 #[derive(Drop)]
 struct Rooms {
     desks: Vec<Desk<Book<AnyGame>>>,
     passes: Vec<Pass<Book<AnyGame>>>,
+    bench: Desk<Wishes>,
+    bench_passes: Vec<Pass<Wishes>>,
     ghost one: { vec_len desks ≡ 1 },
     ghost belong: { Belong desks.items (number_of passes.items) passes.items },
     ghost free: { AttachedBy passes.items None },
+    ghost one_place: { vec_len bench_passes ≡ 1 },
+    ghost own: { All (λ p. p.desk ≡ bench.desk) bench_passes.items },
 }
 
 fn opened(alloc: Global) -> Result<Rooms, NoMemory> {
     let mut desks = Vec::with_capacity(alloc, 1)?;
     let (desk, passes) = Desk::set_up(alloc, Book::new(alloc, 0)?, 1)?;
     desks.push_reserved(desk);
-    Ok(Rooms { desks, passes })
+    let (bench, bench_passes) = Desk::set_up(alloc, Wishes::new(alloc), 1)?;
+    Ok(Rooms {
+        desks,
+        passes,
+        bench,
+        bench_passes,
+    })
 }
 
 /// Serves a session over these bytes in these rooms: how it ended, and what it was sent.
@@ -65,12 +76,19 @@ fn serve<R: Wait>(
             writer: sent,
         },
     );
-    let Rooms { desks, passes } = rooms;
+    let Rooms {
+        desks,
+        passes,
+        bench,
+        bench_passes,
+    } = rooms;
     let end = serve_link(
         rt,
         alloc,
         desks.as_slice(),
         passes.as_mut_slice(),
+        bench,
+        &mut bench_passes[0],
         &mut link,
         &mut words,
     );

@@ -1,16 +1,39 @@
-use Rattle.std.proofs.Common.{◌≡◌, ◌<◌, ◌++◌, ◌∙◌, ap, arith, inl, map, subst, sym}
+use Rattle.std.proofs.Common.{◌≡◌, ◌<◌, ◌++◌, ◌∙◌, ap, arith, inl, length, map, subst, sym}
 use Rattle.std.specs.Prelude.{All}
 use Rattle.board_links.specs.Pieces.{told_bytes}
 use Rattle.session_pool.specs.Passes.{number_of}
 use Rattle.session_pool.specs.Rooms.{numbers}
 use Rattle.session_pool.specs.Sittings.{AreServed}
 use Rattle.door_serve.proofs.Booking.{all_stand, as_many_rooms, numbered}
-use Rattle.door_serve.proofs.Gathering.{handed_back}
+use Rattle.door_serve.proofs.Gathering.{as_many_back, handed_back}
 use Rattle.door_serve.proofs.Printing.{by_end}
 use Rattle.door_serve.specs.Ends.{Printed, end_of}
 use Rattle.door_serve.specs.Report.{report}
 use Rattle.door_serve.specs.Rooms.{IsARoom, Numbered, Stand, desks_of}
 use Rattle.door_serve.proofs.serving.serve_hall.Goals as goal
+
+pub close_all-requires-clause-counts : goal.close_all-requires-clause-counts
+close_all-requires-clause-counts g c k d low =
+    let back = as_many_back (λ v. v.items) c.args.rows.items c.serve_door-end.result.2.items c.serve_door-end.ensures.handed in
+    let rows = ap length c.as_mut_slice.ensures.value in
+    omega (arith, back, rows, c.requires.counts k d low, c.requires.many.1, c.args.rows.ok)
+
+pub close_all-requires-clause-spare : goal.close_all-requires-clause-spare
+close_all-requires-clause-spare g c =
+    let back = as_many_back (λ v. v.items) c.args.rows.items c.serve_door-end.result.2.items c.serve_door-end.ensures.handed in
+    let rows = ap length c.as_mut_slice.ensures.value in (
+      omega (arith, c.args.spare.many, c.requires.many.0),
+      λ k d low. ((c.args.spare.empty k d low).0, omega (arith, back, rows, (c.args.spare.empty k d low).1, c.requires.many.1, c.args.rows.ok)),
+    )
+
+pub print_report-printed-requires : goal.print_report-printed-requires
+print_report-printed-requires g c =
+    let books = c.close_all.new.books.items in
+    let rooms : map (λ b. b.room) books ≡ numbers 0 c.args.spare.rooms =
+    c.close_all.ensures.numbers ∙ (ap (λ bs. map (λ b. b.room) bs ++ map (λ d. d.desk.object) c.args.desks.items) c.args.spare.none ∙ c.requires.objects) in
+    let many = as_many_rooms books 0 c.args.spare.rooms rooms in
+    let seen = ap length c.as_slice-2.ensures.value in
+    omega (arith, many, seen, c.requires.rooms.1)
 
 pub close_all-requires-clause-rows : goal.close_all-requires-clause-rows
 close_all-requires-clause-rows g c =
@@ -21,7 +44,7 @@ pub serve_door-end-requires-clause-within : goal.serve_door-end-requires-clause-
 serve_door-end-requires-clause-within g c κs inside = subst (λ n. All (λ p. number_of p.items < n) c.args.rows.items) (sym c.requires.many.1) c.requires.within
 
 pub returns-clause-served : goal.returns-clause-served
-returns-clause-served g c = subst (λ n. AreServed c.args.seed n (g.D.Door.returned c.serve_door-end.result.3)) c.requires.many.1 c.serve_door-end.ensures.served
+returns-clause-served g c = subst (λ n. AreServed c.args.seed n (g.D.Door.returned c.serve_door-end.result.4)) c.requires.many.1 c.serve_door-end.ensures.served
 
 pub returns-clause-reports : goal.returns-clause-reports
 returns-clause-reports g c tells =
@@ -39,5 +62,5 @@ returns-clause-reports g c tells =
     inl (
       stand.0,
       record { many = as_many_rooms books 0 c.args.spare.rooms rooms; numbered = in_order; stand = stand.1 },
-      subst (λ how. Printed how (report (g.D.Door.given c.serve_door-end.result.3) stand.0) before after) (sym c.end_of.ensures) counted,
+      subst (λ how. Printed how (report (g.D.Door.given c.serve_door-end.result.4) stand.0) before after) (sym c.end_of.ensures) counted,
     )

@@ -12,8 +12,10 @@ invariant-loop-passes g l =
     × All (λ p. Belong l.desks (number_of p.items) p.items) (into_iter_items l.passes-iterator)
     × All (λ p. AttachedBy p.items None) (into_iter_items l.passes-iterator)
     × All (λ p. number_of p.items < g.K.Seeded.places) (into_iter_items l.passes-iterator)
-    × All (Fits l.desks g.K.Seeded.seed g.K.Seeded.places) l.sittings.items
+    × All (Fits l.desks l.bench.desk g.K.Seeded.seed g.K.Seeded.places) l.sittings.items
     × All (Rests g.K.Seeded.seed g.K.Seeded.places) l.sittings.items
     × (map (λ x. x.passes) l.sittings.items ++ map (λ p. p.items) (into_iter_items l.passes-iterator) ≡ map (λ p. p.items) l.fn.passes.items)
     × (vec_len l.sittings + length (into_iter_items l.passes-iterator) ≤ vec_capacity l.sittings)
     × (vec_len l.sittings + length (into_iter_items l.passes-iterator) ≡ vec_len l.fn.passes)
+    × (vec_len l.at_bench ≡ length (into_iter_items l.passes-iterator))
+    × All (λ p. p.desk ≡ l.bench.desk) l.at_bench.items

@@ -1,4 +1,4 @@
-use Rattle.std.proofs.Common.{◌≤◌, ◌∙◌, Some, arith, subst}
+use Rattle.std.proofs.Common.{◌≤◌, ◌∙◌, Some, subst}
 use Rattle.board_links.specs.Pieces.{told_bytes}
 use Rattle.game_sheet.specs.Lines.{lines}
 use Rattle.session_pool.proofs.Ends.{shows_later}
@@ -14,11 +14,12 @@ loop-place-preserved g c =
     let i = c.loop-place.invariant in
     let said = c.in_default.ensures in
     record {
-      never_falls = omega (arith, i.never_falls, said.never_falls);
+      faults = said.shows ∙ i.faults;
       stage = said.stage ∙ i.stage;
       answers = said.answers ∙ i.answers;
       tells = said.tells ∙ i.tells;
       is_bot = said.is_bot ∙ i.is_bot;
+      asked_out = said.asked_out ∙ i.asked_out;
       sent = λ told. sent_more c.args.bytes.now (told_bytes (g.L.Link.sent c.args.link.now)) c.loop-place.place c.piece.result.now
           (g.L.Link.sent c.loop-place.link) (g.L.Link.sent c.say.new.link) c.piece.ensures (i.sent told) said.told;
     }
@@ -29,7 +30,7 @@ returns-in-Some-clause-told g c told =
     (g.L.Link.sent c.loop-place.link) (g.L.Link.sent c.say.new.link) c.in-Some.why c.piece.ensures (c.loop-place.invariant.sent told) c.in-Some.ensures.told
 
 pub returns-in-Some-clause-shows : goal.returns-in-Some-clause-shows
-returns-in-Some-clause-shows g c = shows_later (Some c.in-Some.why) (g.L.Link.faults c.args.link.now) (g.L.Link.faults c.loop-place.link) (g.L.Link.faults c.say.new.link) c.loop-place.invariant.never_falls c.in-Some.ensures.shows
+returns-in-Some-clause-shows g c = shows_later (Some c.in-Some.why) (g.L.Link.faults c.args.link.now) (g.L.Link.faults c.loop-place.link) (g.L.Link.faults c.say.new.link) c.loop-place.invariant.faults c.in-Some.ensures.shows
 
 pub returns-clause-told : goal.returns-clause-told
 returns-clause-told g c told =

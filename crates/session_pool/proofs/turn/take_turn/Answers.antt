@@ -1,68 +1,52 @@
-use Rattle.std.proofs.Common.{Some, length, refl}
-use Rattle.board_links.specs.declared.link.Came.TheVariants as came
-use Rattle.board_links.specs.declared.link.SessionEnd.TheVariants as end
+use Rattle.std.proofs.Common.{ap, length, subst, sym, ◌∙◌}
+use Rattle.link_rounds.specs.Ends.{ShowsEnd}
+use Rattle.session_bench.specs.Wishing.{Readies}
+use Rattle.session_pool.specs.Passes.{Belong}
+use Rattle.session_pool.specs.Placed.{AttachedBy, IsIdle}
 use Rattle.session_pool.specs.Turn.{stand}
-use Rattle.session_pool.proofs.Ends.{shows_end}
-use Rattle.session_pool.proofs.Placing.{idle_ready}
-use Rattle.session_pool.proofs.Saying.{stopped_at, turned}
+use Rattle.session_pool.proofs.Benching.{idle_sat}
+use Rattle.session_pool.proofs.Saying.{readied_on}
 use Rattle.session_pool.proofs.turn.take_turn.Goals as goal
 
--- a line was heeded, and then the session spoke
-pub returns-in-Line-clause-shows : goal.returns-in-Line-clause-shows
-returns-in-Line-clause-shows g c =
-    shows_end c.speak.result (g.L.Link.faults c.args.link.now) (g.L.Link.faults c.receive.new.self) (g.L.Link.faults c.speak.new.link) (g.L.Link.stage c.speak.new.link)
-    c.receive.ensures.never_falls c.speak.ensures.shows
+pub go_on-requires : goal.go_on-requires
+go_on-requires g c =
+    let core = sym c.ready.ensures.core in
+    record {
+      belong = subst (λ k. Belong c.args.desks.now k.pass c.args.passes.now) core c.requires.belong;
+      idle = subst (IsIdle (length c.args.desks.now)) core (idle_sat (length c.args.desks.now) c.args.core.now c.ready.new.core.sat c.requires.idle);
+      attached = subst (λ k. AttachedBy c.args.passes.now k.at) core c.requires.attached;
+      live = c.requires.live;
+      at_bench = c.ready.ensures.desk ∙ c.requires.at_bench;
+    }
 
-pub returns-in-Line-clause-turn : goal.returns-in-Line-clause-turn
-returns-in-Line-clause-turn g c told_a told_s =
-    let m = stand c.heed.new.passes c.heed.new.core c.heed.new.words in
-    turned (came.Line c.in-Line.line) (stand c.args.passes.now c.args.core.now c.args.words.now) (stand c.speak.new.passes c.speak.new.core c.heed.new.words)
-    (g.L.Link.answers c.args.link.now) (g.L.Link.answers c.receive.new.self) (g.L.Link.answers c.speak.new.link) (g.L.Link.sent c.args.link.now) (g.L.Link.sent c.receive.new.self) (g.L.Link.sent c.speak.new.link)
-    c.speak.result told_a told_s (c.in-Line.ensures.told told_a) c.speak.ensures.answers c.receive.ensures.sent
-    (λ told. (m, c.heed.ensures.heeds, c.speak.ensures.told told, refl))
+pub returns-clause-pass : goal.returns-clause-pass
+returns-clause-pass g c = c.go_on.ensures.pass ∙ ap (λ k. k.pass) c.ready.ensures.core
 
--- nothing came, and the session takes what waits
-pub returns-in-Quiet-clause-shows : goal.returns-in-Quiet-clause-shows
-returns-in-Quiet-clause-shows g c =
-    shows_end c.speak-in-Quiet.result (g.L.Link.faults c.args.link.now) (g.L.Link.faults c.receive.new.self) (g.L.Link.faults c.speak-in-Quiet.new.link) (g.L.Link.stage c.speak-in-Quiet.new.link)
-    c.receive.ensures.never_falls c.speak-in-Quiet.ensures.shows
+pub returns-clause-shows : goal.returns-clause-shows
+returns-clause-shows g c =
+    subst (λ n. ShowsEnd n (g.L.Link.faults c.go_on.new.link) (g.L.Link.stage c.go_on.new.link) c.go_on.result) c.ready.ensures.faults c.go_on.ensures.shows
 
-pub speak-requires-in-Quiet-clause-ready : goal.speak-requires-in-Quiet-clause-ready
-speak-requires-in-Quiet-clause-ready g c = idle_ready (length c.args.desks.now) c.args.core.now c.requires.idle
+pub returns-clause-benched : goal.returns-clause-benched
+returns-clause-benched g c = (
+  c.ready.new.pass,
+  subst (λ now. Readies (g.L.Link.bot_seat c.args.link.now) c.args.bench_pass.now c.args.core.now.sat (g.L.Link.asked_out c.args.link.now) c.ready.new.pass c.go_on.new.core.sat now)
+      (sym c.go_on.ensures.asked_out)
+      (subst (λ sat. Readies (g.L.Link.bot_seat c.args.link.now) c.args.bench_pass.now c.args.core.now.sat (g.L.Link.asked_out c.args.link.now) c.ready.new.pass sat (g.L.Link.asked_out c.ready.new.link))
+      (sym c.go_on.ensures.sat) c.ready.ensures.readies),
+  c.go_on.ensures.asks,
+)
 
-pub returns-in-Quiet-clause-turn : goal.returns-in-Quiet-clause-turn
-returns-in-Quiet-clause-turn g c told_a told_s =
-    turned came.Quiet (stand c.args.passes.now c.args.core.now c.args.words.now) (stand c.speak-in-Quiet.new.passes c.speak-in-Quiet.new.core c.args.words.now)
-    (g.L.Link.answers c.args.link.now) (g.L.Link.answers c.receive.new.self) (g.L.Link.answers c.speak-in-Quiet.new.link)
-    (g.L.Link.sent c.args.link.now) (g.L.Link.sent c.receive.new.self) (g.L.Link.sent c.speak-in-Quiet.new.link)
-    c.speak-in-Quiet.result told_a told_s (c.in-Quiet.ensures.told told_a) c.speak-in-Quiet.ensures.answers c.receive.ensures.sent
-    (λ told. (c.speak-in-Quiet.ensures.told told, refl))
-
--- the other answers end the session
-pub returns-in-Ended-clause-turn : goal.returns-in-Ended-clause-turn
-returns-in-Ended-clause-turn g c told_a told_s =
-    let s = stand c.args.passes.now c.args.core.now c.args.words.now in
-    turned came.Ended s s (g.L.Link.answers c.args.link.now) (g.L.Link.answers c.receive.new.self) (g.L.Link.answers c.receive.new.self)
-    (g.L.Link.sent c.args.link.now) (g.L.Link.sent c.receive.new.self) (g.L.Link.sent c.receive.new.self)
-    (Some end.Ended) told_a told_s (c.in-Ended.ensures.told told_a) refl c.receive.ensures.sent (λ told. (refl, refl, stopped_at (g.L.Link.sent c.receive.new.self) told))
-
-pub returns-in-TooLong-clause-turn : goal.returns-in-TooLong-clause-turn
-returns-in-TooLong-clause-turn g c told_a told_s =
-    let s = stand c.args.passes.now c.args.core.now c.args.words.now in
-    turned came.TooLong s s (g.L.Link.answers c.args.link.now) (g.L.Link.answers c.receive.new.self) (g.L.Link.answers c.receive.new.self)
-    (g.L.Link.sent c.args.link.now) (g.L.Link.sent c.receive.new.self) (g.L.Link.sent c.receive.new.self)
-    (Some end.TooLong) told_a told_s (c.in-TooLong.ensures.told told_a) refl c.receive.ensures.sent (λ told. (refl, refl, stopped_at (g.L.Link.sent c.receive.new.self) told))
-
-pub returns-in-Failed-clause-turn : goal.returns-in-Failed-clause-turn
-returns-in-Failed-clause-turn g c told_a told_s =
-    let s = stand c.args.passes.now c.args.core.now c.args.words.now in
-    turned came.Failed s s (g.L.Link.answers c.args.link.now) (g.L.Link.answers c.receive.new.self) (g.L.Link.answers c.receive.new.self)
-    (g.L.Link.sent c.args.link.now) (g.L.Link.sent c.receive.new.self) (g.L.Link.sent c.receive.new.self)
-    (Some end.LinkFault) told_a told_s (c.in-Failed.ensures.told told_a) refl c.receive.ensures.sent (λ told. (refl, refl, stopped_at (g.L.Link.sent c.receive.new.self) told))
-
-pub returns-in-NoMemory-clause-turn : goal.returns-in-NoMemory-clause-turn
-returns-in-NoMemory-clause-turn g c told_a told_s =
-    let s = stand c.args.passes.now c.args.core.now c.args.words.now in
-    turned came.NoMemory s s (g.L.Link.answers c.args.link.now) (g.L.Link.answers c.receive.new.self) (g.L.Link.answers c.receive.new.self)
-    (g.L.Link.sent c.args.link.now) (g.L.Link.sent c.receive.new.self) (g.L.Link.sent c.receive.new.self)
-    (Some end.NoMemory) told_a told_s (c.in-NoMemory.ensures.told told_a) refl c.receive.ensures.sent (λ told. (refl, refl, stopped_at (g.L.Link.sent c.receive.new.self) told))
+pub returns-clause-turn : goal.returns-clause-turn
+returns-clause-turn g c told_a told_s =
+    let seat = g.L.Link.bot_seat c.args.link.now in (
+      g.L.Link.asked_out c.args.link.now,
+      g.L.Link.asked_out c.ready.new.link,
+      c.ready.new.pass,
+      c.ready.new.core.sat,
+      c.ready.ensures.readies,
+      readied_on c.args.passes.now c.args.core.now c.ready.new.core c.args.words.now c.ready.new.pass seat
+          (stand c.go_on.new.passes c.go_on.new.core c.go_on.new.words c.go_on.new.bench_pass seat)
+          (g.L.Link.answers c.args.link.now) (g.L.Link.answers c.ready.new.link) (g.L.Link.answers c.go_on.new.link)
+          (g.L.Link.sent c.args.link.now) (g.L.Link.sent c.ready.new.link) (g.L.Link.sent c.go_on.new.link) c.go_on.result
+          c.ready.ensures.core c.ready.ensures.answers c.ready.ensures.sent (c.go_on.ensures.goes seat) told_a told_s,
+    )
