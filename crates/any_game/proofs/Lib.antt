@@ -1,1 +1,5 @@
+pub mod Depths
 pub mod NameLaws
+pub mod Others
+pub mod Small
+pub mod Texts

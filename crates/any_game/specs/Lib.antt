@@ -4,5 +4,6 @@ pub mod InSheet
 pub mod Kind
 pub mod Lifted
 pub mod LiftedLaws
-pub mod Values
 pub mod Names
+pub mod Sizes
+pub mod Values

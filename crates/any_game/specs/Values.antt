@@ -52,48 +52,24 @@ as_texts _ = None
 -- what is one of a game's states is that state and no other
 pub is_board : (g : AnyG) → IfSome (as_board g) (λ board. g ≡ TicTacToe board)
 is_board (TicTacToe board) = refl
-is_board (Countdown heap) = tt
-is_board (Pig points) = tt
-is_board (HighHand cards) = tt
-is_board (BlindBid bids) = tt
-is_board (Captions texts) = tt
+is_board _ = tt
 
 pub is_heap : (g : AnyG) → IfSome (as_heap g) (λ heap. g ≡ Countdown heap)
-is_heap (TicTacToe board) = tt
 is_heap (Countdown heap) = refl
-is_heap (Pig points) = tt
-is_heap (HighHand cards) = tt
-is_heap (BlindBid bids) = tt
-is_heap (Captions texts) = tt
+is_heap _ = tt
 
 pub are_points : (g : AnyG) → IfSome (as_points g) (λ points. g ≡ Pig points)
-are_points (TicTacToe board) = tt
-are_points (Countdown heap) = tt
 are_points (Pig points) = refl
-are_points (HighHand cards) = tt
-are_points (BlindBid bids) = tt
-are_points (Captions texts) = tt
+are_points _ = tt
 
 pub are_cards : (g : AnyG) → IfSome (as_cards g) (λ cards. g ≡ HighHand cards)
-are_cards (TicTacToe board) = tt
-are_cards (Countdown heap) = tt
-are_cards (Pig points) = tt
 are_cards (HighHand cards) = refl
-are_cards (BlindBid bids) = tt
-are_cards (Captions texts) = tt
+are_cards _ = tt
 
 pub are_bids : (g : AnyG) → IfSome (as_bids g) (λ bids. g ≡ BlindBid bids)
-are_bids (TicTacToe board) = tt
-are_bids (Countdown heap) = tt
-are_bids (Pig points) = tt
-are_bids (HighHand cards) = tt
 are_bids (BlindBid bids) = refl
-are_bids (Captions texts) = tt
+are_bids _ = tt
 
 pub are_texts : (g : AnyG) → IfSome (as_texts g) (λ texts. g ≡ Captions texts)
-are_texts (TicTacToe board) = tt
-are_texts (Countdown heap) = tt
-are_texts (Pig points) = tt
-are_texts (HighHand cards) = tt
-are_texts (BlindBid bids) = tt
 are_texts (Captions texts) = refl
+are_texts _ = tt

@@ -1,8 +1,8 @@
-//! The names by which games are known.
+//! The names by which games are known, and for how many seats each game is.
 
-ghost use Rattle.std.specs.Prelude.{◌≡◌, ◌↔◌, List as Items, ℕ, map, Contains, IfOk, IsSome};
+ghost use Rattle.std.specs.Prelude.{◌≡◌, ◌↔◌, ◌&&◌, nat_le, List as Items, ℕ, map, Contains, IfOk, IsSome};
 ghost use Rattle.any_game.specs.AnyRules.{named};
-ghost use Rattle.any_game.specs.Names.{all_names};
+ghost use Rattle.any_game.specs.Names.{all_names, may_open};
 
 use game_sheet::{List, NoMemory, Text};
 use std::alloc::Global;
@@ -34,4 +34,32 @@ fn texts_of(alloc: Global, words: &[&str]) -> Result<List<Text>, NoMemory>
         texts.push(Text::from_str(alloc, word)?)?;
     }
     Ok(texts)
+}
+
+/// Whether there is a game of this name for so many seats. It takes no memory.
+#[tactic(auto, unfolding(crate::specs::Names::may_open))]
+pub fn may_open(game: &str, seats: u8) -> bool
+    ensures { result ≡ may_open game.now seats }
+{
+    if game == "tic-tac-toe" {
+        is_within(2, seats, 2)
+    } else if game == "countdown" {
+        is_within(2, seats, 4)
+    } else if game == "pig" {
+        is_within(2, seats, 4)
+    } else if game == "high-hand" {
+        is_within(2, seats, 4)
+    } else if game == "blind-bid" {
+        is_within(2, seats, 8)
+    } else if game == "captions" {
+        is_within(2, seats, 16)
+    } else {
+        false
+    }
+}
+
+fn is_within(least: u8, seats: u8, most: u8) -> bool
+    ensures { result ≡ (nat_le least seats && nat_le seats most) }
+{
+    least <= seats && seats <= most
 }

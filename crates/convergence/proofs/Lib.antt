@@ -11,6 +11,5 @@ pub mod Streams
 pub mod Pieces
 pub mod Reading
 pub mod Shallow
-pub mod States
 pub mod Likes
 pub mod Clauses

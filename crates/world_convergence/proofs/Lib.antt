@@ -14,7 +14,6 @@ pub mod Serving
 pub mod Coming
 pub mod Living
 pub mod Going
-pub mod Others
 pub mod Strangers
 pub mod Clauses
 pub mod Showing

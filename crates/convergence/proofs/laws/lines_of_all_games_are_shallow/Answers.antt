@@ -1,4 +1,4 @@
-use Rattle.convergence.proofs.States.{all_are_shallow}
+use Rattle.any_game.proofs.Depths.{all_are_shallow}
 use Rattle.convergence.proofs.laws.lines_of_all_games_are_shallow.Goals as goal
 
 pub returns-clause-states : goal.returns-clause-states

@@ -1,7 +1,7 @@
 use Rattle.any_game.specs.AnyRules.{any_lawful, any_rules}
-use Rattle.convergence.proofs.States.{all_are_shallow}
+use Rattle.any_game.proofs.Depths.{all_are_shallow}
 use Rattle.world_convergence.proofs.Clauses.{gone_by, lost_by, nothing_by}
-use Rattle.world_convergence.proofs.Others.{unread}
+use Rattle.any_game.proofs.Others.{unread}
 use Rattle.world_convergence.proofs.laws.clients_of_other_games_are_lost.Goals as goal
 
 pub returns-clause-nothing : goal.returns-clause-nothing

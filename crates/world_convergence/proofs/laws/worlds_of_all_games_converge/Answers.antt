@@ -1,4 +1,4 @@
-use Rattle.convergence.proofs.States.{all_are_shallow}
+use Rattle.any_game.proofs.Depths.{all_are_shallow}
 use Rattle.world_convergence.proofs.laws.worlds_of_all_games_converge.Goals as goal
 
 pub returns : goal.returns

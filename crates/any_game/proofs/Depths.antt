@@ -2,9 +2,10 @@
 use Rattle.std.proofs.Common.{◌≤◌, ◌+◌, ℕ, Bool, false, IsTrue, List, [], ◌∷◌, map, Option, Some, None, arith}
 use Rattle.std.proofs.lemmas.Bool.{false≢true}
 use Rattle.any_game.specs.AnyRules.{any_rules}
-use Rattle.any_game.specs.GameKind.{TicTacToe, Countdown, Pig, HighHand, BlindBid, Captions}
+use Rattle.any_game.specs.GameKind.{GameKind, TicTacToe, Countdown, Pig, HighHand, BlindBid, Captions}
 use Rattle.any_game.specs.Lifted.{on_own}
 use Rattle.any_game.specs.Values.{any_value, as_bids, as_board, as_cards, as_heap, as_points, as_texts}
+use Rattle.any_game.specs.declared.any_g.AnyG.{AnyG}
 use Rattle.card_games.specs.BlindBid.{bidding_value, bids_value, own_bids, sealed_bid_value}
 use Rattle.card_games.specs.Captions.{own_texts, sealed_text_value, shown_value, texts_value}
 use Rattle.card_games.specs.HighHand.{cards_value, deck_value, hand_value, own_state, table_value}
@@ -14,7 +15,6 @@ use Rattle.open_game.specs.Forms.{seat_value}
 use Rattle.serde_json.specs.Data.{Data, depth, items_depth}
 use Rattle.serde_json.specs.View.{items_of}
 use Rattle.table_states.specs.StateForms.{board_form, heap_form, points_form}
-use Rattle.convergence.specs.Shallow.{StatesAreShallow}
 
 -- each value is nested at most so deep
 abbrev Within : {A : Type 0} → ℕ → (A → Data) → Type 0
@@ -92,7 +92,7 @@ of_own : {G : Type 0} (own : G → Bool) (value : G → Data) (other : Data) (g 
 of_own own value other None low is = absurd (false≢true is)
 of_own own value other (Some g) low is = omega (arith, low g)
 
-pub all_are_shallow : StatesAreShallow any_rules
+pub all_are_shallow : (kind : GameKind) (g : AnyG) → IsTrue ((any_rules kind).own g) → depth ((any_rules kind).value g) ≤ 125
 all_are_shallow TicTacToe g = of_own board_form.own board_form.value (any_value g) (as_board g) of_board
 all_are_shallow Countdown g = of_own heap_form.own heap_form.value (any_value g) (as_heap g) of_heap
 all_are_shallow Pig g = of_own points_form.own points_form.value (any_value g) (as_points g) of_points

@@ -23,8 +23,8 @@ use Rattle.card_games.specs.declared.cards.Hand.{Hand}
 use Rattle.game_sheet.specs.Short.{is_plain, is_short}
 use Rattle.open_game.specs.Forms.{greatest, is_between, is_seat, seat_value}
 use Rattle.secret_strip.specs.declared.split.Split.{Split}
-use Rattle.state_sizes.specs.Sizes.{IsSmall}
-use Rattle.state_sizes.proofs.Texts.{AtMost, list_bytes, member_bytes, number_bytes, option_bytes, quoted_bytes, text_bytes}
+use Rattle.any_game.specs.Sizes.{IsSmall}
+use Rattle.any_game.proofs.Texts.{AtMost, list_bytes, member_bytes, number_bytes, option_bytes, quoted_bytes, text_bytes}
 use Rattle.table_states.specs.Points.{Points}
 use Rattle.table_states.specs.StateForms.{board_form, heap_form, points_form}
 use Rattle.table_states.specs.declared.board.Board.{Board}

@@ -22,51 +22,27 @@ AreOther k l = (any_rules l).sheet.name ≢ (any_rules k).sheet.name
 
 board_unread : (l : GameKind) → AreOther TicTacToe l → (x : _) → (any_rules l).read (board_form.value x) ≡ None
 board_unread TicTacToe h x = absurd (h refl)
-board_unread Countdown h x = refl
-board_unread Pig h x = refl
-board_unread (HighHand deck) h x = refl
-board_unread BlindBid h x = refl
-board_unread Captions h x = refl
+board_unread other h x = refl
 
 heap_unread : (l : GameKind) → AreOther Countdown l → (x : _) → (any_rules l).read (heap_form.value x) ≡ None
-heap_unread TicTacToe h x = refl
 heap_unread Countdown h x = absurd (h refl)
-heap_unread Pig h x = refl
-heap_unread (HighHand deck) h x = refl
-heap_unread BlindBid h x = refl
-heap_unread Captions h x = refl
+heap_unread other h x = refl
 
 points_unread : (l : GameKind) → AreOther Pig l → (x : _) → (any_rules l).read (points_form.value x) ≡ None
-points_unread TicTacToe h x = refl
-points_unread Countdown h x = refl
 points_unread Pig h x = absurd (h refl)
-points_unread (HighHand deck) h x = refl
-points_unread BlindBid h x = refl
-points_unread Captions h x = refl
+points_unread other h x = refl
 
 cards_unread : (of : _) (l : GameKind) → AreOther (HighHand of) l → (x : _) → (any_rules l).read (cards_value x) ≡ None
-cards_unread of TicTacToe h x = refl
-cards_unread of Countdown h x = refl
-cards_unread of Pig h x = refl
 cards_unread of (HighHand deck) h x = absurd (h refl)
-cards_unread of BlindBid h x = refl
-cards_unread of Captions h x = refl
+cards_unread of other h x = refl
 
 bids_unread : (l : GameKind) → AreOther BlindBid l → (x : _) → (any_rules l).read (bids_value x) ≡ None
-bids_unread TicTacToe h x = refl
-bids_unread Countdown h x = refl
-bids_unread Pig h x = refl
-bids_unread (HighHand deck) h x = refl
 bids_unread BlindBid h x = absurd (h refl)
-bids_unread Captions h x = refl
+bids_unread other h x = refl
 
 texts_unread : (l : GameKind) → AreOther Captions l → (x : _) → (any_rules l).read (texts_value x) ≡ None
-texts_unread TicTacToe h x = refl
-texts_unread Countdown h x = refl
-texts_unread Pig h x = refl
-texts_unread (HighHand deck) h x = refl
-texts_unread BlindBid h x = refl
 texts_unread Captions h x = absurd (h refl)
+texts_unread other h x = refl
 
 pub unread : (k l : GameKind) → AreOther k l → (g : AnyG) → IsTrue ((any_rules k).own g) → (any_rules l).read ((any_rules k).value g) ≡ None
 unread TicTacToe l h g = unread_own board_form.own board_form.value (any_value g) (any_rules l).read (as_board g) (board_unread l h)
