@@ -1,6 +1,7 @@
 pub mod Answers
 pub mod Bench
 pub mod Core
+pub mod Counts
 pub mod Kept
 pub mod Requests
 pub mod RowLines

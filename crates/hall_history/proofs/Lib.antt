@@ -10,4 +10,3 @@ pub mod Opens
 pub mod Placing
 pub mod Rooming
 pub mod Telling
-pub use Rattle.session_driver.proofs.Replies

@@ -3,7 +3,7 @@ use Rattle.std.specs.Prelude.{ℕ, ◌+◌, [], ◌∷◌}
 use Rattle.game_trait.specs.Rules.{Rules}
 use Rattle.room_history.specs.Room.{reply}
 use Rattle.room_history.specs.declared.reply.RoomReply.{RoomReply}
-pub use Rattle.session_driver.specs.Counts.{accepts, hands_out, refuses}
+pub use Rattle.game_hall.specs.Counts.{accepts, hands_out, refuses}
 use Rattle.hall_history.specs.Rooms.{History, Rooms}
 
 module _ {X G : Type 0} (rules : X → Rules G) (count : RoomReply → ℕ) where

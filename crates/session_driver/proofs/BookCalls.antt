@@ -10,7 +10,7 @@ use Rattle.room_history.specs.Room.{reply}
 use Rattle.room_history.specs.declared.call.RoomCall.{RoomCall}
 use Rattle.room_history.specs.declared.reply.RoomReply.{RoomReply}
 use Rattle.room_object.specs.Entry.{entry}
-use Rattle.session_driver.proofs.Replies.{named_by}
+use Rattle.game_hall.proofs.Replies.{named_by}
 use Rattle.session_driver.specs.Calls.{Did, did}
 use Rattle.session_driver.specs.OfBooks.{AreInOrder, CallsBook, RoomCalls}
 

@@ -2,5 +2,4 @@ pub mod Along
 pub mod Benches
 pub mod BookCalls
 pub mod Freed
-pub mod Replies
 pub mod Steps

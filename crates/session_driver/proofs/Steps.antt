@@ -18,7 +18,8 @@ use Rattle.game_hall.specs.declared.request.Request.TheVariants.{Creating, Listi
 use Rattle.room_history.specs.declared.call.RoomCall.{RoomCall}
 use Rattle.room_history.specs.declared.reply.RoomReply.{RoomReply}
 use Rattle.wire_json.specs.ClientReading.{client_read}
-use Rattle.session_driver.specs.Counts.{accepts, counted, refuses}
+use Rattle.game_hall.specs.Counts.{accepts, refuses}
+use Rattle.session_driver.specs.Counts.{counted}
 use Rattle.session_driver.specs.Calls.{Did, did}
 use Rattle.session_driver.specs.Hearing.{Draws, HearsLine, HearsReply, MakesCounted, Side, draws, side}
 use Rattle.session_driver.specs.declared.tally.Tally.{Tally}

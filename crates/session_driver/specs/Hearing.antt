@@ -10,7 +10,8 @@ use Rattle.game_hall.specs.declared.request.Request.{Request}
 use Rattle.room_history.specs.declared.reply.RoomReply.{RoomReply}
 use Rattle.wire_json.specs.ClientReading.{client_read}
 use Rattle.session_driver.specs.Calls.{Did}
-use Rattle.session_driver.specs.Counts.{accepts, counted, refuses}
+use Rattle.game_hall.specs.Counts.{accepts, refuses}
+use Rattle.session_driver.specs.Counts.{counted}
 use Rattle.session_driver.specs.declared.tally.Tally.{Tally}
 
 -- what a line draws from: the words of the tape, and the seed that stands ready

@@ -4,7 +4,7 @@ ghost use Rattle.std.specs.Prelude.{◌≡◌, ◌≤◌, ◌<◌, ℕ, None, Is
 ghost use Rattle.dice_words.specs.Strip.{begun};
 ghost use Rattle.game_hall.specs.Core.{IsSettled, is_again};
 ghost use Rattle.game_hall.specs.Kept.{IsNamed};
-ghost use Rattle.session_driver.specs.Counts.{accepts, refuses};
+ghost use Rattle.game_hall.specs.Counts.{accepts, refuses};
 ghost use Rattle.room_history.specs.declared.reply.RoomReply.{RoomReply as Told};
 ghost use Rattle.session_driver.specs.Bench.{IsAtRest, TurnsToBench};
 ghost use Rattle.session_driver.specs.Calls.{did};

@@ -1,7 +1,7 @@
 //! How the actions of a line fared.
 
 ghost use Rattle.std.specs.Prelude.{◌≡◌, ◌≤◌, ◌+◌};
-ghost use Rattle.session_driver.specs.Counts.{accepts, refuses};
+ghost use Rattle.game_hall.specs.Counts.{accepts, refuses};
 
 use room_history::RoomReply;
 use wire_json::Verdict;

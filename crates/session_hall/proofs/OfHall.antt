@@ -4,7 +4,8 @@ use Rattle.any_game.specs.AnyRules.{named}
 use Rattle.any_game.specs.GameKind.{GameKind}
 use Rattle.game_hall.specs.Core.{Core, heard, is_again, plain, starved, written}
 use Rattle.game_hall.specs.Words.{next_action}
-use Rattle.session_driver.specs.Counts.{accepts, counted, refuses}
+use Rattle.game_hall.specs.Counts.{accepts, refuses}
+use Rattle.session_driver.specs.Counts.{counted}
 use Rattle.hall_history.specs.Hall.{Hall}
 use Rattle.wire_json.specs.ClientReading.{client_read}
 use Rattle.session_driver.specs.Hearing.{Draws, Hears, HearsLine, Side, side}

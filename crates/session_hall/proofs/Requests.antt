@@ -13,7 +13,7 @@ use Rattle.room_history.specs.Room.{reply}
 use Rattle.room_history.specs.declared.call.RoomCall.{RoomCall}
 use Rattle.room_history.specs.declared.reply.RoomReply.{RoomReply}
 use Rattle.room_object.specs.Entry.{entry}
-use Rattle.session_driver.specs.Counts.{accepts, refuses}
+use Rattle.game_hall.specs.Counts.{accepts, refuses}
 use Rattle.session_driver.specs.Hearing.{HearsReply}
 use Rattle.session_driver.specs.declared.tally.Tally.{Tally}
 use Rattle.wire_json.specs.Refusals.{Refusal as Fault}

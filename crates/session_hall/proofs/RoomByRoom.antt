@@ -29,7 +29,7 @@ use Rattle.session_hall.specs.Opens.{CreatesIn, MakesIn, OpensIn, made_by, openi
 use Rattle.session_hall.specs.declared.opening.Tried.{Tried}
 use Rattle.session_hall.specs.declared.opening.Tried.TheVariants.{Busy, Made, Refused, Starved}
 use Rattle.session_hall.proofs.Books.{Books, put_any, put_book, put_entry, put_match}
-use Rattle.hall_history.proofs.Replies.{named_by}
+use Rattle.game_hall.proofs.Replies.{named_by}
 use Rattle.session_hall.proofs.Running.{Lucks, runs, still, with_luck}
 
 is_below : (m n : ℕ) → m < n → nat_lt m n ≡ true

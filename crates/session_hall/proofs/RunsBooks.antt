@@ -8,7 +8,8 @@ use Rattle.game_hall.specs.Requests.{next}
 use Rattle.game_hall.specs.declared.next.Next.{Next}
 use Rattle.game_hall.specs.declared.next.Next.TheVariants.{Calls, Says, Attaches, Silent}
 use Rattle.game_hall.specs.declared.request.Request.{Request}
-use Rattle.session_driver.specs.Counts.{accepts, counted, refuses}
+use Rattle.game_hall.specs.Counts.{accepts, refuses}
+use Rattle.session_driver.specs.Counts.{counted}
 use Rattle.hall_history.specs.Rooms.{History, Rooms, history_of}
 use Rattle.match_master.specs.Held.{Held, StandsFor}
 use Rattle.session_driver.specs.Calls.{Did}

@@ -12,7 +12,7 @@ use Rattle.room_history.specs.declared.call.RoomCall.{RoomCall}
 use Rattle.room_history.specs.declared.reply.RoomReply.{RoomReply}
 use Rattle.room_object.specs.Entry.{entry}
 use Rattle.game_hall.specs.Kept.{IsNamed}
-use Rattle.session_driver.proofs.Replies.{named_by}
+use Rattle.game_hall.proofs.Replies.{named_by}
 use Rattle.session_pool.specs.Passes.{Belong, CallsDesk, Pass, dealt_by, unseen}
 use Rattle.session_driver.specs.Calls.{Did, did}
 

@@ -6,7 +6,7 @@ use Rattle.hall_history.specs.Counts.{accepts, count_from, count_in, hands_out, 
 use Rattle.hall_history.specs.Rooms.{History, Rooms, history_of, reply_in, with_entry}
 use Rattle.hall_history.proofs.Adds.{adds_one}
 use Rattle.hall_history.proofs.Counting.{counts_entry}
-use Rattle.hall_history.proofs.Replies.{IsNoAction, IsNoTake, is_reply, keeps_bytes, unjudged}
+use Rattle.game_hall.proofs.Replies.{IsNoAction, IsNoTake, is_reply, keeps_bytes, unjudged}
 use Rattle.room_history.specs.Room.{reply}
 use Rattle.room_history.specs.declared.call.RoomCall.{RoomCall}
 use Rattle.room_history.specs.declared.call.RoomCall.TheVariants as call

@@ -16,7 +16,7 @@ use Rattle.hall_history.specs.Rooms.{Rooms, reply_in, with_entry}
 use Rattle.world_history.specs.World.{World, Step, Acts, Arrives, Attaches, Drops, Leaves, Reads, Takes}
 use Rattle.world_history.specs.WorldScript.{arrives, leaves_by, refused_text, takes}
 use Rattle.hall_history.proofs.Giving.{line_adds}
-use Rattle.hall_history.proofs.Replies.{IsNoAction, IsNoTake}
+use Rattle.game_hall.proofs.Replies.{IsNoAction, IsNoTake}
 use Rattle.room_history.specs.declared.call.RoomCall.{RoomCall}
 use Rattle.room_history.specs.declared.call.RoomCall.TheVariants as call
 use Rattle.room_history.specs.declared.reply.RoomReply.{RoomReply}

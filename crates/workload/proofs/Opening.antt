@@ -18,7 +18,7 @@ use Rattle.hall_history.specs.Hall.{Hall}
 use Rattle.hall_history.specs.Opening.{after_open, joins, opening, own_pass, seated, seated_by}
 use Rattle.hall_history.specs.Rooms.{History, Rooms}
 use Rattle.hall_history.proofs.Adds.{adds_both, adds_none, adds_one, run_adds}
-use Rattle.hall_history.proofs.Replies.{IsNoAction, IsNoTake}
+use Rattle.game_hall.proofs.Replies.{IsNoAction, IsNoTake}
 use Rattle.room_history.specs.declared.call.RoomCall.{RoomCall}
 use Rattle.room_history.specs.declared.call.RoomCall.TheVariants.{Create, Join}
 use Rattle.room_history.specs.declared.reply.RoomReply.{RoomReply}

@@ -7,7 +7,7 @@ use Rattle.game_trait.specs.Rules.{Rules}
 use Rattle.phase_flow.specs.Action.{begin}
 use Rattle.phase_flow.specs.Reached.{Reached}
 use Rattle.room_object.specs.Entry.{Entry}
-use Rattle.session_driver.specs.Counts.{accepts, hands_out, refuses}
+use Rattle.game_hall.specs.Counts.{accepts, hands_out, refuses}
 use Rattle.room_history.specs.Does.{Room, reply_to}
 use Rattle.room_history.specs.Match.{Match}
 use Rattle.room_history.specs.Piece.{Closed, Ended, Open, Piece, State}
