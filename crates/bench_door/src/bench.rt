@@ -6,34 +6,54 @@ ghost use Rattle.bench_door.specs.Benches.{Gives, by_link};
 
 use crate::bench_link::BenchLink;
 use board_links::{Door, Link, SessionEnd, Visit};
+use std::marker::{Brand, PhantomData};
 use std::sync::Wait;
 
-/// A door that gives bots' links, and then those of another door, which has none.
+/// How many bots' links a bench had at first, which proofs alone see.
+pub trait Seats {
+    ghost use Rattle.std.specs.Prelude.{ℕ};
+
+    /// How many.
+    ghost seats: { ℕ };
+}
+
+impl Seats for Brand {
+    ghost seats = { 0 };
+}
+
+/// A door that gives bots' links, and then those of another door, which has none. It had as many bots' links as `N` says.
 #[derive(Drop)]
-pub struct Bench<D: Door, B: Link> {
+pub struct Bench<D: Door, B: Link, N: Seats> {
     door: D,
     start: usize,
     links: Vec<B>,
     came_back: usize,
+    seats: PhantomData<N>,
     ghost plain: { D.has_bots ≡ false },
+    ghost began: { start ≡ N.seats },
+    ghost first: { 0 < vec_len links → D.given door ≡ 0 },
+    ghost none: { D.bots_out door ≡ 0 },
     ghost given: { vec_len links + came_back ≤ start },
     ghost fresh: { All (λ l. IsFresh (B.faults l) (B.finished l) (B.answers l) (B.sent l)) links.items },
 }
 
-impl<D: Door, B: Link> Bench<D, B> {
-    /// The door with these bots' links, which it gives in their order. It takes no memory.
+impl<D: Door, B: Link, N: Seats> Bench<D, B, N> {
+    /// The door, which has given no link, with these bots' links, which it gives in their order. It takes no memory.
     #[tactic(auto, using(crate::proofs::Reversed::all_reverse))]
-    pub fn new(door: D, links: Vec<B>) -> Bench<D, B>
+    pub fn new(door: D, links: Vec<B>) -> Bench<D, B, N>
         requires plain { D.has_bots ≡ false }
+        requires seats { N.seats ≡ vec_len links }
+        requires first { D.given door ≡ 0 }
+        requires none { D.bots_out door ≡ 0 }
         requires fresh { All (λ l. IsFresh (B.faults l) (B.finished l) (B.answers l) (B.sent l)) links.items }
         ensures door { result.door ≡ door }
         ensures links { result.links.items ≡ reverse links.items }
-        ensures given { ⟦<Bench<D, B> as Door>⟧.given result ≡ D.given door }
-        ensures out { ⟦<Bench<D, B> as Door>⟧.out result ≡ D.out door }
-        ensures bots_out { ⟦<Bench<D, B> as Door>⟧.bots_out result ≡ 0 }
-        ensures shut { ⟦<Bench<D, B> as Door>⟧.shut result ≡ D.shut door }
-        ensures faults { ⟦<Bench<D, B> as Door>⟧.faults result ≡ D.faults door }
-        ensures left { ⟦<Bench<D, B> as Door>⟧.left result ≡ option_map (λ n. n + vec_len links) (D.left door) }
+        ensures given { ⟦<Bench<D, B, N> as Door>⟧.given result ≡ D.given door }
+        ensures out { ⟦<Bench<D, B, N> as Door>⟧.out result ≡ D.out door }
+        ensures bots_out { ⟦<Bench<D, B, N> as Door>⟧.bots_out result ≡ 0 }
+        ensures shut { ⟦<Bench<D, B, N> as Door>⟧.shut result ≡ D.shut door }
+        ensures faults { ⟦<Bench<D, B, N> as Door>⟧.faults result ≡ D.faults door }
+        ensures left { ⟦<Bench<D, B, N> as Door>⟧.left result ≡ option_map (λ n. n + vec_len links) (D.left door) }
     {
         let start = links.len();
         let mut links = links;
@@ -43,6 +63,7 @@ impl<D: Door, B: Link> Bench<D, B> {
             start,
             links,
             came_back: 0,
+            seats: PhantomData,
         }
     }
 
@@ -55,13 +76,14 @@ impl<D: Door, B: Link> Bench<D, B> {
             start: _,
             links,
             came_back: _,
+            seats: _,
         } = self;
         drop(links);
         door
     }
 }
 
-impl<D: Door, B: Link> Door for Bench<D, B> {
+impl<D: Door, B: Link, N: Seats> Door for Bench<D, B, N> {
     ghost use Rattle.std.specs.Prelude.{◌+◌, ◌-◌, true, vec_len, option_map, None};
 
     type L = BenchLink<D::L, B>;

@@ -3,6 +3,8 @@
 
 mod bench;
 mod bench_link;
+mod bench_ready;
 
-pub use bench::Bench;
+pub use bench::{Bench, Seats};
 pub use bench_link::BenchLink;
+pub use bench_ready::BenchReady;

@@ -13,5 +13,5 @@ pub use bot::Bot;
 pub use bot_link::BotLink;
 pub use bots::{DiceBot, FirstBot, PassBot};
 pub use glance::Glance;
-pub use rest::Rest;
+pub use rest::{NoRest, Rest};
 pub use seated::BenchDoor;

@@ -3,5 +3,5 @@
 use crate::bot_link::BotLink;
 use bench_door::Bench;
 
-/// A door that gives bots' links in order, and then those of another door, which has none.
-pub type BenchDoor<D, R> = Bench<D, BotLink<R>>;
+/// A door that gives bots' links in order, and then those of another door, which has none. It had as many bots' links as `N` says.
+pub type BenchDoor<D, R, N> = Bench<D, BotLink<R>, N>;

@@ -24,6 +24,12 @@ pub trait Ready<L: Link>: Drop {
         ensures sent { L.sent link.new ≡ L.sent link.old }
         ensures is_bot { L.is_bot link.new ≡ L.is_bot link.old };
 
+    /// A link that nothing watches, such as a bot's, is the one of this number from now on, and its turn is due. After that it is named where its
+    /// turns are noted to have more, and where its room changes.
+    fn takes_place(&mut self, _number: u32)
+        ensures named { named self.new ≡ named self.old }
+    {}
+
     /// After a turn of this number: where its session listens now, and what the turn changed for others.
     fn note(&mut self, number: u32, stir: Stir)
         ensures named { named self.new ≡ named self.old };

@@ -98,6 +98,13 @@ impl<C: Clock + Drop> PollReady<C> {
         }
     }
 
+    /// One more link is here, and its turn is due.
+    fn count_in(&mut self, number: u32) {
+        self.agenda.add(number);
+        self.links = self.links.saturating_add(1);
+        self.bells.count(self.me, self.load());
+    }
+
     /// The door may have a link.
     fn door_due(&mut self) {
         if self.door != Door::Over {
@@ -183,11 +190,13 @@ impl<L: Watched, C: Clock + Drop> Ready<L> for PollReady<C> {
 
     fn watch(&mut self, number: u32, link: &mut L) {
         link.watch(self.poll.registry(), number);
-        self.agenda.add(number);
         let second = self.second();
         self.alarms.set(number, second, link.looks());
-        self.links = self.links.saturating_add(1);
-        self.bells.count(self.me, self.load());
+        self.count_in(number);
+    }
+
+    fn takes_place(&mut self, number: u32) {
+        self.count_in(number);
     }
 
     fn note(&mut self, number: u32, stir: Stir) {
