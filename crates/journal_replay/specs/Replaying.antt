@@ -15,17 +15,19 @@ use Rattle.room_changes.specs.Kept.{Kept, kept}
 use Rattle.room_changes.specs.declared.change.Change.{Change}
 use Rattle.room_changes.specs.ChangesOf.{changes_of}
 use Rattle.room_history.specs.declared.call.RoomCall.{RoomCall}
-use Rattle.room_journal.specs.Coming.{StandsIn}
-use Rattle.room_journal.specs.Kept.{may_follow, room_records, texts}
+use Rattle.room_journal.specs.Coming.{ReadsBack, StandsIn}
+use Rattle.room_journal.specs.Kept.{changes_read, may_follow, room_records, texts}
 use Rattle.room_journal.specs.declared.room_book.RoomBook.{RoomBook}
 use Rattle.room_object.specs.Entry.{Entry}
 use Rattle.journal_replay.specs.ReplayText.{replay_text}
 
--- the file has the records of these changes, which the first room accepts one after another, and the text is of what they make
+-- the file has just the records that are the texts of these changes and read back as them, the first room accepts them one after another, and
+-- the text is of what they make
 pub record Replays (file text : List ℕ) : Type 0 where
   pub changes : List (Change GameKind)
   pub room : Kept GameKind AnyG
   pub has : HasRecords file (texts changes)
+  pub reads : changes_read (texts changes) ≡ Some changes
   pub follow : AllFollow (may_follow 0) [] (texts changes)
   pub makes : kept any_rules 0 changes ≡ Some room
   pub says : text ≡ replay_text 0 (length changes) room.standing
@@ -49,6 +51,7 @@ pub record Opens (file : List ℕ) (count : ℕ) (book : RoomBook) : Type 0 wher
   pub first : book.room ≡ 0
   pub stands : StandsIn book.room book.book h
   pub has : HasRecords file (room_records 0 h)
+  pub reads : ReadsBack 0 h
   pub follow : AllFollow (may_follow 0) [] (room_records 0 h)
   pub counts : count ≡ length (changes_of any_rules 0 h)
 

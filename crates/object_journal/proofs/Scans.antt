@@ -39,6 +39,7 @@ module _ (may_follow : List (List ℕ) → List ℕ → Bool) where
     pub reached : IsShut (drop at file) → Came stands_for has_come records may_follow object file at s.h
     reached shut = record {
       stands = s.stands;
+      came = s.came;
       ends = record { gate = shut.gate; rest = shut.rest; shut = shut.shut; split = s.split ∙ ap (λ (l : List ℕ). open_records (records s.h) ++ l) shut.split };
       place = s.place;
       follow = s.follow;

@@ -22,9 +22,10 @@ module _ {O C : Type 0} (stands_for has_come : O → List (Entry C) → Type 0) 
   Replay h payload object replayed.Refused = may_follow (records h) payload ≡ false
   Replay h payload object replayed.NoMemory = Unit {0}
 
-  -- the object stands for a history that has just the records of the file, which end at this place
+  -- the object has come to a history that has just the records of the file, which end at this place
   pub record Came (object : O) (file : List ℕ) (end : ℕ) (h : List (Entry C)) : Type 0 where
     pub stands : stands_for object h
+    pub came : has_come object h
     pub ends : EndsAfter file (records h)
     pub place : end ≡ length (open_records (records h))
     pub follow : AllFollow may_follow [] (records h)

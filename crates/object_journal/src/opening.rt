@@ -1,6 +1,6 @@
 //! Opens a file of records.
 
-ghost use Rattle.std.specs.Prelude.{◌≡◌, [], None, List, ℕ, length, IfOk, IfErr};
+ghost use Rattle.std.specs.Prelude.{◌≡◌, ◌≤◌, [], None, List, ℕ, length, IfOk, IfErr};
 ghost use Rattle.room_object.specs.Entry.{Entry};
 ghost use Rattle.room_disk.specs.Disk.{LeavesOnly, Only};
 ghost use Rattle.record_file.specs.Records.{HasRecords};
@@ -21,9 +21,10 @@ pub fn open<O: Replays, D: Disk + Drop>(
     disk: D,
 ) -> Result<KeptObject<O, D>, (OpenNo, D)>
     requires { O.stands_for object [] }
-    ensures opened { D.is_told disk → IfOk result (λ k. (h : List (Entry O.Call)) × IsOpened O.stands_for (O.records (O.number object)) (O.may_follow (O.number object)) D.is_told D.seen D.may_leave disk k.object k.file.disk k.file.end k.broken h) }
-    ensures stands { IfOk result (λ k. (h : List (Entry O.Call)) × StandsOpen O.stands_for (O.records (O.number object)) (O.may_follow (O.number object)) k.object k.file.end k.broken h) }
+    ensures opened { D.is_told disk → IfOk result (λ k. (h : List (Entry O.Call)) × IsOpened O.stands_for O.has_come (O.records (O.number object)) (O.may_follow (O.number object)) D.is_told D.seen D.may_leave disk k.object k.file.disk k.file.end k.broken h) }
+    ensures stands { IfOk result (λ k. (h : List (Entry O.Call)) × StandsOpen O.stands_for O.has_come (O.records (O.number object)) (O.may_follow (O.number object)) k.object k.file.end k.broken h) }
     ensures number { IfOk result (λ k. O.number k.object ≡ O.number object) }
+    ensures never_falls { IfOk result (λ k. D.faults disk ≤ D.faults k.file.disk) }
     ensures refused { IfErr result (λ e. IsRefused (O.may_follow (O.number object)) D.is_told D.seen D.faults disk e.1 e.0) }
     ensures crash { D.is_told disk → Only (D.seen disk) (D.may_leave disk) → (records : List (List ℕ)) → HasRecords (D.seen disk) records
         → IfOk result (λ k. LeavesOnly D.moment D.left_since disk k.file.disk (λ c. HasRecords c records)) }

@@ -45,6 +45,8 @@ impl<O: Recorded, D: Disk + Drop> KeptObject<O, D> {
             → IsKeeping O.stands_for (O.records (O.number self.old.object)) D.is_told D.seen D.may_leave self.new.object self.new.file.disk self.new.file.end (entry pass call (O.is_starved result.0) ∷ h) }
         ensures cause { HasCause result.1 self.old.file.end (D.faults self.old.file.disk) (D.faults self.new.file.disk) }
         ensures full { (h : List (Entry O.Call)) (place : ℕ) → O.stands_for self.old.object h → result.1 ≡ Some (stop.Full place) → IsPast self.old.file.end (O.payload_of (O.number self.old.object) h pass call) }
+        ensures fits { (h : List (Entry O.Call)) → O.stands_for self.old.object h → result.1 ≡ None → IsPast self.old.file.end (O.payload_of (O.number self.old.object) h pass call) → ⊥ }
+        ensures told { D.is_told self.old.file.disk → D.is_told self.new.file.disk }
         ensures crash { (h : List (Entry O.Call))
             → IsKeeping O.stands_for (O.records (O.number self.old.object)) D.is_told D.seen D.may_leave self.old.object self.old.file.disk self.old.file.end h
             → LeavesOnly D.moment D.left_since self.old.file.disk self.new.file.disk
@@ -77,6 +79,8 @@ impl<O: Recorded, D: Disk + Drop> KeptObject<O, D> {
             → IsKeeping O.stands_for (O.records (O.number self.old.object)) D.is_told D.seen D.may_leave self.new.object self.new.file.disk self.new.file.end (entry pass call (O.is_starved result.0) ∷ h) }
         ensures cause { HasCause result.1 self.old.file.end (D.faults self.old.file.disk) (D.faults self.new.file.disk) }
         ensures full { (h : List (Entry O.Call)) (place : ℕ) → O.stands_for self.old.object h → result.1 ≡ Some (stop.Full place) → IsPast self.old.file.end (O.payload_of (O.number self.old.object) h pass call) }
+        ensures fits { (h : List (Entry O.Call)) → O.stands_for self.old.object h → result.1 ≡ None → IsPast self.old.file.end (O.payload_of (O.number self.old.object) h pass call) → ⊥ }
+        ensures told { D.is_told self.old.file.disk → D.is_told self.new.file.disk }
         ensures crash { (h : List (Entry O.Call))
             → IsKeeping O.stands_for (O.records (O.number self.old.object)) D.is_told D.seen D.may_leave self.old.object self.old.file.disk self.old.file.end h
             → LeavesOnly D.moment D.left_since self.old.file.disk self.new.file.disk

@@ -23,6 +23,7 @@ impl<D: Disk + Drop> RecordFile<D> {
             → IfDone result (IsSettled D.is_told D.seen D.may_leave self.new.disk self.new.end (records ++ payload ∷ [])) }
         ensures any_moment { (records : List (List ℕ)) (payload : List ℕ) → IsSettled D.is_told D.seen D.may_leave self.old.disk self.old.end records → frame.now ≡ framed payload
             → LeavesOnly D.moment D.left_since self.old.disk self.new.disk (IsBeforeOrAfter records (payload ∷ [])) }
+        ensures told { D.is_told self.old.disk → D.is_told self.new.disk }
         ensures end { self.new.end ≤ self.old.end + length frame.now }
         ensures cause { HasCause result (D.faults self.old.disk) (D.faults self.new.disk) }
     {
@@ -37,6 +38,7 @@ impl<D: Disk + Drop> RecordFile<D> {
             → IfDone result (IsSettled D.is_told D.seen D.may_leave self.new.disk self.new.end (records ++ payload ∷ more)) }
         ensures any_moment { (records : List (List ℕ)) (payload : List ℕ) (more : List (List ℕ)) → IsSettled D.is_told D.seen D.may_leave self.old.disk self.old.end records → frame.now ≡ framed_all payload more
             → LeavesOnly D.moment D.left_since self.old.disk self.new.disk (IsBeforeOrAfter records (payload ∷ more)) }
+        ensures told { D.is_told self.old.disk → D.is_told self.new.disk }
         ensures end { self.new.end ≤ self.old.end + length frame.now }
         ensures cause { HasCause result (D.faults self.old.disk) (D.faults self.new.disk) }
     {

@@ -65,6 +65,7 @@ pub fn ready<D: Disk>(alloc: Global, disk: &mut D) -> Result<Vec<u8>, NotReady>
     ensures bytes { D.is_told disk.old → IfOk result (λ v. IsReady (D.seen disk.old) v.items (D.seen disk.new) (D.may_leave disk.new)) }
     ensures any_moment { D.is_told disk.old → Only (D.seen disk.old) (D.may_leave disk.old) → (records : List (List ℕ)) → HasRecords (D.seen disk.old) records
         → LeavesOnly D.moment D.left_since disk.old disk.new (λ c. HasRecords c records) }
+    ensures never_falls { OnOk result (D.faults disk.old ≤ D.faults disk.new) }
     ensures reason { IfErr result (λ e. IsReason (D.is_told disk.old) (length (D.seen disk.old)) (D.faults disk.old) (D.faults disk.new) e) }
 {
     let count = match measured(disk) {

@@ -39,9 +39,13 @@ pub record StandsIn (room : ℕ) (book : Held GameKind AnyG) (h : List (Entry (R
   pub same : book.room ≡ room
   pub stands : StandsFor any_rules book h
 
+-- the records of a history read back as its changes
+abbrev pub ReadsBack : ℕ → List (Entry (RoomCall GameKind)) → Type 0
+ReadsBack room h = changes_read (room_records room h) ≡ Some (changes_of any_rules room h)
+
 -- the records read back as the changes, and the keys are those of the match that stands
 pub record HasCome (room : ℕ) (keys : List (Option (List ℕ))) (h : List (Entry (RoomCall GameKind))) : Type 0 where
-  pub told : changes_read (room_records room h) ≡ Some (changes_of any_rules room h)
+  pub told : ReadsBack room h
   pub fits : Fits keys (serials any_rules room h) (standing any_rules room h)
 
 module _ (room : ℕ) (h : List (Entry (RoomCall GameKind))) where

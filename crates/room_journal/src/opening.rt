@@ -7,7 +7,7 @@ ghost use Rattle.record_file.specs.Records.{HasRecords};
 ghost use Rattle.room_disk.specs.Disk.{LeavesOnly, Only};
 ghost use Rattle.room_history.specs.declared.call.RoomCall.{RoomCall as Asks};
 ghost use Rattle.room_object.specs.Entry.{Entry};
-ghost use Rattle.room_journal.specs.Coming.{StandsIn};
+ghost use Rattle.room_journal.specs.Coming.{ReadsBack, StandsIn};
 ghost use Rattle.room_journal.specs.Kept.{may_follow, room_records};
 
 use crate::room_book::RoomBook;
@@ -23,9 +23,10 @@ pub fn open_book<D: Disk + Drop>(
     disk: D,
 ) -> Result<KeptObject<RoomBook, D>, (OpenNo, D)>
     requires { room ≤ 63 }
-    ensures opened { D.is_told disk → IfOk result (λ k. (h : List (Entry (Asks GameKind))) × IsOpened (λ b h. StandsIn b.room b.book h) (room_records room) (may_follow room) D.is_told D.seen D.may_leave disk k.object k.file.disk k.file.end k.broken h) }
-    ensures stands { IfOk result (λ k. (h : List (Entry (Asks GameKind))) × StandsOpen (λ b h. StandsIn b.room b.book h) (room_records room) (may_follow room) k.object k.file.end k.broken h) }
+    ensures opened { D.is_told disk → IfOk result (λ k. (h : List (Entry (Asks GameKind))) × IsOpened (λ b h. StandsIn b.room b.book h) (λ b h. ReadsBack room h) (room_records room) (may_follow room) D.is_told D.seen D.may_leave disk k.object k.file.disk k.file.end k.broken h) }
+    ensures stands { IfOk result (λ k. (h : List (Entry (Asks GameKind))) × StandsOpen (λ b h. StandsIn b.room b.book h) (λ b h. ReadsBack room h) (room_records room) (may_follow room) k.object k.file.end k.broken h) }
     ensures room { IfOk result (λ k. k.object.room ≡ room) }
+    ensures never_falls { IfOk result (λ k. D.faults disk ≤ D.faults k.file.disk) }
     ensures refused { IfErr result (λ e. IsRefused (may_follow room) D.is_told D.seen D.faults disk e.1 e.0) }
     ensures crash { D.is_told disk → Only (D.seen disk) (D.may_leave disk) → (records : List (List ℕ)) → HasRecords (D.seen disk) records
         → IfOk result (λ k. LeavesOnly D.moment D.left_since disk k.file.disk (λ c. HasRecords c records)) }
@@ -45,9 +46,10 @@ fn open_for<D: Disk + Drop>(
     disk: D,
 ) -> Result<KeptObject<RoomBook, D>, (OpenNo, D)>
     requires { StandsIn book.room book.book [] }
-    ensures opened { D.is_told disk → IfOk result (λ k. (h : List (Entry (Asks GameKind))) × IsOpened (λ b h. StandsIn b.room b.book h) (room_records book.room) (may_follow book.room) D.is_told D.seen D.may_leave disk k.object k.file.disk k.file.end k.broken h) }
-    ensures stands { IfOk result (λ k. (h : List (Entry (Asks GameKind))) × StandsOpen (λ b h. StandsIn b.room b.book h) (room_records book.room) (may_follow book.room) k.object k.file.end k.broken h) }
+    ensures opened { D.is_told disk → IfOk result (λ k. (h : List (Entry (Asks GameKind))) × IsOpened (λ b h. StandsIn b.room b.book h) (λ b h. ReadsBack book.room h) (room_records book.room) (may_follow book.room) D.is_told D.seen D.may_leave disk k.object k.file.disk k.file.end k.broken h) }
+    ensures stands { IfOk result (λ k. (h : List (Entry (Asks GameKind))) × StandsOpen (λ b h. StandsIn b.room b.book h) (λ b h. ReadsBack book.room h) (room_records book.room) (may_follow book.room) k.object k.file.end k.broken h) }
     ensures room { IfOk result (λ k. k.object.room ≡ book.room) }
+    ensures never_falls { IfOk result (λ k. D.faults disk ≤ D.faults k.file.disk) }
     ensures refused { IfErr result (λ e. IsRefused (may_follow book.room) D.is_told D.seen D.faults disk e.1 e.0) }
     ensures crash { D.is_told disk → Only (D.seen disk) (D.may_leave disk) → (records : List (List ℕ)) → HasRecords (D.seen disk) records
         → IfOk result (λ k. LeavesOnly D.moment D.left_since disk k.file.disk (λ c. HasRecords c records)) }

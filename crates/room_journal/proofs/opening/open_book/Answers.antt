@@ -5,7 +5,7 @@ use Rattle.record_file.specs.Records.{HasRecords}
 use Rattle.record_file.proofs.Moments.{started}
 use Rattle.room_history.specs.declared.call.RoomCall.{RoomCall}
 use Rattle.room_object.specs.Entry.{Entry}
-use Rattle.room_journal.specs.Coming.{StandsIn}
+use Rattle.room_journal.specs.Coming.{ReadsBack, StandsIn}
 use Rattle.room_journal.specs.Kept.{may_follow, room_records}
 use Rattle.room_journal.specs.declared.room_book.RoomBook.{RoomBook}
 use Rattle.room_journal.proofs.opening.open_book.Goals as goal
@@ -14,13 +14,13 @@ pub returns-in-Ok-clause-opened : goal.returns-in-Ok-clause-opened
 returns-in-Ok-clause-opened g c told =
     let d = g.D.Disk in
     subst
-    (λ (n : ℕ). IfOk c.open_for.result (λ k. (h : List (Entry (RoomCall GameKind))) × IsOpened (λ (b : RoomBook) (l : List (Entry (RoomCall GameKind))). StandsIn b.room b.book l) (room_records n) (may_follow n) d.is_told d.seen d.may_leave c.args.disk k.object k.file.disk k.file.end k.broken h))
+    (λ (n : ℕ). IfOk c.open_for.result (λ k. (h : List (Entry (RoomCall GameKind))) × IsOpened (λ (b : RoomBook) (l : List (Entry (RoomCall GameKind))). StandsIn b.room b.book l) (λ (b : RoomBook) (l : List (Entry (RoomCall GameKind))). ReadsBack n l) (room_records n) (may_follow n) d.is_told d.seen d.may_leave c.args.disk k.object k.file.disk k.file.end k.broken h))
     c.in-Ok.ensures.room (c.open_for.ensures.opened told)
 
 pub returns-in-Ok-clause-stands : goal.returns-in-Ok-clause-stands
 returns-in-Ok-clause-stands g c =
     subst
-    (λ (n : ℕ). IfOk c.open_for.result (λ k. (h : List (Entry (RoomCall GameKind))) × StandsOpen (λ (b : RoomBook) (l : List (Entry (RoomCall GameKind))). StandsIn b.room b.book l) (room_records n) (may_follow n) k.object k.file.end k.broken h))
+    (λ (n : ℕ). IfOk c.open_for.result (λ k. (h : List (Entry (RoomCall GameKind))) × StandsOpen (λ (b : RoomBook) (l : List (Entry (RoomCall GameKind))). StandsIn b.room b.book l) (λ (b : RoomBook) (l : List (Entry (RoomCall GameKind))). ReadsBack n l) (room_records n) (may_follow n) k.object k.file.end k.broken h))
     c.in-Ok.ensures.room c.open_for.ensures.stands
 
 pub returns-in-Ok-clause-room : goal.returns-in-Ok-clause-room
