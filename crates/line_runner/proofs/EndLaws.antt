@@ -1,12 +1,12 @@
 -- How the answers to a line and to its reading end a run, or let it go on.
-use Rattle.std.proofs.Common.{◌≡◌, ◌+◌, ℕ, List, [], Option, Some, None, IsSome, refl, sym, ap, ◌∙◌, subst, append-nil}
+use Rattle.std.proofs.Common.{◌≡◌, ◌+◌, inl, inr, ℕ, List, [], Option, Some, None, IsSome, refl, sym, ap, ◌∙◌, subst, append-nil}
 use Rattle.board_links.specs.Faults.{HasRisen}
 use Rattle.board_links.specs.Pieces.{told_bytes}
 use Rattle.line_runner.specs.Play.{Doing, IsPlay, Play}
 use Rattle.line_runner.specs.Reading.{Raises, given_after, StandsAt, Moves}
-use Rattle.line_runner.specs.Running.{AreInForm, Ends, ExitRaises, IsComplete, LineRaises, RanLine, StopsEarly, end_at, stop_at}
+use Rattle.line_runner.specs.Running.{AreInForm, Ends, ExitRaises, GoesOn, IsComplete, Leaves, LineRaises, RanLine, StopsEarly, end_at, stop_at}
 use Rattle.line_runner.specs.Reader.{Reader, fresh, to_come}
-use Rattle.line_runner.specs.ScriptLines.{Script, first_line}
+use Rattle.line_runner.specs.ScriptLines.{Script, first_line, script}
 use Rattle.line_runner.specs.ScriptLines as script
 use Rattle.line_runner.specs.declared.exit.Exit.{Exit}
 use Rattle.line_runner.specs.declared.exit.Exit.TheVariants.{Done, BadLine, TooLong, TooMany, ReadFault, WriteFault, NoMemory, Usage, DoorFault, LinkFault, LinkEnded, LinkLong, BadRecord, LongJournal, StoreFault}
@@ -16,7 +16,7 @@ use Rattle.line_runner.specs.declared.run.LineStatus.{LineStatus}
 use Rattle.line_runner.specs.declared.run.LineStatus.TheVariants as ran
 use Rattle.line_runner.proofs.Moving.{none_after}
 use Rattle.line_runner.proofs.Playing.{nothing_printed}
-use Rattle.line_runner.proofs.RunLaws.{begins, breaks, ends_at, ends_bad, ends_long, ends_whole, goes_on, plays_by, stops, stops_at}
+use Rattle.line_runner.proofs.RunLaws.{begins, breaks, breaks_leaving, ends_at, ends_bad, ends_long, ends_whole, goes_on, leaves_so, plays_by, stops, stops_at}
 use Rattle.line_runner.proofs.Underway.{Underway, line_read}
 
 pub exit_is : (a b : Exit) → Some a ≡ Some b → a ≡ b
@@ -58,6 +58,13 @@ end_stays ran.Done line old new e r = r
 end_stays ran.BadLine line old new e r = r
 end_stays ran.WriteFault line old new e r = absurd (some_exit WriteFault e)
 end_stays ran.NoMemory line old new e r = r
+
+-- and what stood for a state does so still
+pub goes_on_with : (n : LineStatus) (line : ℕ) (P : Type 0) → end_at n line ≡ None → GoesOn n P → P
+goes_on_with ran.Done line P e p = p
+goes_on_with ran.BadLine line P e p = absurd (some_exit (BadLine line) e)
+goes_on_with ran.WriteFault line P e p = absurd (some_exit WriteFault e)
+goes_on_with ran.NoMemory line P e p = absurd (some_exit NoMemory e)
 
 -- where a line comes, too
 pub stop_stays : (n : Next) (given old new : ℕ) → stop_at n given ≡ None → Raises n old new → new ≡ old
@@ -130,10 +137,40 @@ module _ {Mark Step State Held : Type 0} (p : Play Mark Step State) (d : Doing M
         subst (λ x. Ends p begin bytes left' before after x) (ap BadLine (sym g) ∙ exit_is (BadLine now) exit e)
         (subst (λ h. Ends p begin bytes left' before h (BadLine (given + 1))) (same_held (first_line line rest) held u after l.1) (ends_bad p d begin ok bytes before hall given reader left line rest held u l.0))
     end_ends line rest held u left' hall' after ran.WriteFault exit now l g e =
-        subst (λ x. Ends p begin bytes left' before after x) (exit_is WriteFault exit e) (breaks p d begin ok bytes before hall given reader left line rest held u after l)
+        subst (λ x. Ends p begin bytes left' before after x) (exit_is WriteFault exit e) (breaks p d begin ok bytes before hall given reader left line rest held hall' u after l)
     end_ends line rest held u left' hall' after ran.NoMemory exit now l g e =
         subst (λ x. Ends p begin bytes left' before after x) (exit_is NoMemory exit e)
-        (subst (λ h. Ends p begin bytes left' before h NoMemory) (same_held (first_line line rest) held u after l) (stops p d begin ok bytes before hall given reader left (first_line line rest) held u))
+        (subst (λ h. Ends p begin bytes left' before h NoMemory) (same_held (first_line line rest) held u after l.0) (stops p d begin ok bytes before hall given reader left (first_line line rest) held u))
+
+    -- what is left where no line comes
+    pub stop_leaves : (held : Option (List ℕ)) (u : Underway p d begin bytes before hall given reader left (to_come reader left) held) (exit : Exit) → Leaves p d begin (script bytes) hall before held exit
+    stop_leaves held u exit = leaves_so p d begin ok bytes before hall given reader left (to_come reader left) held u exit hall held refl (inl u.stands)
+
+    end_leaves : (line : List ℕ) (rest : Script) (held : Option (List ℕ)) (u : Underway p d begin bytes before hall given reader left (first_line line rest) held) (hall' : Held) (after : Option (List ℕ)) (r : LineStatus) (exit : Exit) (now : ℕ)
+        → RanLine p d u.h line hall' (told_bytes held) after r → end_at r now ≡ Some exit → Leaves p d begin (script bytes) hall' before after exit
+    end_leaves line rest held u hall' after ran.Done exit now l e = absurd (no_exit exit e)
+    end_leaves line rest held u hall' after ran.BadLine exit now l e =
+        leaves_so p d begin ok bytes before hall given reader left (first_line line rest) held u exit hall' after (same_held (first_line line rest) held u after l.1) (inl l.2)
+    end_leaves line rest held u hall' after ran.WriteFault exit now l e =
+        subst (λ x. Leaves p d begin (script bytes) hall' before after x) (exit_is WriteFault exit e) (breaks_leaving p d begin ok bytes before hall given reader left line rest held hall' u after l)
+    end_leaves line rest held u hall' after ran.NoMemory exit now l e =
+        leaves_so p d begin ok bytes before hall given reader left (first_line line rest) held u exit hall' after (same_held (first_line line rest) held u after l.0) (inr (sym (exit_is NoMemory exit e), l.1))
+
+    pub line_leaves : (held : Option (List ℕ)) (u : Underway p d begin bytes before hall given reader left (to_come reader left) held) (n : Next) (count : ℕ) (line : List ℕ) (reader' : Reader) (left' : List ℕ)
+        → Moves (Some n) line reader reader' left left' → stop_at n count ≡ None → (shown : List ℕ) → shown ≡ line
+        → (hall' : Held) (after : Option (List ℕ)) (r : LineStatus) (exit : Exit) (now : ℕ)
+        → ((h : State) → d.Stands hall h → RanLine p d h shown hall' (told_bytes held) after r)
+        → end_at r now ≡ Some exit → Leaves p d begin (script bytes) hall' before after exit
+    line_leaves held u next.Line count line reader' left' m e shown w hall' after r exit now ran x =
+        end_leaves shown (to_come reader' left') held here hall' after r exit now (ran here.h here.stands) x
+      where
+        here : Underway p d begin bytes before hall given reader left (first_line shown (to_come reader' left')) held
+        here = subst (λ l. Underway p d begin bytes before hall given reader left l held) (m.lines ∙ ap (λ l. first_line l (to_come reader' left')) (sym w)) u
+    line_leaves held u next.End count line reader' left' m e shown w hall' after r exit now ran x = absurd (some_exit Done e)
+    line_leaves held u next.TooLong count line reader' left' m e shown w hall' after r exit now ran x = absurd (some_exit (TooLong (count + 1)) e)
+    line_leaves held u next.TooMany count line reader' left' m e shown w hall' after r exit now ran x = absurd (some_exit TooMany e)
+    line_leaves held u next.ReadFault count line reader' left' m e shown w hall' after r exit now ran x = absurd (some_exit ReadFault e)
+    line_leaves held u next.NoMemory count line reader' left' m e shown w hall' after r exit now ran x = absurd (some_exit NoMemory e)
 
     -- the first line that is left, read and then run
     pub line_ends : (held : Option (List ℕ)) (u : Underway p d begin bytes before hall given reader left (to_come reader left) held) (n : Next) (count : ℕ) (line : List ℕ) (reader' : Reader) (left' : List ℕ)

@@ -1,13 +1,15 @@
 -- What each line makes of a run, and how a run ends.
-use Rattle.std.proofs.Common.{◌≡◌, ◌+◌, ℕ, zero, suc, false, List, [], ◌∷◌, ◌++◌, length, take, drop, Option, Some, None, refl, sym, ap, ◌∙◌, append_assoc, append-nil}
+use Rattle.std.proofs.Common.{◌≡◌, ◌⊎◌, inl, inr, ◌+◌, ℕ, zero, suc, false, List, [], ◌∷◌, ◌++◌, length, take, drop, Option, Some, None, refl, sym, ap, ◌∙◌, subst, append_assoc, append-nil}
 use Rattle.std.proofs.lemmas.List.{length-append}
 use Rattle.board_links.specs.Pieces.{told_bytes}
-use Rattle.line_runner.specs.Play.{Doing, IsPlay, Play, bad_by, bad_from, bad_line, printed}
+use Rattle.line_runner.specs.Play.{Doing, IsPlay, Play, after_steps, bad_by, bad_from, bad_line, followed_by, printed, steps_of}
 use Rattle.line_runner.specs.Reader.{Reader, fresh}
 use Rattle.line_runner.specs.Reading.{Moves}
-use Rattle.line_runner.specs.Running.{BreaksOff, Plays, PlaysAll, RanOn, RunsToEnd, StopsAtBad, StopsAtFault, StopsAtLong, StopsEarly, StoppedIn}
+use Rattle.line_runner.specs.Running.{BreaksOff, Leaves, Plays, PlaysAll, RanOn, RunsToEnd, StopsAtBad, StopsAtFault, StopsAtLong, StopsEarly, StoppedIn}
 use Rattle.line_runner.specs.ScriptLines.{Script, Ending, Ended, first_line, no_lines, script}
 use Rattle.line_runner.specs.ScriptLines as script
+use Rattle.line_runner.specs.declared.exit.Exit.{Exit}
+use Rattle.line_runner.specs.declared.exit.Exit.TheVariants.{NoMemory, WriteFault}
 use Rattle.line_runner.specs.declared.next.Next.TheVariants.{ReadFault}
 use Rattle.line_runner.proofs.Playing.{bad_printed, line_printed, nothing_printed}
 use Rattle.line_runner.proofs.Underway.{HasRead, Underway, fault_part, fault_read, nothing_read}
@@ -32,6 +34,7 @@ module _ {Mark Step State Held : Type 0} (p : Play Mark Step State) (d : Doing M
     added = e ∙ ap Some (sym (append-nil before));
     counted = refl;
     so_far = λ ms more. refl;
+    at = λ ms more. refl;
     bad = λ more. refl;
   }
 
@@ -64,6 +67,9 @@ module _ {Mark Step State Held : Type 0} (p : Play Mark Step State) (d : Doing M
           ∙ ap (λ l. printed p l (u.done ++ line ∷ more) begin) (append_assoc u.marks (r.mark ∷ []) ms) ∙ u.so_far (r.mark ∷ ms) (line ∷ more)
           ∙ ap (λ x. u.gained ++ x) (line_printed p d ok r.mark ms line more r.step u.h r.in_form)
           ∙ sym (append_assoc u.gained said (printed p ms more (d.does r.mark r.step u.h).0));
+      at = λ ms more. ap (λ l. after_steps d ((u.marks ++ r.mark ∷ []) ++ ms) (steps_of p.form l) begin) (append_assoc u.done (line ∷ []) more)
+          ∙ ap (λ l. after_steps d l (steps_of p.form (u.done ++ line ∷ more)) begin) (append_assoc u.marks (r.mark ∷ []) ms) ∙ u.at (r.mark ∷ ms) (line ∷ more)
+          ∙ ap (λ o. after_steps d (r.mark ∷ ms) (followed_by p.form o (steps_of p.form more)) u.h) r.in_form;
       bad = λ more. ap (bad_from p.form 0) (append_assoc u.done (line ∷ []) more) ∙ u.bad (line ∷ more) ∙ ap (λ o. bad_by p.form o given (bad_from p.form (given + 1) more)) r.in_form;
     }
       where
@@ -85,6 +91,27 @@ module _ {Mark Step State Held : Type 0} (p : Play Mark Step State) (d : Doing M
 
       plays : (s : Script) (ending : Ending) → s.lines ≡ u.done → s.ending ≡ ending → PlaysAll p begin s ending before held
       plays s ending e k = record { ends = k; no_bad_line = in_form s.lines e; plays = plays_by u.marks s.lines before u.gained held u.added (played s.lines e) }
+
+      -- the state is that after the lines so far
+      there : after_steps d u.marks (steps_of p.form u.done) begin ≡ u.h
+      there =
+          ap (λ ms. after_steps d ms (steps_of p.form u.done) begin) (sym (append-nil u.marks))
+          ∙ ap (λ ls. after_steps d (u.marks ++ []) (steps_of p.form ls) begin) (sym (append-nil u.done)) ∙ u.at [] []
+
+      -- what they leave, where nothing more was done, or the next line failed
+      pub leaves_so : (exit : Exit) (hall' : Held) (after : Option (List ℕ)) → held ≡ after → d.Stands hall' u.h ⊎ ((exit ≡ NoMemory) × d.Fails hall' u.h) → Leaves p d begin (script bytes) hall' before after exit
+      leaves_so exit hall' after e stands = record {
+        marks = u.marks;
+        done = u.done;
+        rest = rest.lines;
+        lines = u.lines;
+        shown = u.gained;
+        missing = [];
+        whole = append-nil u.gained ∙ sym (played u.done refl);
+        added = sym e ∙ u.added;
+        all_shown = inl refl;
+        stands = subst (λ s. d.Stands hall' s ⊎ ((exit ≡ NoMemory) × d.Fails hall' s)) (sym there) stands;
+      }
 
       pub stops : StopsEarly p begin (script bytes) before held
       stops = record { done = u.done; rest = rest.lines; lines = u.lines; plays = plays_by u.marks u.done before u.gained held u.added (played u.done refl) }
@@ -125,9 +152,9 @@ module _ {Mark Step State Held : Type 0} (p : Play Mark Step State) (d : Doing M
     }
 
     -- the sink fails within what the first line that is left prints
-    pub breaks : (line : List ℕ) (rest : Script) (held : Option (List ℕ)) → (u : Underway p d begin bytes before hall given reader left (first_line line rest) held) → (after : Option (List ℕ)) → StoppedIn p d u.h line (told_bytes held) after
+    pub breaks : (line : List ℕ) (rest : Script) (held : Option (List ℕ)) (hall' : Held) → (u : Underway p d begin bytes before hall given reader left (first_line line rest) held) → (after : Option (List ℕ)) → StoppedIn p d u.h line hall' (told_bytes held) after
         → BreaksOff p begin (script bytes) before after
-    breaks line rest held u after r = record {
+    breaks line rest held hall' u after r = record {
       marks = u.marks ++ r.mark ∷ [];
       printed_bytes = u.gained ++ take r.printed_bytes said;
       missing = drop r.printed_bytes said ++ more;
@@ -143,3 +170,24 @@ module _ {Mark Step State Held : Type 0} (p : Play Mark Step State) (d : Doing M
 
         more : List ℕ
         more = printed p [] rest.lines (d.does r.mark r.step u.h).0
+
+    -- and what is left then
+    pub breaks_leaving : (line : List ℕ) (rest : Script) (held : Option (List ℕ)) (hall' : Held) → (u : Underway p d begin bytes before hall given reader left (first_line line rest) held) → (after : Option (List ℕ)) → StoppedIn p d u.h line hall' (told_bytes held) after
+        → Leaves p d begin (script bytes) hall' before after WriteFault
+    breaks_leaving line rest held hall' u after r = record {
+      marks = u.marks ++ r.mark ∷ [];
+      done = u.done ++ line ∷ [];
+      rest = rest.lines;
+      lines = u.lines ∙ sym (append_assoc u.done (line ∷ []) rest.lines);
+      shown = u.gained ++ take r.printed_bytes said;
+      missing = drop r.printed_bytes said;
+      whole = append_assoc u.gained (take r.printed_bytes said) (drop r.printed_bytes said)
+          ∙ ap (λ x. u.gained ++ x) (halves r.printed_bytes said ∙ sym (append-nil said) ∙ ap (λ x. said ++ x) (sym (nothing_printed p d ok [] (d.does r.mark r.step u.h).0)))
+          ∙ sym (u.so_far (r.mark ∷ []) (line ∷ []) ∙ ap (λ x. u.gained ++ x) (line_printed p d ok r.mark [] line [] r.step u.h r.in_form));
+      added = r.added ∙ ap (λ x. Some (x ++ take r.printed_bytes said)) (ap told_bytes u.added) ∙ ap Some (append_assoc before u.gained (take r.printed_bytes said));
+      all_shown = inr refl;
+      stands = inl (subst (λ s. d.Stands hall' s) (sym (u.at (r.mark ∷ []) (line ∷ []) ∙ ap (λ o. after_steps d (r.mark ∷ []) (followed_by p.form o []) u.h) r.in_form)) r.stands);
+    }
+      where
+        said : List ℕ
+        said = (d.does r.mark r.step u.h).1

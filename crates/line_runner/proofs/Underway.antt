@@ -4,7 +4,7 @@ use Rattle.std.proofs.lemmas.Bool.{true≢false}
 use Rattle.line_runner.specs.Reader.{Reader, fresh, whole_to_come}
 use Rattle.line_runner.specs.Reading.{Moves}
 use Rattle.line_runner.specs.ScriptLines.{Script, Ended, no_lines, no_whole_line, script, whole_lines, lines_from}
-use Rattle.line_runner.specs.Play.{Doing, Play, bad_from, printed}
+use Rattle.line_runner.specs.Play.{Doing, Play, after_steps, bad_from, printed, steps_of}
 use Rattle.line_runner.specs.declared.next.Next.TheVariants.{Line, ReadFault}
 use Rattle.line_runner.proofs.Moving.{none_after}
 use Rattle.line_runner.proofs.Steps.{ending}
@@ -33,6 +33,7 @@ pub record Underway {Mark Step State Held : Type 0} (p : Play Mark Step State) (
   pub added : held ≡ Some (before ++ gained)
   pub counted : given ≡ length done
   pub so_far : (ms : List Mark) (more : List (List ℕ)) → printed p (marks ++ ms) (done ++ more) begin ≡ gained ++ printed p ms more h
+  pub at : (ms : List Mark) (more : List (List ℕ)) → after_steps d (marks ++ ms) (steps_of p.form (done ++ more)) begin ≡ after_steps d ms (steps_of p.form more) h
   pub bad : (more : List (List ℕ)) → bad_from p.form 0 (done ++ more) ≡ bad_from p.form given more
 
 pub nothing_read : (bytes : List ℕ) → HasRead bytes [] fresh bytes

@@ -42,10 +42,12 @@ module _ {Mark Step State : Type 0} (p : Play Mark Step State) where
   unfoldable pub printed : List Mark → List (List ℕ) → State → List ℕ
   printed marks lines s = (p.runs marks (steps_of p.form lines) s).1
 
--- how a play is done step by step by what stands for a state: the state after a step, and what the step prints
+-- how a play is done step by step by what stands for a state: the state after a step, what the step prints, and what is known of what stood
+-- for a state where there was no memory for the line that came next
 pub record Doing (Mark Step State Held : Type 0) : Type 1 where
   pub does : Mark → Step → State → State × List ℕ
   pub Stands : Held → State → Type 0
+  pub Fails : Held → State → Type 0
 
 -- a step that was done, or for which there was no memory
 abbrev pub ended_by : {A E : Type 0} → Result A E → Result A LineNo
@@ -60,6 +62,11 @@ pub record IsPlay {Mark Step State Held : Type 0} (p : Play Mark Step State) (d 
   pub tells : (marks : List Mark) (lines : List (List ℕ)) → p.Tells marks lines
 
 module _ {Mark Step State Held : Type 0} (d : Doing Mark Step State Held) where
+  -- the state after steps, each with its mark
+  abbrev pub after_steps : List Mark → List Step → State → State
+  after_steps (mark ∷ marks) (step ∷ steps) s = after_steps marks steps (d.does mark step s).0
+  after_steps marks steps s = s
+
   -- a step was done after a state, and what it prints was added to a text
   pub record Does (s : State) (step : Step) (held : Held) (before after : List ℕ) : Type 0 where
     pub mark : Mark
@@ -73,8 +80,8 @@ module _ {Mark Step State Held : Type 0} (p : Play Mark Step State) (d : Doing M
     pub in_form : p.form line ≡ Some step
     pub does : Does d s step held before after
 
-  -- what a line came to, after a state; after want of memory nothing is known
+  -- what a line came to, after a state
   abbrev pub RunsLine : {A : Type 0} → State → List ℕ → Held → List ℕ → List ℕ → Result A LineNo → Type 0
   RunsLine s line held before after (Ok done) = DoesLine s line held before after
-  RunsLine s line held before after (Err BadLine) = p.form line ≡ None
-  RunsLine s line held before after (Err NoMemory) = Unit {0}
+  RunsLine s line held before after (Err BadLine) = (p.form line ≡ None) × d.Stands held s
+  RunsLine s line held before after (Err NoMemory) = d.Fails held s

@@ -1,8 +1,8 @@
 -- How a run ends that begins with a state, beside the lines that were read and the bytes that the sink held before and holds after. The
 -- marks are those of this run.
-use Rattle.std.specs.Prelude.{◌≡◌, ◌+◌, ℕ, List, [], ◌++◌, length, take, Option, Some, None}
+use Rattle.std.specs.Prelude.{◌≡◌, ◌⊎◌, ◌+◌, ℕ, List, [], ◌++◌, length, take, Option, Some, None}
 use Rattle.board_links.specs.Faults.{HasRisen}
-use Rattle.line_runner.specs.Play.{Play, Doing, bad_line, printed}
+use Rattle.line_runner.specs.Play.{Play, Doing, after_steps, bad_line, printed, steps_of}
 use Rattle.line_runner.specs.ScriptLines.{Script, Ending, Ended, script, whole_lines}
 use Rattle.line_runner.specs.ScriptLines as script
 use Rattle.line_runner.specs.declared.exit.Exit.{Exit}
@@ -87,26 +87,47 @@ module _ {Mark Step State Held : Type 0} (p : Play Mark Step State) (d : Doing M
     pub stands : d.Stands hall (d.does mark step h).0
     pub added : after ≡ Some (held ++ (d.does mark step h).1)
 
-  -- a line in form printed a first part of what it says
-  pub record StoppedIn (h : State) (line : List ℕ) (held : List ℕ) (after : Option (List ℕ)) : Type 0 where
+  -- a line in form was done, and printed a first part of what it says
+  pub record StoppedIn (h : State) (line : List ℕ) (hall : Held) (held : List ℕ) (after : Option (List ℕ)) : Type 0 where
     pub mark : Mark
     pub step : Step
     pub in_form : p.form line ≡ Some step
+    pub stands : d.Stands hall (d.does mark step h).0
     pub printed_bytes : ℕ
     pub added : after ≡ Some (held ++ take printed_bytes (d.does mark step h).1)
 
   -- what one line came to, after a state and with these bytes held
   abbrev pub RanLine : State → List ℕ → Held → List ℕ → Option (List ℕ) → LineStatus → Type 0
   RanLine h line hall held after status.Done = RanOn h line hall held after
-  RanLine h line hall held after status.BadLine = (p.form line ≡ None) × (after ≡ Some held)
-  RanLine h line hall held after status.WriteFault = StoppedIn h line held after
-  RanLine h line hall held after status.NoMemory = after ≡ Some held
+  RanLine h line hall held after status.BadLine = (p.form line ≡ None) × (after ≡ Some held) × d.Stands hall h
+  RanLine h line hall held after status.WriteFault = StoppedIn h line hall held after
+  RanLine h line hall held after status.NoMemory = (after ≡ Some held) × d.Fails hall h
+
+  module _ (begin : State) where
+    -- Some first lines were run, and stand for the state after them, or there was no memory for the next one and it failed. Their transcript was
+    -- added, or a first part of it where the sink failed.
+    pub record Leaves (s : Script) (hall : Held) (before : List ℕ) (after : Option (List ℕ)) (exit : Exit) : Type 0 where
+      pub marks : List Mark
+      pub done : List (List ℕ)
+      pub rest : List (List ℕ)
+      pub lines : s.lines ≡ done ++ rest
+      pub shown : List ℕ
+      pub missing : List ℕ
+      pub whole : shown ++ missing ≡ printed p marks done begin
+      pub added : after ≡ Some (before ++ shown)
+      pub all_shown : (missing ≡ []) ⊎ (exit ≡ WriteFault)
+      pub stands : d.Stands hall (after_steps d marks (steps_of p.form done) begin) ⊎ ((exit ≡ NoMemory) × d.Fails hall (after_steps d marks (steps_of p.form done) begin))
 
 -- a run came to its end, or there was no memory
 abbrev pub IsComplete : Exit → Type 0
 IsComplete Done = Unit {0}
 IsComplete NoMemory = Unit {0}
 IsComplete other = ⊥
+
+-- where a line didn't end the run
+abbrev pub GoesOn : LineStatus → Type 0 → Type 0
+GoesOn status.Done P = P
+GoesOn other P = Unit {0}
 
 -- the count of faults rose where a line ended in a fault, and stayed where it didn't
 abbrev pub LineRaises : LineStatus → ℕ → ℕ → Type 0

@@ -36,8 +36,9 @@ pub trait Interpreter {
 
     /// Runs a line, and adds what it prints to a text.
     ///
-    /// After `NoMemory` the line may have been run in part, and no more is known: the run ends.
+    /// After `NoMemory` the line may have been run in part, and what is known then is the play's: the run ends.
     fn run_line(&mut self, alloc: Global, line: &[u8], text: &mut Vec<u8>) -> Result<(), LineNo>
+        requires { (s : State) × doing.Stands self.old s }
         ensures { (s : State) → doing.Stands self.old s → RunsLine play doing s line.now self.new text.old.items text.new.items result };
 
     /// Lines are run one by one.

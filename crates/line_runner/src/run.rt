@@ -2,7 +2,8 @@
 
 ghost use Rattle.std.specs.Prelude.{◌≡◌, ◌≤◌, IsSome};
 ghost use Rattle.board_links.specs.Pieces.{told_bytes, WriteRaises, Writes};
-ghost use Rattle.line_runner.specs.Running.{Ends, ExitRaises, LineRaises, RanLine, end_at, stop_at};
+ghost use Rattle.line_runner.specs.Running.{Ends, ExitRaises, GoesOn, Leaves, LineRaises, RanLine, end_at, stop_at};
+ghost use Rattle.line_runner.specs.ScriptLines.{script};
 
 use crate::exit::Exit;
 use crate::interpreter::{Interpreter, LineNo};
@@ -19,11 +20,14 @@ pub fn run_lines<I: Interpreter, S: Source, K: Sink>(
     source: &mut S,
     sink: &mut K,
 ) -> Exit
+    requires { (s : I.State) × I.doing.Stands interpreter.old s }
     ensures source_never_falls { S.faults source.old ≤ S.faults source.new }
     ensures sink_never_falls { K.faults sink.old ≤ K.faults sink.new }
     ensures raises { ExitRaises result (S.faults source.old) (S.faults source.new) (K.faults sink.old) (K.faults sink.new) }
     ensures ends { (begin : I.State) → I.doing.Stands interpreter.old begin → IsSome (S.left source.old) → IsSome (K.held sink.old)
         → Ends I.play begin (told_bytes (S.left source.old)) (told_bytes (S.left source.new)) (told_bytes (K.held sink.old)) (K.held sink.new) result }
+    ensures leaves { (begin : I.State) → I.doing.Stands interpreter.old begin → IsSome (S.left source.old) → IsSome (K.held sink.old)
+        → Leaves I.play I.doing begin (script (told_bytes (S.left source.old))) interpreter.new (told_bytes (K.held sink.old)) (K.held sink.new) result }
 {
     let mut lines = Lines::new(alloc);
     let mut text = Vec::new(alloc);
@@ -87,6 +91,8 @@ fn run_line<I: Interpreter, K: Sink>(
     line: &[u8],
     sink: &mut K,
 ) -> LineStatus
+    requires { (s : I.State) × I.doing.Stands interpreter.old s }
+    ensures going { GoesOn result ((s : I.State) × I.doing.Stands interpreter.new s) }
     ensures never_falls { K.faults sink.old ≤ K.faults sink.new }
     ensures raises { LineRaises result (K.faults sink.old) (K.faults sink.new) }
     ensures told { IsSome (K.held sink.old) → IsSome (K.held sink.new) }

@@ -30,9 +30,9 @@ module _ {A E : Type 0} (told : Result A E) (old new : HeldHall) (line before af
       by (Err x) d = tt
 
 module _ (old : HeldHall) (line : List ℕ) where
-  pub script_bad : step_of line ≡ None → (h : Hall GameKind) → script_doing.Stands old h → script_play.form line ≡ None
+  pub script_bad : step_of line ≡ None → (h : Hall GameKind) → script_doing.Stands old h → (script_play.form line ≡ None) × script_doing.Stands old h
   unfolding script_play script_doing
-  script_bad e h s = e
+  script_bad e h s = (e, s)
 
 module _ {A E : Type 0} (told : Result A E) (old new : HeldWorld) (line before after : List ℕ) where
   pub world_line : (step : world.Step GameKind) → world_step_of line ≡ Some step
@@ -46,9 +46,9 @@ module _ {A E : Type 0} (told : Result A E) (old new : HeldWorld) (line before a
       by (Err x) d = tt
 
 module _ (old : HeldWorld) (line : List ℕ) where
-  pub world_bad : world_step_of line ≡ None → (w : World GameKind AnyG) → world_doing.Stands old w → world_play.form line ≡ None
+  pub world_bad : world_step_of line ≡ None → (w : World GameKind AnyG) → world_doing.Stands old w → (world_play.form line ≡ None) × world_doing.Stands old w
   unfolding world_play world_doing
-  world_bad e w s = e
+  world_bad e w s = (e, s)
 
 -- a step's text was added
 pub world_did : (w : World GameKind AnyG) (step : world.Step GameKind) (new : HeldWorld) (before said after : List ℕ) → HasDone hall_tape w step new said → after ≡ before ++ said

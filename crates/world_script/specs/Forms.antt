@@ -2,9 +2,7 @@
 -- without sign and without leading zeros. Empty lines and lines that begin with # ask for nothing.
 use Rattle.std.specs.Prelude.{ℕ, ◌+◌, ◌-◌, ◌*◌, ◌==◌, ◌&&◌, nat_le, Bool, false, List, [], ◌∷◌, length, take, drop, position, Option, Some, None, option_map, option_and_then, codes, bytes_eq, if◌then◌else◌}
 use Rattle.std.specs.Str.Lossy.{utf8_valid_len}
-use Rattle.any_game.specs.AnyRules.{any_rules, named}
-use Rattle.any_game.specs.GameKind.{GameKind}
-use Rattle.room_history.specs.Reply.{seats_fit}
+use Rattle.any_game.specs.Names.{may_open}
 use Rattle.wire_json.specs.KeyText.{lower_hex}
 use Rattle.hall_history.specs.Script.{Step, Nothing, Seeds, Opens, Says, Takes, Detaches}
 
@@ -43,14 +41,6 @@ parts line = option_map (λ i. (take i line, drop (i + 1) line)) (position (λ b
 -- a word that is a text
 abbrev pub text_of : List ℕ → Option (List ℕ)
 text_of word = if utf8_valid_len word == length word then Some word else None
-
--- whether there is such a game, and it is for so many seats
-abbrev pub is_for : Option GameKind → ℕ → Bool
-is_for None seats = false
-is_for (Some game) seats = seats_fit (any_rules game).sheet seats
-
-unfoldable pub may_open : List ℕ → ℕ → Bool
-may_open name seats = is_for (named name) seats
 
 -- a match of a game for a number of seats
 abbrev pub opens : List ℕ → ℕ → Option Step

@@ -1,4 +1,4 @@
--- How a hall plays a script, step by step.
+-- How a hall plays a script, step by step. After want of memory no more is known of it.
 use Rattle.any_game.specs.AnyRules.{any_rules, named}
 use Rattle.any_game.specs.GameKind.{GameKind}
 use Rattle.hall_history.specs.Hall.{Hall}
@@ -9,4 +9,4 @@ use Rattle.line_runner.specs.Play.{Doing}
 use Rattle.session_hall.specs.Held.{HeldHall, StandsForHall}
 
 unfoldable pub script_doing : Doing Mark Step (Hall GameKind) HeldHall
-script_doing = record { does = does named any_rules hall_tape; Stands = StandsForHall hall_tape }
+script_doing = record { does = does named any_rules hall_tape; Stands = StandsForHall hall_tape; Fails = λ held h. Unit {0} }

@@ -1,9 +1,10 @@
 //! The steps that the lines of a script ask for. They are read without memory.
 
 ghost use Rattle.std.specs.Prelude.{◌≡◌, ◌≤◌, ◌<◌, ◌==◌, length, take, drop, position, option_map, IfSome, ◌+◌, ◌*◌, ◌&&◌, nat_le};
-ghost use Rattle.world_script.specs.Forms.{digit, leading, after, small_number, pass_of, seats_of, may_open, opening, saying, alone, leads, text_of, step_of};
+ghost use Rattle.world_script.specs.Forms.{digit, leading, after, small_number, pass_of, seats_of, opening, saying, alone, leads, text_of, step_of};
 ghost use Rattle.world_script.specs.StepIs.{step_is, HasPass};
 
+use any_game::may_open;
 use std::str;
 use wire_json::lower_hex_of;
 
@@ -88,34 +89,6 @@ fn opening(rest: &[u8]) -> Option<Step<'_>>
     } else {
         None
     }
-}
-
-/// Whether there is a game of this name for so many seats.
-#[tactic(auto, unfolding(crate::specs::Forms::may_open))]
-fn may_open(game: &str, seats: u8) -> bool
-    ensures { result ≡ may_open game.now seats }
-{
-    if game == "tic-tac-toe" {
-        is_within(2, seats, 2)
-    } else if game == "countdown" {
-        is_within(2, seats, 4)
-    } else if game == "pig" {
-        is_within(2, seats, 4)
-    } else if game == "high-hand" {
-        is_within(2, seats, 4)
-    } else if game == "blind-bid" {
-        is_within(2, seats, 8)
-    } else if game == "captions" {
-        is_within(2, seats, 16)
-    } else {
-        false
-    }
-}
-
-fn is_within(least: u8, seats: u8, most: u8) -> bool
-    ensures { result ≡ (nat_le least seats && nat_le seats most) }
-{
-    least <= seats && seats <= most
 }
 
 /// A word that is a text.

@@ -1,13 +1,14 @@
 use Rattle.std.proofs.Common.{◌≡◌, ◌+◌, refl, sym, ap, ◌∙◌, arith}
 use Rattle.board_links.specs.Pieces.{told_bytes}
 use Rattle.line_runner.specs.Reading.{given_after}
-use Rattle.line_runner.proofs.EndLaws.{line_is, stop_raises, end_raises, end_stays, stop_ends, stop_stays, begins_with, line_ends, line_runs}
+use Rattle.line_runner.proofs.EndLaws.{line_is, stop_raises, end_raises, end_stays, goes_on_with, stop_ends, stop_leaves, stop_stays, begins_with, line_ends, line_leaves, line_runs}
 use Rattle.line_runner.proofs.run.run_lines.Goals as goal
 
 pub lines-init : goal.lines-init
 lines-init g c = record {
   source_stays = refl;
   sink_stays = refl;
+  stands = c.requires;
   source_tells = λ p. p;
   sink_tells = λ p. p;
   underway = λ begin stands p k. begins_with g.I.Interpreter.play g.I.Interpreter.doing begin g.met.I.Interpreter.one_by_one (told_bytes (g.S.Source.left c.args.source.now)) c.args.interpreter.now stands (g.K.Sink.held c.args.sink.now) k
@@ -16,6 +17,9 @@ lines-init g c = record {
 
 pub stop_at-requires : goal.stop_at-requires
 stop_at-requires g c = c.given.ensures.most
+
+pub run_line-ran-requires : goal.run_line-ran-requires
+run_line-ran-requires g c = c.lines.invariant.stands
 
 pub returns-in-Some-clause-source_never_falls : goal.returns-in-Some-clause-source_never_falls
 returns-in-Some-clause-source_never_falls g c = omega (arith, c.lines.invariant.source_stays, c.next_line-next.ensures.never_falls)
@@ -31,6 +35,17 @@ pub returns-in-Some-clause-ends : goal.returns-in-Some-clause-ends
 returns-in-Some-clause-ends g c = λ begin stands p k.
     stop_ends g.I.Interpreter.play g.I.Interpreter.doing begin g.met.I.Interpreter.one_by_one _ _ c.lines.interpreter c.lines.lines.given c.lines.lines _ _ (c.lines.invariant.underway begin stands p k) c.next_line-next.result c.next_line-next.new.self.line c.next_line-next.new.self _
     c.in-Some.exit c.given.result (c.next_line-next.ensures.moves (c.lines.invariant.source_tells p)) c.next_line-next.ensures.stands (c.given.ensures.value ∙ c.next_line-next.ensures.given) (sym c.stop_at.ensures ∙ c.in-Some.is)
+
+pub returns-in-Some-clause-leaves : goal.returns-in-Some-clause-leaves
+returns-in-Some-clause-leaves g c = λ begin stands p k.
+    stop_leaves g.I.Interpreter.play g.I.Interpreter.doing begin g.met.I.Interpreter.one_by_one _ _ c.lines.interpreter c.lines.lines.given c.lines.lines _ _ (c.lines.invariant.underway begin stands p k) c.in-Some.exit
+
+pub returns-in-Some-end_at-clause-leaves : goal.returns-in-Some-end_at-clause-leaves
+returns-in-Some-end_at-clause-leaves g c = λ begin stands p k.
+    line_leaves g.I.Interpreter.play g.I.Interpreter.doing begin g.met.I.Interpreter.one_by_one _ _ c.lines.interpreter c.lines.lines.given c.lines.lines _ _ (c.lines.invariant.underway begin stands p k) c.next_line-next.result c.given.result c.next_line-next.new.self.line c.next_line-next.new.self _
+    (c.next_line-next.ensures.moves (c.lines.invariant.source_tells p)) (sym c.stop_at.ensures ∙ c.in_default.is)
+    c.line.result.now c.line.ensures c.run_line-ran.new.interpreter _ c.run_line-ran.result c.in-Some-end_at.exit c.given-in-lines.result
+    (c.run_line-ran.ensures.ran (c.lines.invariant.sink_tells k)) (sym c.end_at.ensures ∙ c.in-Some-end_at.is)
 
 pub returns-in-Some-end_at-clause-source_never_falls : goal.returns-in-Some-end_at-clause-source_never_falls
 returns-in-Some-end_at-clause-source_never_falls g c = omega (arith, c.lines.invariant.source_stays, c.next_line-next.ensures.never_falls)
@@ -61,6 +76,7 @@ pub lines-preserved : goal.lines-preserved
 lines-preserved g c = record {
   source_stays = stop_stays c.next_line-next.result c.given.result _ _ (sym c.stop_at.ensures ∙ c.in_default.is) c.next_line-next.ensures.raises ∙ c.lines.invariant.source_stays;
   sink_stays = end_stays c.run_line-ran.result c.given-in-lines.result _ _ (sym c.end_at.ensures ∙ c.in_default-end_at.is) c.run_line-ran.ensures.raises ∙ c.lines.invariant.sink_stays;
+  stands = goes_on_with c.run_line-ran.result c.given-in-lines.result ((s : g.I.Interpreter.State) × g.I.Interpreter.doing.Stands c.run_line-ran.new.interpreter s) (sym c.end_at.ensures ∙ c.in_default-end_at.is) c.run_line-ran.ensures.going;
   source_tells = λ p. c.next_line-next.ensures.tells (c.lines.invariant.source_tells p);
   sink_tells = λ k. c.run_line-ran.ensures.told (c.lines.invariant.sink_tells k);
   underway = λ begin stands p k.

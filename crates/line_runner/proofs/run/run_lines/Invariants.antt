@@ -4,11 +4,12 @@ use Rattle.line_runner.specs.Reader.{to_come}
 use Rattle.line_runner.proofs.Underway.{Underway}
 use Rattle.line_runner.proofs.run.run_lines.Given as goal
 
--- no count of faults rose, and where source and sink tell, the transcript is what was added and what is still to come
+-- no count of faults rose, it stands for some state, and where source and sink tell, the transcript is what was added and what is still to come
 abbrev pub invariant-lines : goal.invariant-lines
 invariant-lines g l = record {
   source_stays : g.S.Source.faults l.source ≡ g.S.Source.faults l.initial.source;
   sink_stays : g.K.Sink.faults l.sink ≡ g.K.Sink.faults l.initial.sink;
+  stands : (s : g.I.Interpreter.State) × g.I.Interpreter.doing.Stands l.interpreter s;
   source_tells : IsSome (g.S.Source.left l.initial.source) → IsSome (g.S.Source.left l.source);
   sink_tells : IsSome (g.K.Sink.held l.initial.sink) → IsSome (g.K.Sink.held l.sink);
   underway : (begin : g.I.Interpreter.State) → g.I.Interpreter.doing.Stands l.initial.interpreter begin

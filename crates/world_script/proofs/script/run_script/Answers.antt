@@ -11,6 +11,9 @@ use Rattle.world_script.proofs.script.run_script.Goals as goal
 pub returns-in-Err-clause-ends : goal.returns-in-Err-clause-ends
 returns-in-Err-clause-ends g c = λ l k. stops_at_once script_play script_doing first_hall script_is_played (script (told_bytes (g.S.Source.left c.args.source.now))) (g.K.Sink.held c.args.sink.now) k
 
+pub run_lines-exit-requires : goal.run_lines-exit-requires
+run_lines-exit-requires g c = (first_hall, subst (λ x. script_doing.Stands x first_hall) (sym c.new-player.ensures) (script_begins c.in-Ok.hall c.in-Ok.ensures))
+
 pub returns-in-Ok-clause-ends : goal.returns-in-Ok-clause-ends
 returns-in-Ok-clause-ends g c = c.run_lines-exit.ensures.ends first_hall
     (subst (λ x. script_doing.Stands x first_hall) (sym c.new-player.ensures) (script_begins c.in-Ok.hall c.in-Ok.ensures))

@@ -13,6 +13,9 @@ use Rattle.world_script.proofs.world.run_world.Goals as goal
 pub returns-in-Err-clause-ends : goal.returns-in-Err-clause-ends
 returns-in-Err-clause-ends g c = λ l k. stops_at_once world_play world_doing first_world world_is_played (script (told_bytes (g.S.Source.left c.args.source.now))) (g.K.Sink.held c.args.sink.now) k
 
+pub run_lines-exit-requires : goal.run_lines-exit-requires
+run_lines-exit-requires g c = (first_world, subst (λ x. world_doing.Stands x first_world) (sym c.new-player.ensures) (world_begins c.in-Ok.world c.in-Ok.ensures))
+
 pub returns-in-Ok-clause-ends : goal.returns-in-Ok-clause-ends
 returns-in-Ok-clause-ends g c = c.run_lines-exit.ensures.ends first_world
     (subst (λ x. world_doing.Stands x first_world) (sym c.new-player.ensures) (world_begins c.in-Ok.world c.in-Ok.ensures))

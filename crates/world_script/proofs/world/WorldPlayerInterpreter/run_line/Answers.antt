@@ -15,3 +15,7 @@ returns-in-Ok-Some c = λ w s.
 
 pub returns-in-Ok-None : goal.returns-in-Ok-None
 returns-in-Ok-None c = world_bad c.args.self.now c.args.line.now (sym c.in-Ok-None.ensures.step ∙ ap (option_map step_of) c.in-Ok-None.field-0-is)
+
+pub returns-in-Err : goal.returns-in-Err
+unfolding world_doing
+returns-in-Err c = λ w s. tt
