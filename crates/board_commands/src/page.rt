@@ -12,8 +12,9 @@ pub const HELP: &str = "board_server: matches of turn-based games
 
 board_server serve --listen ADDRESS [--rooms 16] [--workers 8] [--links N] [--sessions 1000000] [--silence SECONDS] [--ws [--origin TEXT]]
     serves matches over TCP, or over WebSockets, N at once or as many as workers, until so many sessions are over, and reports
-board_server play --connect ADDRESS --game NAME --match MATCH [--seat SEAT --key KEY]
-    plays a match by the commands on standard input: act ACT, move NAME ARGS, end turn, undo, redo, read, wait, show, end
+board_server play --connect ADDRESS --game NAME --match MATCH [--seat SEAT --key KEY] [--draw]
+    plays a match by the commands on standard input: act ACT, move NAME ARGS, end turn, undo, redo, read, wait, show, end;
+    and draws what is shown
 board_server script
     plays the script on standard input, and prints its transcript
 board_server world

@@ -90,6 +90,7 @@ fn play_asked<S: Source, K: Sink, L: Link, R: Wait>(
         game,
         name,
         viewer,
+        draws: _,
     } = asked;
     drop(connect);
     let player = Client::new(alloc, game, key_of(&viewer));

@@ -7,6 +7,7 @@ ghost use Rattle.command_words.specs.declared.serve.ServeWords.{ServeWords as As
 
 use crate::outspoken::Outspoken;
 use board_commands::{play, print_page, run, serve};
+use board_drawing::DrawingSink;
 use board_links::{Door, ReaderSource, WriterSink};
 use command_words::{ServeWords, WordsNo, play_words, serve_words};
 use game_sheet::{NoMemory, Text};
@@ -61,11 +62,12 @@ pub fn run_here(rt: &HostRuntime, words: &[String]) -> Exit {
 
 /// Plays a match over a link to the server that the words name.
 pub fn play_there<R: Wait>(leave: &R, rt: &HostRuntime, words: &[String]) -> Exit {
-    let addr = match play_words(rt.alloc(), words) {
+    let (addr, draws) = match play_words(rt.alloc(), words) {
         Ok(asked) => {
             let addr = asked.connect.as_str().parse::<SocketAddr>();
+            let draws = asked.draws;
             drop(asked);
-            addr
+            (addr, draws)
         }
         Err(no) => return refused(no),
     };
@@ -73,17 +75,28 @@ pub fn play_there<R: Wait>(leave: &R, rt: &HostRuntime, words: &[String]) -> Exi
         return Exit::LinkFault;
     };
     match TcpLink::connect(rt, rt.alloc(), addr) {
-        Ok(link) => play_over(leave, rt, words, link),
+        Ok(link) => play_over(leave, rt, words, link, draws),
         Err(error) => fault(&error, Exit::LinkFault),
     }
 }
 
-/// Plays a match over this link.
-fn play_over<R: Wait>(leave: &R, rt: &HostRuntime, words: &[String], link: TcpLink) -> Exit {
+/// Plays a match over this link, and draws what is shown where that is asked for.
+fn play_over<R: Wait>(
+    leave: &R,
+    rt: &HostRuntime,
+    words: &[String],
+    link: TcpLink,
+    draws: bool,
+) -> Exit {
     let mut link = link;
     let mut source = ReaderSource::new(rt.reader());
     let mut sink = WriterSink::new(rt.stdout());
-    let exit = play(leave, rt.alloc(), words, &mut source, &mut sink, &mut link);
+    let exit = if draws {
+        let mut sink = DrawingSink::new(rt.alloc(), sink);
+        play(leave, rt.alloc(), words, &mut source, &mut sink, &mut link)
+    } else {
+        play(leave, rt.alloc(), words, &mut source, &mut sink, &mut link)
+    };
     drop(link);
     exit
 }

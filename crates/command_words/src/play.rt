@@ -6,7 +6,8 @@ ghost use Rattle.any_game.specs.AnyRules.{named};
 ghost use Rattle.command_words.specs.Answers.{Answers};
 ghost use Rattle.command_words.specs.Play.{play_app, play_from, play_of, seat_from, viewer_from};
 
-use crate::options::{needed, option};
+use crate::options::{flag, needed, option};
+use crate::serve::is_said;
 use crate::words_no::{WordsNo, word_of};
 use any_game::{AnyGame, by_name};
 use clap::{ArgMatches, Command, Error};
@@ -25,6 +26,8 @@ pub struct PlayWords {
     pub name: MatchName,
     /// The seat and its key; none for a spectator.
     pub viewer: Viewer,
+    /// Whether what is shown is drawn too.
+    pub draws: bool,
 }
 
 /// What the words of `play` ask for; the first word is the command's own.
@@ -50,20 +53,23 @@ fn matches_of<'a>(alloc: Global, words: &'a [String]) -> Result<ArgMatches<'a>, 
         .arg(needed(alloc, "game"))?
         .arg(needed(alloc, "match"))?
         .arg(option(alloc, "seat"))?
-        .arg(option(alloc, "key"))?;
+        .arg(option(alloc, "key"))?
+        .arg(flag(alloc, "draw"))?;
     command.try_get_matches_from(words)
 }
 
 /// What the matches ask for.
 fn words_in(alloc: Global, matches: &ArgMatches) -> Result<PlayWords, WordsNo>
     ensures { Answers (play_of (first_value (found_of matches.now) (codes "connect")) (first_value (found_of matches.now) (codes "game"))
-        (first_value (found_of matches.now) (codes "match")) (first_value (found_of matches.now) (codes "seat")) (first_value (found_of matches.now) (codes "key"))) result }
+        (first_value (found_of matches.now) (codes "match")) (first_value (found_of matches.now) (codes "seat")) (first_value (found_of matches.now) (codes "key"))
+        (first_value (found_of matches.now) (codes "draw"))) result }
 {
     let connect = matches.get_str("connect").ok_or(WordsNo::Usage)?;
     let game = matches.get_str("game").ok_or(WordsNo::Usage)?;
     let name = matches.get_str("match").ok_or(WordsNo::Usage)?;
     let name = match_of(name).ok_or(WordsNo::Usage)?;
     let viewer = viewer_of(matches.get_str("seat"), matches.get_str("key")).ok_or(WordsNo::Usage)?;
+    let draws = is_said(matches.get_str("draw"));
     let connect = Text::from_str(alloc, connect)?;
     let game = game_of(alloc, game)?;
     Ok(PlayWords {
@@ -71,6 +77,7 @@ fn words_in(alloc: Global, matches: &ArgMatches) -> Result<PlayWords, WordsNo>
         game,
         name,
         viewer,
+        draws,
     })
 }
 

@@ -109,7 +109,7 @@ fn origin_of(alloc: Global, text: Option<&str>) -> Result<Option<Text>, NoMemory
 }
 
 /// Whether a flag was said, by the text that stands for it.
-fn is_said(text: Option<&str>) -> bool
+pub(crate) fn is_said(text: Option<&str>) -> bool
     ensures { result ≡ is_said (option_map (λ text. text.now) text.entry) }
 {
     match text {

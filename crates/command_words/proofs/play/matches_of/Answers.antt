@@ -11,11 +11,12 @@ is_free = refl
 
 pub returns : goal.returns
 returns c =
-    let app_is : app_of c.in_ok-command.command ≡ play_app = c.in_ok-command.ensures.shape c.option-2.ensures.own
+    let app_is : app_of c.in_ok-command.command ≡ play_app = c.in_ok-command.ensures.shape c.flag.ensures.own
+    ∙ ap₂ with_rule (c.in_ok-arg-5.ensures.shape c.option-2.ensures.own
     ∙ ap₂ with_rule (c.in_ok-arg-4.ensures.shape c.option.ensures.own
     ∙ ap₂ with_rule (c.in_ok-arg-3.ensures.shape c.needed-3.ensures.own
     ∙ ap₂ with_rule (c.in_ok-arg-2.ensures.shape c.needed-2.ensures.own
-    ∙ ap₂ with_rule (c.in_ok-arg.ensures.shape c.needed.ensures.own ∙ ap₂ with_rule c.new.ensures.app c.needed.ensures.rule) c.needed-2.ensures.rule) c.needed-3.ensures.rule) c.option.ensures.rule) c.option-2.ensures.rule in
+    ∙ ap₂ with_rule (c.in_ok-arg.ensures.shape c.needed.ensures.own ∙ ap₂ with_rule c.new.ensures.app c.needed.ensures.rule) c.needed-2.ensures.rule) c.needed-3.ensures.rule) c.option.ensures.rule) c.option-2.ensures.rule) c.flag.ensures.rule in
     let texts = map string_bytes c.args.words.now in
     let parse = c.try_get_matches_from in
     record {
