@@ -1,4 +1,4 @@
-.PHONY: program demo serve served page-test test bench
+.PHONY: program demo serve served play page-test test bench
 
 SHELL := bash
 .SHELLFLAGS := -o pipefail -c
@@ -32,6 +32,13 @@ bench: program
 # Plays many actions against a served port, and compares what each player was sent with a script's run.
 served: program
 	@bench/served.py same crates/board_server/out/board_server 20000
+
+# Serves matches over WebSockets at an address, and the files of the page at another, until it is stopped.
+PAGE ?= 127.0.0.1:8000
+play: program
+	@echo "Play at http://$(PAGE)/?server=ws://$(LISTEN)/"
+	@python3 -m http.server $(lastword $(subst :, ,$(PAGE))) --bind $(firstword $(subst :, ,$(PAGE))) --directory page >/dev/null 2>&1 & \
+	files=$$!; trap "kill $$files" EXIT; crates/board_server/out/board_server serve --listen $(LISTEN) --ws --links $(LINKS)
 
 # Plays on the page in headless Chromium, against the program, or against SARPUNTXE_PROGRAM or SARPUNTXE_SERVER. It wants node and chromium.
 page-test: $(if $(SARPUNTXE_PROGRAM)$(SARPUNTXE_SERVER),,program)

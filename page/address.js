@@ -15,12 +15,15 @@ export function matchNamed({ search } = location) {
   return said !== null && MATCH.test(said) ? said : null;
 }
 
+/** Whether actions may be guessed ahead: `?guess=no` says that they may not. */
+export const mayGuess = ({ search } = location) => new URLSearchParams(search).get("guess") !== "no";
+
 /** The address of a match, or of the lobby if the match is null. */
 export function linkTo(match, { href } = location) {
   const link = new URL(href);
-  const server = link.searchParams.get("server");
+  const kept = ["server", "guess"].map((name) => [name, link.searchParams.get(name)]);
   link.search = link.hash = "";
-  if (server !== null) link.searchParams.set("server", server);
+  for (const [name, said] of kept) if (said !== null) link.searchParams.set(name, said);
   if (match !== null) link.searchParams.set("match", match);
   return link.href;
 }

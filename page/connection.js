@@ -44,12 +44,12 @@ export class Connection {
     socket.onclose = () => { clearTimeout(slow); this.#broke(); };
   }
 
-  /** Sends a line. The answer is the server's line; a line that is answered `again` is sent again some times. */
-  async ask(line) {
+  /** Sends a line. The answer is the server's line; a line that is answered `again` is sent again, so many times in all at most. */
+  async ask(line, most = AGAIN_TIMES) {
     const socket = this.#socket;
     for (let times = 1; ; times++) {
       const answer = await this.#send(line);
-      if (answer.type !== "again" || times === AGAIN_TIMES) return answer;
+      if (answer.type !== "again" || times >= most) return answer;
       await later(AGAIN_PAUSE * times);
       if (this.#socket !== socket) throw new Cut();
     }

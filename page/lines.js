@@ -7,6 +7,7 @@ export const create = (game, seats) => JSON.stringify({ game, seats, type: "crea
 export const join = (match, seat, name) => JSON.stringify({ match, name, seat, type: "join" });
 export const rename = (match, seat, key, name) => JSON.stringify({ key, match, name, seat, type: "rename" });
 export const leave = (match, seat, key) => JSON.stringify({ key, match, seat, type: "leave" });
+export const takeover = (match, seat) => JSON.stringify({ match, seat, type: "takeover" });
 export const sync = (match, seat, key) => JSON.stringify({ key, match, seat, type: "sync" });
 export const act = (match, key, number, ticket, asked) =>
   JSON.stringify({ act: asked, key, match, number, ticket, type: "act" });
@@ -36,7 +37,7 @@ const refusals = {
   "unauthorized": "That seat is not yours: its key is another one.",
   "already-attached": "This connection follows a match already.",
   "not-attached": "This connection follows no match. It is made anew.",
-  "not-a-bot": "The server plays no seat itself.",
+  "not-a-bot": "A person plays that seat, or nobody: only a bot can be asked to leave it.",
 };
 
 const verdicts = {

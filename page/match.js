@@ -1,8 +1,9 @@
 // A match: its stream, its board, who sits where, and what a player does.
-import { linkTo } from "./address.js";
-import { gameNamed } from "./boards/index.js";
+import { linkTo, mayGuess } from "./address.js";
+import { gameNamed, isKnown } from "./boards/index.js";
 import { Connection, Cut } from "./connection.js";
 import { button, element, offer, setText } from "./elements.js";
+import { startProgram } from "./guess.js";
 import { forgetSeat, keepSeat, seatIn } from "./keys.js";
 import * as lines from "./lines.js";
 import { Log } from "./log.js";
@@ -17,7 +18,7 @@ const STREAM = ["sync", "update", "change", "ok", "no", "again", "bye"];
 export class Match {
   #place; #match; #connection; #timer;
   #row = null; #gameName = null; #game = null; #board = null; #view = null; #seat = null; #key = null;
-  #shown = null; #before = null; #acting = null;
+  #shown = null; #before = null; #acting = []; #program = mayGuess() ? startProgram() : Promise.resolve(null); #wanted = null; #turn = 0;
   #parts = {}; #log = new Log(); #seats;
 
   constructor(place, match) {
@@ -26,6 +27,7 @@ export class Match {
       take: (seat, name) => this.#take(seat, name),
       rename: (name) => this.#rename(name),
       leave: () => this.#leave(),
+      ask: (seat, name) => this.#askFor(seat, name),
     });
     this.#lay();
     this.#connection = new Connection(place.address, {
@@ -58,13 +60,19 @@ export class Match {
 
   /** Without a connection there is no view: what is shown may be old, and nothing can be asked for. */
   #told(state, seconds) {
-    if (state !== "open") this.#view = null;
+    if (state !== "open") {
+      this.#shown = this.#view?.settled ?? this.#shown;
+      this.#view = null;
+    }
     this.#place.told(state, seconds);
     this.#draw();
   }
 
   /** A new connection: finds the match, and begins its stream from the kept seat, or as a spectator. */
   async #begin() {
+    const turn = ++this.#turn;
+    await this.#program;
+    if (turn !== this.#turn) return;
     const found = await this.#look();
     const answer = found.type === "match" ? await this.#syncFromKept() : found;
     if (answer.type === "sync") return this.#settle();
@@ -81,10 +89,19 @@ export class Match {
     return this.#sync(null, null);
   }
 
-  #sync(seat, key) {
+  async #sync(seat, key) {
     [this.#seat, this.#key] = [seat, key];
-    this.#view = new View({ match: this.#match, seat, key });
-    return this.#connection.ask(this.#view.begin());
+    const program = isKnown(this.#gameName) ? await this.#program : null;
+    const view = new View({ match: this.#match, seat, key, game: this.#gameName, program, drawn: () => this.#redraw(view) });
+    this.#view = view;
+    const line = await view.begin();
+    if (this.#view !== view) throw new Cut();
+    return this.#connection.ask(line);
+  }
+
+  /** What is guessed was drawn anew. */
+  #redraw(view) {
+    if (this.#view === view && view.shown) this.#show(view.shown);
   }
 
   /** Asks who sits where, since nobody is told. */
@@ -95,14 +112,15 @@ export class Match {
     this.#row = answer.row;
     if (this.#gameName !== answer.row.game) this.#layGame(answer.row.game);
     this.#draw();
+    this.#takeWanted();
     return answer;
   }
 
   #heard(line, text) {
     if (line.type === "bye") this.#say(lines.inWords(line));
     if (!this.#view || !STREAM.includes(line.type)) return;
-    const shown = this.#view.hear(text);
-    if (shown) this.#show(shown);
+    const settled = this.#view.hear(text);
+    if (settled) this.#show(this.#view.shown);
     else if (line.type === "update") this.connect();
     if (line.type === "update" && this.#row?.players[line.entry.seat]?.name === null) this.#guard(() => this.#look());
   }
@@ -114,34 +132,58 @@ export class Match {
     this.#draw();
   }
 
-  /** After a cut the log says what became of the act that had no verdict yet. */
+  /** After a cut the log says what became of the acts that had no verdict yet. */
   #settle() {
-    if (!this.#acting) return;
-    const { asked, number } = this.#acting;
-    const counted = this.#shown.log.slice(number).some(({ act, seat }) => seat === this.#seat && JSON.stringify(act) === JSON.stringify(asked));
-    this.#acting = null;
-    this.#say(counted ? "The connection broke, but what you did has counted." : "The connection broke before what you did had counted. Choose anew.");
+    const acts = this.#acting.splice(0);
+    if (!acts.length) return;
+    let at = acts[0].number;
+    const log = this.#view.settled.log;
+    const counted = acts.filter(({ asked }) => {
+      const found = log.findIndex(({ act, seat }, place) => place >= at && seat === this.#seat && JSON.stringify(act) === JSON.stringify(asked));
+      if (found >= 0) at = found + 1;
+      return found >= 0;
+    });
+    this.#say(counted.length === acts.length ? "The connection broke, but what you did has counted."
+      : "The connection broke before what you did had counted. Choose anew.");
     this.#draw();
   }
 
   // ---- what the player does
 
+  /** Acts. Where actions are guessed a next one can follow before the server has judged the last. */
   #act(asked) {
-    if (this.#acting) return;
     if (!this.#view?.shown) return this.#say("There is no connection yet, and what you see may be old. Wait a moment.");
-    const line = this.#view.act(asked);
-    if (!line) return;
-    this.#acting = { asked, number: this.#shown.number };
+    if (this.#acting.length >= (this.#view.guesses ? this.#game.ahead : 1)) return;
+    const view = this.#view, act = { asked, number: view.settled.number };
+    if (this.#key === null) return;
+    this.#acting.push(act);
     this.#say("");
-    this.#show(this.#view.shown);
-    this.#draw();
     this.#guard(async () => {
-      const answer = await this.#connection.ask(line);
-      this.#acting = null;
+      const line = await view.act(asked);
+      if (this.#view !== view) return;
+      this.#draw();
+      // A guess that is answered `again` was taken back, so that line isn't sent again.
+      const answer = await this.#connection.ask(line, view.guesses ? 1 : undefined);
+      this.#acting = this.#acting.filter((one) => one !== act);
       if (answer.type !== "ok") this.#say(lines.inWords(answer));
       if (answer.reason === "not-attached") this.connect();
       this.#draw();
     });
+  }
+
+  /** Asks the bot of a seat to leave it, and takes the seat once it is free. */
+  #askFor(seat, name) {
+    this.#request(lines.takeover(this.#match, seat), () => {
+      this.#wanted = { seat, name };
+      this.#say("The bot of that seat was asked to leave it. You get the seat as soon as it is free.");
+    });
+  }
+
+  #takeWanted() {
+    const wanted = this.#wanted;
+    if (!wanted || this.#row.players[wanted.seat]?.name !== null) return;
+    this.#wanted = null;
+    if (this.#seat === null) this.#take(wanted.seat, wanted.name);
   }
 
   #take(seat, name) {
@@ -230,23 +272,31 @@ export class Match {
     const name = (seat) => this.#name(seat);
     const active = activeSeats(ctx);
     const may = active.some((one) => one.seat === this.#seat);
-    const table = { ...this.#shown, before: this.#before, seat: this.#seat, may, seats: ctx.numPlayers, name };
+    const settled = this.#view?.settled ?? this.#shown;
+    const guessed = Math.max(0, number - settled.number);
+    const full = guessed > 0 && this.#acting.length >= this.#game.ahead;
+    const table = { ...this.#shown, before: this.#before, settled, guessed, seat: this.#seat, may: may && !full, seats: ctx.numPlayers, name };
     const p = this.#parts;
     [p.early.hidden, p.all.hidden] = [true, false];
     const end = ending(ctx.gameover, this.#seat, name);
-    setText(p.turn, end ?? [turnWords(ctx, this.#seat, name), may ? this.#game.hint(table) : ""].join(" ").trim());
+    const turn = full ? "Your move is shown already, and on its way to the server."
+      : [turnWords(ctx, this.#seat, name), may ? this.#game.hint(table) : ""].join(" ").trim();
+    setText(p.turn, end ?? turn);
     p.turn.classList.toggle("own", may);
     p.turn.classList.toggle("over", end !== null);
     const stage = active.find((one) => one.seat === this.#seat)?.stage;
     setText(p.details, [`Turn ${ctx.turn}`, ctx.phase && `phase ${ctx.phase}`, stage && `stage ${stage}`,
-      `${number} ${number === 1 ? "action" : "actions"} so far`, this.#seat === null && "you look on"].filter(Boolean).join(" · "));
+      `${number} ${number === 1 ? "action" : "actions"} so far`, guessed > 0 && `${guessed} of them guessed`,
+      this.#seat === null && "you look on"].filter(Boolean).join(" · "));
     this.#board.show(table);
-    p.board.classList.toggle("waits", this.#acting !== null || !this.#view?.shown);
-    this.#drawBack(may);
+    p.board.classList.toggle("guessed", guessed > 0);
+    p.board.classList.toggle("waits", (this.#acting.length > 0 && !guessed) || !this.#view?.shown);
+    this.#drawBack(may && !full);
     const joins = this.#seat === null && end === null && this.#row.players.some((player) => player.name === null);
     p.all.classList.toggle("joins", joins);
-    this.#seats.show({ players: this.#row.players, active, seat: this.#seat, joins });
-    this.#log.show(log, this.#game, name);
+    this.#seats.show({ players: this.#row.players, active, seat: this.#seat, joins, asks: this.#seat === null && end === null });
+    const pending = this.#view ? this.#acting.map(({ asked }) => ({ act: asked, seat: this.#seat })) : [];
+    this.#log.show(log, pending, this.#game, name);
     document.title = `${end ?? (may ? "Your turn" : "Waiting")} · ${this.#game.title}`;
   }
 

@@ -8,7 +8,7 @@ const WHOLE = /^-?\d{1,9}$/;
 export default {
   title: "Blind Bid", glyph: "?", least: 2, most: 8,
   rules: "Seal one bid, 1 to 100. Boast as you like until then. Once all have bid, the greatest bid wins.",
-  undoable: ["boast"],
+  ahead: 16, undoable: ["boast"],
   say: ({ move: name, args }) => name === "boast" ? `boasted ${args[0]}` : args ? `sealed a bid of ${args[0]}` : "sealed a bid",
   hint: () => "Boast, or seal your bid: it is final.",
 

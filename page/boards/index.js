@@ -3,12 +3,14 @@
 // A game here is an object:
 //   title, glyph, rules    for people
 //   least, most            how many seats it takes
+//   ahead                  how many actions of a player may be on their way at once, where they are guessed
 //   undoable               the moves that the game lets be undone, or null if the page doesn't know
 //   say(act)               a move in words, behind the player's name
 //   hint(table)            what the player may do now, in words
 //   make(act)              its board, as { element, show(table) }; `act(asked)` asks the server for an action
 //
-// A table is what there is to show: { g, ctx, log, number } of the snapshot, `before`, the snapshot before this one if it was seen,
+// A table is what there is to show: { g, ctx, log, number } of the snapshot, `settled`, the last one that the server settled, `guessed`, how many
+// actions this one is ahead of it, `before`, the snapshot before this one if it was seen,
 // `seat`, one's own or null, `may`, whether that seat may act, `seats`, how many there are, and `name(seat)`.
 import ticTacToe from "./tic-tac-toe.js";
 import countdown from "./countdown.js";
@@ -27,4 +29,6 @@ const known = {
   "captions": captions,
 };
 
-export const gameNamed = (name) => Object.hasOwn(known, name) ? known[name] : unknown(name);
+/** Whether the page draws a game, and so whether its program plays it. */
+export const isKnown = (name) => Object.hasOwn(known, name);
+export const gameNamed = (name) => ({ ahead: 1, ...(isKnown(name) ? known[name] : unknown(name)) });

@@ -23,12 +23,13 @@ export default {
     arrows(board, () => 3);
     return {
       element: element("div", {}, board, legend),
-      show({ g, name, may }) {
+      show({ g, settled, name, may }) {
         const line = winning(g.cells);
         g.cells.forEach((seat, at) => {
           setText(cells[at], seat === null ? "" : MARKS[seat]);
-          cells[at].className = `cell${seat === null ? "" : ` mark${seat}`}${line.includes(at) ? " wins" : ""}`;
-          cells[at].setAttribute("aria-label", `${PLACES[at]}: ${seat === null ? "free" : SPOKEN[seat]}`);
+          const guess = seat !== settled.g.cells[at];
+          cells[at].className = `cell${seat === null ? "" : ` mark${seat}`}${guess ? " guess" : ""}${line.includes(at) ? " wins" : ""}`;
+          cells[at].setAttribute("aria-label", `${PLACES[at]}: ${seat === null ? "free" : SPOKEN[seat]}${guess ? ", guessed" : ""}`);
           offer(cells[at], may && seat === null);
         });
         setText(legend, `${MARKS[0]} ${name(0)}, ${MARKS[1]} ${name(1)}`);

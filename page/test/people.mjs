@@ -7,8 +7,9 @@ export function same(is, wanted, what) {
   }
 }
 
-/** The address at which a page speaks with a server. */
-export const pageAt = (files, server) => `${files}?server=${encodeURIComponent(server)}`;
+/** The address at which a page speaks with a server, without guesses, and the one with them. */
+export const pageAt = (files, server) => `${guessingAt(files, server)}&guess=no`;
+export const guessingAt = (files, server) => `${files}?server=${encodeURIComponent(server)}`;
 
 /** Makes a match by clicking, and answers its name and its link. */
 export async function makeMatch(page, address, game, seats) {

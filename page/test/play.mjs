@@ -15,9 +15,12 @@ import { pig } from "./pig.mjs";
 import { highHand } from "./high-hand.mjs";
 import { blindBid, captions } from "./sealed.mjs";
 import { cuts, reasons, unknownGame } from "./cuts.mjs";
+import { guesses } from "./guesses.mjs";
 import { phone } from "./phone.mjs";
+import { program } from "./program.mjs";
+import { takeover } from "./takeover.mjs";
 
-const PLAYS = { addresses, lobby, gone, reasons, ticTacToe, countdown, pig, highHand, blindBid, captions, cuts, unknownGame, phone };
+const PLAYS = { addresses, lobby, gone, reasons, ticTacToe, countdown, pig, highHand, blindBid, captions, cuts, unknownGame, program, guesses, takeover, phone };
 const here = (path) => fileURLToPath(new URL(path, import.meta.url));
 
 const words = process.argv.slice(2);
@@ -35,8 +38,9 @@ let failed = 0;
 for (const name of wanted) {
   const begun = Date.now();
   try {
-    await PLAYS[name](scene);
-    console.log(`ok      ${name} (${((Date.now() - begun) / 1_000).toFixed(1)} s)`);
+    const skipped = await PLAYS[name](scene);
+    const took = `${((Date.now() - begun) / 1_000).toFixed(1)} s`;
+    console.log(skipped ? `skipped ${name}: ${skipped}` : `ok      ${name} (${took})`);
   } catch (why) {
     failed++;
     console.log(`FAILED  ${name}\n${why.stack}`);

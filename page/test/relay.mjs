@@ -38,6 +38,8 @@ export async function startRelay(server) {
     onTold: (line) => line,
     /** Whether connections are taken at all, and whether those that are taken hear anything. */
     open: true,
+    /** How many milliseconds a line takes each way. */
+    delay: 0,
     silent: false,
     connections: 0,
     standing: () => sockets.size,
@@ -56,9 +58,10 @@ export async function startRelay(server) {
     const accept = createHash("sha1").update(request.headers["sec-websocket-key"] + MAGIC).digest("base64");
     const upstream = new WebSocket(server);
     const early = [];
+    const slowly = (run) => relay.delay ? setTimeout(run, relay.delay) : run();
     const pass = (line) => upstream.readyState === WebSocket.OPEN ? upstream.send(line) : early.push(line);
     upstream.onopen = () => early.splice(0).forEach((line) => upstream.send(line));
-    upstream.onmessage = ({ data }) => { if (!socket.destroyed) socket.write(frame(relay.onTold(data))); };
+    upstream.onmessage = ({ data }) => slowly(() => { if (!socket.destroyed) socket.write(frame(relay.onTold(data))); });
     upstream.onclose = () => socket.end(frame(Buffer.from([3, 232]), 8));
     let rest = Buffer.alloc(0);
     socket.write(`HTTP/1.1 101 Switching Protocols\r\nUpgrade: websocket\r\nConnection: Upgrade\r\nSec-WebSocket-Accept: ${accept}\r\n\r\n`);
@@ -68,7 +71,7 @@ export async function startRelay(server) {
       read.forEach(([opcode, line]) => {
         if (opcode === 8) return socket.end();
         relay.asked.push(line);
-        relay.onAsked(line, { pass, answer: (said) => socket.write(frame(said)) });
+        slowly(() => relay.onAsked(line, { pass, answer: (said) => slowly(() => socket.write(frame(said))) }));
       });
     });
     const over = () => { sockets.delete(socket); upstream.close(); };

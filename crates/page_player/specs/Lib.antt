@@ -1,0 +1,4 @@
+pub mod PageLines
+pub mod Drawing
+pub mod Page
+pub mod PageLaws
