@@ -135,12 +135,28 @@ impl Alarms {
         drop(numbers);
     }
 
+    /// A place whose alarm stands 64 seconds after this one is looked at then: where nothing was looked at for a while, its list comes too early. An
+    /// alarm for which there is no memory isn't set.
+    fn put_back(&mut self, number: u32, past: u64) {
+        let kept = match self.slots.get_mut((past % 64) as usize) {
+            Some(slot) => slot.push(number).is_ok(),
+            None => false,
+        };
+        if !kept {
+            self.unset(number);
+        }
+    }
+
     /// The turn of a place is due where its alarm is.
     fn look_to(&mut self, number: u32, past: u64, second: u64, agenda: &mut Agenda) {
         let Some(alarm) = self.alarms.get(number as usize).copied() else {
             return;
         };
-        if alarm.at > second || alarm.at % 64 != past % 64 {
+        if alarm.at == NEVER || alarm.at % 64 != past % 64 {
+            return;
+        }
+        if alarm.at > second {
+            self.put_back(number, past);
             return;
         }
         self.unset(number);
