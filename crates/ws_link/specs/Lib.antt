@@ -1,3 +1,4 @@
 pub mod Frames
+pub mod Pages
 pub mod Peers
 pub mod Refusals

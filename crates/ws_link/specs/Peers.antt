@@ -1,14 +1,17 @@
 -- What a call makes of a link's peer where the handshake was made, and the numbers of closes.
-use Rattle.std.specs.Prelude.{◌≡◌, ◌⊎◌, ◌==◌, ℕ, Bool, true, false, List, [], length, Option}
+use Rattle.std.specs.Prelude.{◌≡◌, ◌⊎◌, ◌==◌, ℕ, Bool, true, false, List, [], length, Option, None, Some}
 use Rattle.board_links.specs.declared.link.Came.{Came}
 use Rattle.board_links.specs.declared.link.Out.{Out}
 use Rattle.board_links.specs.declared.link.Out.TheVariants as out
 use Rattle.board_links.specs.declared.link.SessionEnd.{SessionEnd}
 use Rattle.board_links.specs.declared.link.SessionEnd.TheVariants as end
 use Rattle.game_sheet.specs.declared.act.Bye.TheVariants as bye
+use Rattle.page_files.specs.declared.page.Pages.{Pages}
 use Rattle.tungstenite.specs.Socket.{IsFresh, Socket}
 use Rattle.websocket.specs.declared.protocol.config.Role.TheVariants.{Server}
 use Rattle.ws_link.specs.Frames.{HandsOn, Hears, Says}
+use Rattle.ws_link.specs.Pages.{Asks, ReadsOn, answer_by, pages_of}
+use Rattle.ws_link.specs.declared.greeting.Greeting.{Greeting}
 use Rattle.ws_link.specs.declared.ws_link.Peer.{Peer}
 use Rattle.ws_link.specs.declared.ws_link.Peer.TheVariants as peer
 use Rattle.ws_link.specs.declared.ws_link.Rest.{Rest}
@@ -21,10 +24,10 @@ is_done rest.Due = false
 is_done rest.Told = false
 
 module _ {T : Type 0} where
-  -- before its handshake, on this stream
-  abbrev pub waits_for : T → Peer T → Type 0
-  waits_for stream (peer.Greets greeting) = greeting.stream ≡ stream
-  waits_for stream other = ⊥
+  -- before its handshake, on this stream, with these files of the page, if any; nothing came yet
+  abbrev pub waits_for : T → Option Pages → Peer T → Type 0
+  waits_for stream pages (peer.Greets greeting) = (greeting.stream ≡ stream) × (pages_of greeting ≡ pages) × (greeting.head.items ≡ [])
+  waits_for stream pages other = ⊥
 
   abbrev pub IsOpen : Peer T → Type 0
   IsOpen (peer.Open socket) = Unit {0}
@@ -38,6 +41,7 @@ module _ {T : Type 0} where
   -- nothing waits to be sent
   abbrev pub is_clear : Peer T → Bool
   is_clear (peer.Open socket) = length socket.output == 0
+  is_clear (peer.Answers socket) = length socket.output == 0
   is_clear other = true
 
   -- a peer that was open is open still, and this holds of its socket before and after
@@ -45,6 +49,31 @@ module _ {T : Type 0} where
   StaysOpen holds (peer.Open old) (peer.Open new) = holds old new
   StaysOpen holds (peer.Open old) other = ⊥
   StaysOpen holds old new = Unit {0}
+
+  -- the same of a peer that answers with a file of the page
+  abbrev pub KeepsOn : (Socket T → Socket T → Type 0) → Peer T → Peer T → Type 0
+  KeepsOn holds (peer.Answers old) (peer.Answers new) = holds old new
+  KeepsOn holds (peer.Answers old) other = ⊥
+  KeepsOn holds old new = StaysOpen holds old new
+
+  -- What a call made of a peer before its handshake: its head may still come, and what came is held; or it is answered with what the page's files say
+  -- to its head. Of a peer that is answered nothing is heard any more.
+  abbrev pub PageAnswered : (T → Option (List ℕ)) → Peer T → Peer T → Type 0
+  PageAnswered remaining (peer.Greets old) (peer.Greets new) = ReadsOn remaining old new
+  PageAnswered remaining (peer.Greets old) (peer.Answers socket) = Asks remaining old socket.stream (Some socket.output)
+  PageAnswered remaining (peer.Answers socket) new = new ≡ peer.Answers socket
+  PageAnswered remaining old new = Unit {0}
+
+  -- on the stream of a peer whose head has come: it is answered with what the files say to the head, or past its handshake where they say nothing
+  abbrev pub IsMet : Greeting T → List ℕ → Peer T → Type 0
+  IsMet greeting head (peer.Answers socket) = (socket.stream ≡ greeting.stream) × (answer_by (pages_of greeting) head ≡ Some socket.output)
+  IsMet greeting head (peer.Open socket) = (socket.stream ≡ greeting.stream) × (answer_by (pages_of greeting) head ≡ None)
+  IsMet greeting head other = ⊥
+
+  -- the same, and the handshake is made only where the files have no answer to the head
+  abbrev pub HeadMet : (T → Option (List ℕ)) → Peer T → Peer T → Type 0
+  HeadMet remaining (peer.Greets old) (peer.Open socket) = Asks remaining old socket.stream None
+  HeadMet remaining old new = PageAnswered remaining old new
 
   -- what a receive made of a peer past its handshake
   abbrev pub FramesHeard : (T → Option (List ℕ)) → Peer T → Peer T → Came → Type 0
@@ -64,11 +93,11 @@ module _ {T : Type 0} where
   HandedBy contents false s t = t.output ≡ []
 
   abbrev pub FramesHanded : (T → Option (List ℕ)) → Peer T → Peer T → Bool → Type 0
-  FramesHanded contents old new is_well = StaysOpen (HandedBy contents is_well) old new
+  FramesHanded contents old new is_well = KeepsOn (HandedBy contents is_well) old new
 
   -- what a flush made of one: it was handed on so, or the stream failed, nothing waits any more, and the next receive fails
   abbrev pub FramesFlushed : (T → Option (List ℕ)) → Peer T → Peer T → Bool → Type 0
-  FramesFlushed contents old new broken = StaysOpen (λ s t. HandsOn contents s t ⊎ ((broken ≡ true) × (t.output ≡ []))) old new
+  FramesFlushed contents old new broken = KeepsOn (λ s t. HandsOn contents s t ⊎ ((broken ≡ true) × (t.output ≡ []))) old new
 
 -- the code of the close that ends a session
 abbrev pub close_number : SessionEnd → ℕ

@@ -1,14 +1,18 @@
 //! The handshake of a WebSocket, as far as its head has come.
 
-ghost use Rattle.std.specs.Prelude.{◌≡◌, [], IfOk};
+ghost use Rattle.std.specs.Prelude.{◌≡◌, ◌≤◌, [], IfOk, None, MatchOption, length, take};
+ghost use Rattle.memchr.specs.Find.{FindsNeedle};
 ghost use Rattle.tungstenite.specs.Socket.{IsFresh};
 ghost use Rattle.websocket.specs.declared.protocol.config.Role.TheVariants.{Server};
+ghost use Rattle.ws_link.specs.Pages.{IsHead, ReadsFor, answer_by, head_end, pages_of};
 
 use crate::framing::Framing;
 use game_sheet::{NoMemory, Text};
-use memchr::memchr;
+use memchr::{memchr, memmem};
+use page_files::Pages;
 use poll_links::Outgoing;
 use std::alloc::{AllocError, Global};
+use std::io;
 use std::io::{Cursor, ErrorKind, Read, Write};
 use std::sync::Arc;
 use tungstenite::{Duplex, Error, HandshakeError, accept};
@@ -36,6 +40,8 @@ pub(crate) enum Halt {
     Wait,
     /// The stream failed or ended, the head is too long, it asks for no WebSocket, or it names another origin than is taken.
     Failed,
+    /// The head asked for a file of the page, whose answer waits to be sent.
+    Answered,
     /// There was no memory.
     NoMemory,
 }
@@ -59,24 +65,29 @@ pub struct Greeting<T> {
     stream: T,
     /// The only origin that is taken, if there is one.
     origin: Option<Arc<Text, Global>>,
+    /// The files that a head may ask for in place of a WebSocket, if there are some.
+    pages: Option<Arc<Pages, Global>>,
+    /// What came, of which the head is the first part.
     head: Vec<u8>,
-    /// How many bytes were searched for the head's end, and how much of that stands at the end of them.
-    searched: usize,
-    seen: u8,
 }
 
 impl<T> Greeting<T> {
-    /// Nothing came yet. A head that names an origin has to name this one, where one is said.
-    pub(crate) fn new(alloc: Global, stream: T, origin: Option<Arc<Text, Global>>) -> Greeting<T>
-        ensures { result.stream ≡ stream }
+    /// Nothing came yet. A head that names an origin has to name this one, where one is said, and one that asks for no WebSocket is answered by
+    /// these pages, where there are some.
+    pub(crate) fn new(
+        alloc: Global,
+        stream: T,
+        origin: Option<Arc<Text, Global>>,
+        pages: Option<Arc<Pages, Global>>,
+    ) -> Greeting<T>
+        ensures { (result.stream ≡ stream) × (result.pages ≡ pages) × (result.head.items ≡ []) }
     {
         Greeting {
             alloc,
             stream,
             origin,
+            pages,
             head: Vec::new(alloc),
-            searched: 0,
-            seen: 0,
         }
     }
 
@@ -89,49 +100,47 @@ impl<T> Greeting<T> {
     pub(crate) fn stream_mut(&mut self) -> &mut T {
         &mut self.stream
     }
-
-    /// Whether the head has come whole. Then `searched` bytes are the head.
-    fn is_whole(&mut self) -> bool {
-        for at in self.searched..self.head.len() {
-            if self.seen >= 4 {
-                return true;
-            }
-            if let Some(byte) = self.head.get(at).copied() {
-                self.seen = seen_after(self.seen, byte);
-            }
-            self.searched = at + 1;
-        }
-        self.seen >= 4
-    }
 }
 
-/// How much of the head's end stands at the end of the bytes, after one more; 4 once it has passed.
-fn seen_after(seen: u8, byte: u8) -> u8 {
-    match HEAD_END.get(seen as usize) {
-        None => seen,
-        Some(next) if *next == byte => seen + 1,
-        Some(_) if byte == b'\r' => 1,
-        Some(_) => 0,
+/// How many bytes the head has that these bytes begin with, where it has come whole.
+fn head_length(bytes: &[u8]) -> Option<usize>
+    ensures { MatchOption result (FindsNeedle bytes.now head_end 0 None) (IsHead bytes.now) }
+{
+    match memmem::find(bytes, &HEAD_END) {
+        Some(at) => Some(at + 4),
+        None => None,
     }
 }
 
 impl<T: Read + Write + Drop> Greeting<T> {
-    /// Reads what the stream has, and says whether the head has come whole. `Wait` where it may still come.
-    pub(crate) fn read_head(&mut self) -> Result<(), Halt> {
+    /// Reads what the stream has, and says how many bytes the head has once it has come whole. `Wait` where it may still come. A peer that sends it
+    /// byte by byte has each of them searched anew, which is work for at most 8,192 small packets.
+    pub(crate) fn read_head(&mut self) -> Result<usize, Halt>
+        ensures reads { ReadsFor T.remaining self.old self.new result }
+        ensures head { IfOk result (IsHead self.new.head.items) }
+    {
         for _ in 0..HEAD {
-            if self.is_whole() && self.searched <= HEAD {
-                return Ok(());
+            if let Some(count) = head_length(self.head.as_slice()) {
+                return if count <= HEAD {
+                    Ok(count)
+                } else {
+                    Err(Halt::Failed)
+                };
             }
             if self.head.len() >= HEAD {
                 return Err(Halt::Failed);
             }
-            self.read()?;
+            if let Err(halt) = self.read() {
+                return Err(halt);
+            }
         }
         Err(Halt::Failed)
     }
 
     /// Reads once.
-    fn read(&mut self) -> Result<(), Halt> {
+    fn read(&mut self) -> Result<(), Halt>
+        ensures { ReadsFor T.remaining self.old self.new result }
+    {
         let mut room = [0u8; ROOM];
         match self.stream.read(&mut room) {
             Ok(0) => Err(Halt::Failed),
@@ -139,29 +148,52 @@ impl<T: Read + Write + Drop> Greeting<T> {
                 Ok(()) => Ok(()),
                 Err(_) => Err(Halt::NoMemory),
             },
-            Err(error) => match error.kind() {
-                ErrorKind::WouldBlock | ErrorKind::Interrupted => Err(Halt::Wait),
-                ErrorKind::OutOfMemory => Err(Halt::NoMemory),
-                _ => Err(Halt::Failed),
-            },
+            Err(error) => Err(halt_of(&error)),
         }
     }
 
-    /// The WebSocket that a whole head asks for; the answer to the head waits to be sent, and what came behind the head is the first of its bytes. A
+    /// What the pages answer to a head of so many bytes; nothing where it asks for a WebSocket, or there are no pages.
+    pub(crate) fn page(&self, count: usize) -> Result<Option<Outgoing>, Halt>
+        requires { count ≤ length self.now.head.items }
+        ensures { IfOk result (λ answer. answer ≡ answer_by (pages_of self.now) (take count self.now.head.items)) }
+    {
+        let Some(pages) = &self.pages else {
+            return Ok(None);
+        };
+        match pages.answer_to(&self.head.as_slice()[..count]) {
+            Some(answer) => Ok(Some(waiting(self.alloc, answer)?)),
+            None => Ok(None),
+        }
+    }
+
+    /// Its stream with an answer that waits to be sent, after which nothing is heard.
+    pub(crate) fn answering(self, output: Outgoing) -> Framing<T>
+        ensures { (result.stream ≡ self.stream) × (result.output ≡ output) }
+    {
+        let Greeting {
+            alloc,
+            stream,
+            origin: _,
+            pages: _,
+            head: _,
+        } = self;
+        Framing::begun(alloc, stream, Vec::new(alloc), output)
+    }
+
+    /// The WebSocket that a head of so many bytes asks for; the answer to the head waits to be sent, and what came behind the head is the first of its bytes. A
     /// head that names another origin than is taken is answered so.
-    pub(crate) fn open(self) -> Result<Framing<T>, Halt>
+    pub(crate) fn open(self, count: usize) -> Result<Framing<T>, Halt>
         ensures { IfOk result (λ f. IsFresh (record f { input = []; output = [] }) self.stream Server) }
     {
         let Greeting {
             alloc,
             mut stream,
             origin,
+            pages: _,
             mut head,
-            searched,
-            seen: _,
         } = self;
-        let rest = Vec::from_slice(alloc, head.get(searched..).unwrap_or(&[]))?;
-        head.truncate(searched);
+        let rest = Vec::from_slice(alloc, head.get(count..).unwrap_or(&[]))?;
+        head.truncate(count);
         if let Some(origin) = &origin {
             if names_another(head.as_slice(), origin.as_str().as_bytes()) {
                 // A peer that doesn't take it has nothing to be told.
@@ -173,6 +205,24 @@ impl<T: Read + Write + Drop> Greeting<T> {
         let mut output = Outgoing::new(alloc);
         output.push(answer.as_slice())?;
         Ok(Framing::begun(alloc, stream, rest, output))
+    }
+}
+
+/// An answer that waits to be sent.
+fn waiting(alloc: Global, answer: &[u8]) -> Result<Outgoing, NoMemory>
+    ensures { IfOk result (λ output. output ≡ answer.now) }
+{
+    let mut output = Outgoing::new(alloc);
+    output.push(answer)?;
+    Ok(output)
+}
+
+/// Why nothing was read where the stream refuses.
+fn halt_of(error: &io::Error) -> Halt {
+    match error.kind() {
+        ErrorKind::WouldBlock | ErrorKind::Interrupted => Halt::Wait,
+        ErrorKind::OutOfMemory => Halt::NoMemory,
+        _ => Halt::Failed,
     }
 }
 

@@ -16,26 +16,42 @@ use std::time::Instant;
 /// How many seconds a peer has for its handshake.
 const GREETING: u32 = 10;
 
-/// A stream over a TCP socket that never waits. Until something was written to it, which is the answer to a handshake, its reads fail where 10 seconds
-/// have passed.
+/// How many seconds a peer that asks for a file of the page has for its head and the whole answer.
+const ANSWER: u32 = 60;
+
+/// How the answer begins by which a handshake is made.
+const SWITCHING: &[u8] = b"HTTP/1.1 101 ";
+
+/// A stream over a TCP socket that never waits. Until the answer was written to it that makes the handshake, its reads fail where 10 seconds have
+/// passed, and its writes where 60 have: so a peer that takes a file of the page little by little holds no place for good.
 #[derive(Drop)]
 pub struct HeadStream<C> {
     stream: PollStream<C>,
+    /// Since when the handshake is waited for.
     since: Option<Instant>,
+    /// Whether something was written.
+    answered: bool,
 }
 
 impl<C: Clock + Drop> HeadStream<C> {
     /// Over this stream, to which nothing was written.
     pub fn over(stream: PollStream<C>) -> HeadStream<C> {
         let since = stream.now();
-        HeadStream { stream, since }
+        HeadStream {
+            stream,
+            since,
+            answered: false,
+        }
     }
 
-    /// Whether the handshake has taken too long.
-    fn is_late(&self) -> bool {
-        match (self.since, self.stream.now()) {
-            (Some(since), Some(now)) => now.duration_since(since).as_secs() >= u64::from(GREETING),
-            _ => false,
+    /// Whether the handshake is waited for, and so many seconds have passed.
+    fn is_late(&self, limit: u32) -> bool {
+        let Some(since) = self.since else {
+            return false;
+        };
+        match self.stream.now() {
+            Some(now) => now.duration_since(since).as_secs() >= u64::from(limit),
+            None => false,
         }
     }
 
@@ -53,7 +69,7 @@ impl<C: Clock + Drop> HeadStream<C> {
 impl<C: Clock + Drop> Read for HeadStream<C> {
     fn read(&mut self, buf: &mut [u8]) -> io::Result<usize> {
         match self.stream.read(buf) {
-            Err(error) if error.kind() == ErrorKind::WouldBlock && self.is_late() => {
+            Err(error) if error.kind() == ErrorKind::WouldBlock && self.is_late(GREETING) => {
                 Err(io::Error::from(ErrorKind::TimedOut))
             }
             answer => answer,
@@ -63,7 +79,13 @@ impl<C: Clock + Drop> Read for HeadStream<C> {
 
 impl<C: Clock + Drop> Write for HeadStream<C> {
     fn write(&mut self, buf: &[u8]) -> io::Result<usize> {
-        self.since = None;
+        if !self.answered && buf.starts_with(SWITCHING) {
+            self.since = None;
+        }
+        self.answered = true;
+        if self.is_late(ANSWER) {
+            return Err(io::Error::from(ErrorKind::TimedOut));
+        }
         self.stream.write(buf)
     }
 

@@ -5,6 +5,7 @@ ghost use Rattle.std.specs.Prelude.{◌≡◌, ◌+◌, ◌≤◌, ◌||◌, IsS
 use crate::ws_link::WsLink;
 use board_links::{Door, SessionEnd, Visit};
 use game_sheet::{NoMemory, Text};
+use page_files::Pages;
 use std::alloc::Global;
 use std::io::{Read, Write};
 use std::sync::{Arc, Wait};
@@ -45,6 +46,8 @@ pub struct WsDoor<D> {
     door: D,
     /// The only origin of a page that is taken, if there is one.
     origin: Option<Arc<Text, Global>>,
+    /// The files that are handed out to browsers, if there are some.
+    pages: Option<Arc<Pages, Global>>,
     out: u64,
 }
 
@@ -70,10 +73,28 @@ impl<D: StreamDoor> WsDoor<D> {
         ensures faults { ⟦<WsDoor<D> as Door>⟧.faults result ≡ D.faults door }
         ensures left { ⟦<WsDoor<D> as Door>⟧.left result ≡ D.left door }
     {
+        WsDoor::with_pages(alloc, door, origin, None)
+    }
+
+    /// The same, where a head that asks for no WebSocket is answered by these pages, if there are some.
+    pub fn with_pages(
+        alloc: Global,
+        door: D,
+        origin: Option<Arc<Text, Global>>,
+        pages: Option<Arc<Pages, Global>>,
+    ) -> WsDoor<D>
+        ensures given { ⟦<WsDoor<D> as Door>⟧.given result ≡ D.given door }
+        ensures out { ⟦<WsDoor<D> as Door>⟧.out result ≡ 0 }
+        ensures bots_out { ⟦<WsDoor<D> as Door>⟧.bots_out result ≡ 0 }
+        ensures shut { ⟦<WsDoor<D> as Door>⟧.shut result ≡ D.shut door }
+        ensures faults { ⟦<WsDoor<D> as Door>⟧.faults result ≡ D.faults door }
+        ensures left { ⟦<WsDoor<D> as Door>⟧.left result ≡ D.left door }
+    {
         WsDoor {
             alloc,
             door,
             origin,
+            pages,
             out: 0,
         }
     }
@@ -82,6 +103,14 @@ impl<D: StreamDoor> WsDoor<D> {
     fn origin(&self) -> Result<Option<Arc<Text, Global>>, NoMemory> {
         match &self.origin {
             Some(origin) => Ok(Some(Arc::try_clone(origin)?)),
+            None => Ok(None),
+        }
+    }
+
+    /// The files, for one more link.
+    fn pages(&self) -> Result<Option<Arc<Pages, Global>>, NoMemory> {
+        match &self.pages {
+            Some(pages) => Ok(Some(Arc::try_clone(pages)?)),
             None => Ok(None),
         }
     }
@@ -111,10 +140,13 @@ impl<D: StreamDoor> Door for WsDoor<D> {
         let Ok(origin) = self.origin() else {
             return Visit::NoMemory;
         };
+        let Ok(pages) = self.pages() else {
+            return Visit::NoMemory;
+        };
         match self.door.accept(rt) {
             Visit::Came(stream) => {
                 self.out += 1;
-                Visit::Came(WsLink::greet_from(self.alloc, stream, origin))
+                Visit::Came(WsLink::greet_with(self.alloc, stream, origin, pages))
             }
             Visit::Quiet => Visit::Quiet,
             Visit::Shut => Visit::Shut,

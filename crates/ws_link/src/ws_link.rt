@@ -1,16 +1,18 @@
 //! A link over a WebSocket.
 
-ghost use Rattle.std.specs.Prelude.{◌≡◌, ◌≤◌, ◌&&◌, None, true, IsOk};
+ghost use Rattle.std.specs.Arc.{arc_value};
+ghost use Rattle.std.specs.Prelude.{◌≡◌, ◌≤◌, ◌&&◌, None, Some, true, IfOk, IsOk, length, option_map, take};
 ghost use Rattle.board_links.specs.Answers.{CameRaises, IsWithin, OutRaises, stage_after};
 ghost use Rattle.board_links.specs.Faults.{HasRisen};
 ghost use Rattle.board_links.specs.declared.link.Stage.TheVariants as at;
-ghost use Rattle.ws_link.specs.Peers.{FramesFlushed, FramesHanded, FramesHeard, FramesSaid, IsOpen, IsRaw, close_number, is_clear, is_done, waits_for};
+ghost use Rattle.ws_link.specs.Peers.{FramesFlushed, FramesHanded, FramesHeard, FramesSaid, HeadMet, IsMet, IsOpen, IsRaw, PageAnswered, close_number, is_clear, is_done, waits_for};
 ghost use Rattle.tungstenite.specs.CloseCode.{close_code_number};
 
 use crate::framing::{Framing, LINE, Slip};
 use crate::greeting::{Greeting, Halt};
 use board_links::{Came, Link, Out, SessionEnd, Stage};
 use game_sheet::{Bye, MatchName, Seat, Text};
+use page_files::Pages;
 use std::alloc::Global;
 use std::io::{Read, Write};
 use std::mem;
@@ -24,6 +26,8 @@ pub enum Peer<T> {
     Greets(Greeting<T>),
     /// The handshake was made.
     Open(Framing<T>),
+    /// The head asked for a file of the page, whose answer waits to be sent. Nothing is heard any more.
+    Answers(Framing<T>),
     /// The handshake failed, or the session is over: the stream was let go.
     Gone,
 }
@@ -68,7 +72,7 @@ impl<T: Read + Write + Drop> WsLink<T> {
         ensures faults { ⟦<WsLink<T> as Link>⟧.faults result ≡ 0 }
         ensures stage { ⟦<WsLink<T> as Link>⟧.stage result ≡ at.Open }
         ensures finished { ⟦<WsLink<T> as Link>⟧.finished result ≡ None }
-        ensures waits { waits_for stream result.peer }
+        ensures waits { waits_for stream None result.peer }
     {
         WsLink::greet_from(alloc, stream, None)
     }
@@ -78,9 +82,24 @@ impl<T: Read + Write + Drop> WsLink<T> {
         ensures faults { ⟦<WsLink<T> as Link>⟧.faults result ≡ 0 }
         ensures stage { ⟦<WsLink<T> as Link>⟧.stage result ≡ at.Open }
         ensures finished { ⟦<WsLink<T> as Link>⟧.finished result ≡ None }
-        ensures waits { waits_for stream result.peer }
+        ensures waits { waits_for stream None result.peer }
     {
-        WsLink::with(Peer::Greets(Greeting::new(alloc, stream, origin)))
+        WsLink::greet_with(alloc, stream, origin, None)
+    }
+
+    /// The same, where a head that asks for no WebSocket is answered by these pages, if there are some.
+    pub fn greet_with(
+        alloc: Global,
+        stream: T,
+        origin: Option<Arc<Text, Global>>,
+        pages: Option<Arc<Pages, Global>>,
+    ) -> WsLink<T>
+        ensures faults { ⟦<WsLink<T> as Link>⟧.faults result ≡ 0 }
+        ensures stage { ⟦<WsLink<T> as Link>⟧.stage result ≡ at.Open }
+        ensures finished { ⟦<WsLink<T> as Link>⟧.finished result ≡ None }
+        ensures waits { waits_for stream (option_map arc_value pages) result.peer }
+    {
+        WsLink::with(Peer::Greets(Greeting::new(alloc, stream, origin, pages)))
     }
 
     fn with(peer: Peer<T>) -> WsLink<T>
@@ -100,7 +119,7 @@ impl<T: Read + Write + Drop> WsLink<T> {
     pub(crate) fn stream(&self) -> Option<&T> {
         match &self.peer {
             Peer::Greets(greeting) => Some(greeting.stream()),
-            Peer::Open(framing) => Some(framing.stream()),
+            Peer::Open(framing) | Peer::Answers(framing) => Some(framing.stream()),
             Peer::Gone => None,
         }
     }
@@ -124,6 +143,7 @@ impl<T: Read + Write + Drop> WsLink<T> {
     /// The next line.
     fn come(&mut self) -> Came
         ensures frames { FramesHeard T.remaining self.old.peer self.new.peer result }
+        ensures page { PageAnswered T.remaining self.old.peer self.new.peer }
         ensures within { IsWithin 65536 result }
         ensures same { self.new ≡ record self.old { peer = self.new.peer; rest = self.new.rest } }
     {
@@ -134,14 +154,15 @@ impl<T: Read + Write + Drop> WsLink<T> {
     }
 }
 
-/// Makes the handshake where it wasn't made and the head has come.
+/// Makes the handshake where it wasn't made and the head has come. A head that asks for a file of the page is answered so instead.
 fn greeted<T: Read + Write + Drop>(peer: &mut Peer<T>) -> Result<(), Halt>
     ensures open { IsOpen peer.old → IsOk result }
     ensures same { IsOpen peer.old → peer.new ≡ peer.old }
+    ensures met { HeadMet T.remaining peer.old peer.new }
 {
-    match peer {
+    let count = match peer {
         Peer::Greets(greeting) => match greeting.read_head() {
-            Ok(()) => {}
+            Ok(count) => count,
             Err(Halt::Wait) => return Err(Halt::Wait),
             Err(halt) => {
                 *peer = Peer::Gone;
@@ -149,23 +170,40 @@ fn greeted<T: Read + Write + Drop>(peer: &mut Peer<T>) -> Result<(), Halt>
             }
         },
         Peer::Open(_) => return Ok(()),
+        Peer::Answers(_) => return Err(Halt::Answered),
         Peer::Gone => return Err(Halt::Failed),
-    }
+    };
     let Peer::Greets(greeting) = mem::replace(peer, Peer::Gone) else {
         return Err(Halt::Failed);
     };
-    *peer = Peer::Open(greeting.open()?);
-    Ok(())
+    *peer = met(greeting, count)?;
+    match peer {
+        Peer::Open(_) => Ok(()),
+        _ => Err(Halt::Answered),
+    }
+}
+
+/// A peer whose head of so many bytes has come: answered with a file of the page, or past its handshake.
+fn met<T: Read + Write + Drop>(greeting: Greeting<T>, count: usize) -> Result<Peer<T>, Halt>
+    requires { count ≤ length greeting.head.items }
+    ensures { IfOk result (IsMet greeting (take count greeting.head.items)) }
+{
+    match greeting.page(count)? {
+        Some(answer) => Ok(Peer::Answers(greeting.answering(answer))),
+        None => Ok(Peer::Open(greeting.open(count)?)),
+    }
 }
 
 /// The next line of a peer. Whether the stream may have more though none is told is `rest` then.
 fn come<T: Read + Write + Drop>(peer: &mut Peer<T>, rest: &mut Rest) -> Came
     ensures frames { FramesHeard T.remaining peer.old peer.new result }
+    ensures page { PageAnswered T.remaining peer.old peer.new }
     ensures within { IsWithin 65536 result }
 {
     match greeted(peer) {
         Ok(()) => {}
         Err(Halt::Wait) => return Came::Quiet,
+        Err(Halt::Answered) => return Came::Ended,
         Err(Halt::NoMemory) => return Came::NoMemory,
         Err(Halt::Failed) => return Came::Failed,
     }
@@ -184,6 +222,7 @@ fn come<T: Read + Write + Drop>(peer: &mut Peer<T>, rest: &mut Rest) -> Came
 /// Lets whole lines wait for a peer.
 fn put<T: Read + Write + Drop>(peer: &mut Peer<T>, bytes: &[u8]) -> Out
     ensures frames { FramesSaid peer.old peer.new bytes.now result }
+    ensures page { PageAnswered T.remaining peer.old peer.new }
 {
     match greeted(peer) {
         Ok(()) => {}
@@ -206,6 +245,7 @@ fn handed<T: Read + Write + Drop>(peer: &mut Peer<T>) -> bool
 {
     match peer {
         Peer::Open(framing) => framing.hand_on(),
+        Peer::Answers(framing) => framing.hand_on(),
         _ => true,
     }
 }
@@ -215,7 +255,7 @@ fn clear<T>(peer: &Peer<T>) -> bool
     ensures { result ≡ is_clear peer.now }
 {
     match peer {
-        Peer::Open(framing) => framing.is_clear(),
+        Peer::Open(framing) | Peer::Answers(framing) => framing.is_clear(),
         _ => true,
     }
 }
@@ -261,6 +301,7 @@ impl<T: Read + Write + Drop> Link for WsLink<T> {
         ensures within { IsWithin 65536 result }
         ensures finished { self.new.finished ≡ self.old.finished }
         ensures frames { FramesHeard T.remaining self.old.peer self.new.peer result }
+        ensures page { PageAnswered T.remaining self.old.peer self.new.peer }
     {
         let came = self.come();
         match &came {
@@ -282,6 +323,7 @@ impl<T: Read + Write + Drop> Link for WsLink<T> {
         ensures stage { self.new.stage ≡ self.old.stage }
         ensures finished { self.new.finished ≡ self.old.finished }
         ensures frames { FramesSaid self.old.peer self.new.peer bytes.now result }
+        ensures page { PageAnswered T.remaining self.old.peer self.new.peer }
     {
         if self.broken {
             self.fail();

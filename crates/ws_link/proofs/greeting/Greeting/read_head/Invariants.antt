@@ -1,0 +1,5 @@
+use Rattle.ws_link.specs.Pages.{ReadsOn}
+use Rattle.ws_link.proofs.greeting.Greeting.read_head.Given as goal
+
+abbrev pub invariant-loop : goal.invariant-loop
+invariant-loop g l = ReadsOn g.T.Read.remaining l.fn.self l.self
