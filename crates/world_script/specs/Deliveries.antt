@@ -7,6 +7,7 @@ use Rattle.any_game.specs.declared.any_g.AnyG.{AnyG}
 use Rattle.client_world.specs.Reading.{world_step_of}
 use Rattle.room_history.specs.Alike.{AreAlike}
 use Rattle.room_history.specs.Room.{session}
+use Rattle.room_history.specs.Sent.{IsToldOf}
 use Rattle.room_history.specs.Session.{Session}
 use Rattle.hall_history.specs.Mark.{Mark}
 use Rattle.hall_history.specs.Rooms.{History, history_of}
@@ -31,11 +32,12 @@ world_room_after marks lines room = history_of (runs_world named any_rules hall_
 unfoldable pub delivered_for : List Mark → List (List ℕ) → ℕ → ℕ → ℕ → List ℕ
 delivered_for marks lines room pass j = delivered named any_rules hall_tape pass room j marks (steps_of world_step_of lines) first_world
 
--- for each session the lines that it is sent go on its client's down link, and they are those that any session alike is sent, whatever
--- else its room's history holds
+-- For each session the lines that it is sent go on its client's down link. They are a first part of its stream, and those that any session
+-- alike is sent, whatever else its room's history holds.
 pub record DeliversLines (marks : List Mark) (lines : List (List ℕ)) : Type 0 where
   pub sent : (room pass j : ℕ) (s : Session) → session any_rules room (world_room_after marks lines room) pass j ≡ Some s
       → delivered_for marks lines room pass j ≡ concat s.sent
+  pub told : (room pass j : ℕ) (s : Session) → session any_rules room (world_room_after marks lines room) pass j ≡ Some s → IsToldOf s
   pub alike : (room pass j : ℕ) (s : Session) → session any_rules room (world_room_after marks lines room) pass j ≡ Some s
       → (other_room : ℕ) (h : History GameKind) (other i : ℕ) (t : Session) → session any_rules other_room h other i ≡ Some t → AreAlike s t
       → delivered_for marks lines room pass j ≡ concat t.sent

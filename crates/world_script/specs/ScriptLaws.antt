@@ -1,6 +1,7 @@
 -- A script's steps are run one by one.
 use Rattle.std.proofs.Common.{ℕ, List, refl, sym}
 use Rattle.any_game.specs.AnyRules.{any_rules, named}
+use Rattle.room_history.proofs.Clauses.{are_told}
 use Rattle.hall_history.specs.Mark.{Mark}
 use Rattle.hall_history.specs.Tapes.{hall_tape}
 use Rattle.hall_history.proofs.Clauses.{all_handed, alike_handed}
@@ -14,6 +15,7 @@ tells : (marks : List Mark) (lines : List (List ℕ)) → TellsSessions marks li
 unfolding printed_for room_after
 tells marks lines = record {
   sent = λ room pass j s e. sym (all_handed any_rules named hall_tape rooms_of_script marks (steps_of step_of lines) pass room j s e);
+  told = λ room pass j s e. are_told any_rules room (room_after marks lines room) pass j s e;
   alike = λ room pass j s e other_room h other i t f a.
       alike_handed any_rules any_rules named hall_tape rooms_of_script marks (steps_of step_of lines) pass room j s e other_room h other i t f a;
 }

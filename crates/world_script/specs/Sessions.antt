@@ -5,6 +5,7 @@ use Rattle.any_game.specs.AnyRules.{any_rules, named}
 use Rattle.any_game.specs.GameKind.{GameKind}
 use Rattle.room_history.specs.Alike.{AreAlike}
 use Rattle.room_history.specs.Room.{session}
+use Rattle.room_history.specs.Sent.{IsToldOf}
 use Rattle.room_history.specs.Session.{Session}
 use Rattle.hall_history.specs.Hall.{new_hall}
 use Rattle.hall_history.specs.Mark.{Mark}
@@ -27,11 +28,12 @@ room_after marks lines room = history_of (script_hall named any_rules hall_tape 
 unfoldable pub printed_for : List Mark → List (List ℕ) → ℕ → ℕ → ℕ → List ℕ
 printed_for marks lines room pass j = handed_out named any_rules hall_tape pass room j marks (steps_of step_of lines) (new_hall rooms_of_script)
 
--- for each session the lines that it is sent are printed, and they are those that any session alike is sent, whatever else its room's
--- history holds
+-- For each session the lines that it is sent are printed. They are a first part of its stream, and those that any session alike is sent,
+-- whatever else its room's history holds.
 pub record TellsSessions (marks : List Mark) (lines : List (List ℕ)) : Type 0 where
   pub sent : (room pass j : ℕ) (s : Session) → session any_rules room (room_after marks lines room) pass j ≡ Some s
       → printed_for marks lines room pass j ≡ concat s.sent
+  pub told : (room pass j : ℕ) (s : Session) → session any_rules room (room_after marks lines room) pass j ≡ Some s → IsToldOf s
   pub alike : (room pass j : ℕ) (s : Session) → session any_rules room (room_after marks lines room) pass j ≡ Some s
       → (other_room : ℕ) (h : History GameKind) (other i : ℕ) (t : Session) → session any_rules other_room h other i ≡ Some t → AreAlike s t
       → printed_for marks lines room pass j ≡ concat t.sent

@@ -3,7 +3,7 @@ use Rattle.std.proofs.Common.{ℕ, List, refl, sym, ap, ◌∙◌}
 use Rattle.std.specs.List.{concat}
 use Rattle.any_game.specs.AnyRules.{any_rules, named}
 use Rattle.client_world.specs.Reading.{world_step_of}
-use Rattle.room_history.proofs.Clauses.{are_sent_alike}
+use Rattle.room_history.proofs.Clauses.{are_sent_alike, are_told}
 use Rattle.hall_history.specs.Mark.{Mark}
 use Rattle.hall_history.specs.Tapes.{hall_tape}
 use Rattle.world_history.proofs.Delivering.{all_delivered}
@@ -16,6 +16,7 @@ delivers : (marks : List Mark) (lines : List (List ℕ)) → DeliversLines marks
 unfolding delivered_for world_room_after
 delivers marks lines = record {
   sent = λ room pass j s e. sym (all_delivered any_rules named hall_tape rooms_of_world marks (steps_of world_step_of lines) pass room j s e);
+  told = λ room pass j s e. are_told any_rules room (world_room_after marks lines room) pass j s e;
   alike = λ room pass j s e other_room h other i t f a.
       sym (all_delivered any_rules named hall_tape rooms_of_world marks (steps_of world_step_of lines) pass room j s e)
       ∙ ap (λ l. concat l) (are_sent_alike any_rules any_rules room (world_room_after marks lines room) pass j s e other_room h other i t f a);

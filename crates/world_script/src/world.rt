@@ -1,16 +1,15 @@
 //! Runs worlds.
 
-ghost use Rattle.std.specs.Prelude.{◌≡◌, ◌≤◌, ℕ, List, IsSome, OnOk};
+ghost use Rattle.std.specs.Prelude.{◌≡◌, ◌≤◌, IsSome, OnOk};
 ghost use Rattle.any_game.specs.GameKind.{GameKind};
 ghost use Rattle.any_game.specs.declared.any_g.AnyG.{AnyG};
 ghost use Rattle.board_links.specs.Faults.{HasRisen};
 ghost use Rattle.board_links.specs.Pieces.{told_bytes};
 ghost use Rattle.client_world.specs.IsWorld.{IsWorld};
 ghost use Rattle.client_world.specs.Steps.{IsRunnable, step_of};
-ghost use Rattle.hall_history.specs.Mark.{Mark};
 ghost use Rattle.hall_history.specs.Tapes.{hall_tape};
 ghost use Rattle.world_history.specs.World.{World};
-ghost use Rattle.world_script.specs.Converging.{ConvergesIn};
+ghost use Rattle.world_script.specs.Converging.{ConvergesIn, telling};
 ghost use Rattle.line_runner.specs.Play.{Does};
 ghost use Rattle.line_runner.specs.Running.{AreInForm, Ends, ExitRaises, IsComplete};
 ghost use Rattle.world_script.specs.Deliveries.{first_world};
@@ -31,17 +30,16 @@ const ROOMS: u8 = 8;
 /// Runs the world of a source over eight rooms, and prints its transcript into a sink.
 ///
 /// It ends as a script's run does. A client's action for which there is no memory is answered so, and so is a line that arrives at a
-/// session; at any other want of memory the run ends. Whatever the lines are and however they go, the clients that they make see
-/// their matches as `converges` says.
+/// session; at any other want of memory the run ends. However the lines go, `ends` says that the clients that they make see
+/// their matches.
 pub fn run_world<S: Source, K: Sink>(alloc: Global, source: &mut S, sink: &mut K) -> Exit
     ensures source_never_falls { S.faults source.old ≤ S.faults source.new }
     ensures sink_never_falls { K.faults sink.old ≤ K.faults sink.new }
     ensures raises { ExitRaises result (S.faults source.old) (S.faults source.new) (K.faults sink.old) (K.faults sink.new) }
     ensures ends { IsSome (S.left source.old) → IsSome (K.held sink.old)
-        → Ends world_play first_world (told_bytes (S.left source.old)) (told_bytes (S.left source.new)) (told_bytes (K.held sink.old)) (K.held sink.new) result }
+        → Ends (telling world_play ConvergesIn) first_world (told_bytes (S.left source.old)) (told_bytes (S.left source.new)) (told_bytes (K.held sink.old)) (K.held sink.new) result }
     ensures completes { IsSome (S.left source.old) → IsSome (K.held sink.old) → AreInForm world_play (told_bytes (S.left source.old))
         → (HasRisen (S.faults source.old) (S.faults source.new) → ⊥) → (HasRisen (K.faults sink.old) (K.faults sink.new) → ⊥) → IsComplete result }
-    ensures converges { (marks : List Mark) (lines : List (List ℕ)) → ConvergesIn marks lines }
 {
     worlds_of_all_games_converge();
     match ClientWorld::new(alloc, ROOMS, [0; 32]) {
