@@ -4,7 +4,9 @@
 mod bench;
 mod bench_link;
 mod bench_ready;
+mod pace;
 
 pub use bench::{Bench, Seats};
 pub use bench_link::BenchLink;
 pub use bench_ready::BenchReady;
+pub use pace::Pace;
