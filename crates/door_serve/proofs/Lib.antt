@@ -1,3 +1,4 @@
 pub mod Gathering
 pub mod Booking
 pub mod Printing
+pub mod Created

@@ -1,4 +1,4 @@
-//! Serves the links of a door, closes the rooms, and reports.
+//! Makes the match of bots, serves the links of a door, closes the rooms, and reports.
 
 ghost use Rattle.std.specs.Prelude.{◌≡◌, ◌≤◌, ◌<◌, [], All, IfOk, IfSome, IsSome, None, false, length, map, vec_capacity, vec_len};
 ghost use Rattle.board_links.specs.Pieces.{told_bytes};
@@ -9,6 +9,7 @@ ghost use Rattle.session_pool.specs.Sittings.{AreServed};
 ghost use Rattle.door_serve.specs.Ends.{EndsBy, Reports, end_of};
 
 use crate::closing::close_all;
+use crate::opening::open_match;
 use crate::reporting::print_report;
 use any_game::AnyGame;
 use bench_wishes::Wishes;
@@ -98,6 +99,9 @@ fn end_of(end: DoorEnd, printed: Put) -> ServeEnd
 /// shut, has given so many sessions, or fails. Then closes the rooms, and reports. The books come back in the order of the rooms, or none where
 /// there was no memory to set them up.
 ///
+/// A match of `table` is made first, if there is one: of this game, with so many seats, in room 0, by the first place's pass, with words 0 to 7 of
+/// stream 32 of the seed. Without memory for it no link is asked for; after any other reply the serving goes on.
+///
 /// There is a worker or more, and a place for each. The door has given no link, hasn't answered that it is shut, and tells of none that came back.
 /// Place p draws its words from stream p of the seed, one session after another. No link is out when it returns; a door that tells what came back
 /// tells only links that were served at these places.
@@ -107,6 +111,7 @@ pub fn serve_rooms<D: Door + Send, W: Ready<D::L> + Send, K: Sink, R: Threads + 
     rooms: u8,
     places: u16,
     readies: Vec<W>,
+    table: Option<(AnyGame, u8)>,
     sessions: u32,
     door: D,
     sink: &mut K,
@@ -128,10 +133,11 @@ where
 {
     match spare_for(alloc, rooms, places) {
         Ok(spare) => serve_with(
-            rt, alloc, rooms, places, readies, spare, sessions, door, sink, seed,
+            rt, alloc, rooms, places, readies, spare, table, sessions, door, sink, seed,
         ),
         Err(NoMemory) => {
             drop(readies);
+            drop(table);
             (ServeEnd::NoMemory, door, Vec::new(alloc))
         }
     }
@@ -155,6 +161,7 @@ fn serve_with<D: Door + Send, W: Ready<D::L> + Send, K: Sink, R: Threads + Wait 
     places: u16,
     readies: Vec<W>,
     spare: Spare,
+    table: Option<(AnyGame, u8)>,
     sessions: u32,
     door: D,
     sink: &mut K,
@@ -178,10 +185,75 @@ where
     let Ok((bench, bench_passes)) = set_up_bench(alloc, places) else {
         drop(spare);
         drop(readies);
+        drop(table);
         return (ServeEnd::NoMemory, door, Vec::new(alloc));
     };
     match set_up_rooms(alloc, rooms, u32::from(places)) {
-        Ok((desks, rows)) => serve_hall(
+        Ok((desks, rows)) => serve_table(
+            rt,
+            alloc,
+            desks,
+            rows,
+            bench,
+            bench_passes,
+            readies,
+            spare,
+            table,
+            sessions,
+            door,
+            sink,
+            seed,
+        ),
+        Err(NoMemory) => {
+            drop(bench_passes);
+            drop(bench);
+            drop(spare);
+            drop(readies);
+            drop(table);
+            (ServeEnd::NoMemory, door, Vec::new(alloc))
+        }
+    }
+}
+
+/// Makes the match at which bots are to sit, if there is to be one, and serves rooms that were set up.
+fn serve_table<D: Door + Send, W: Ready<D::L> + Send, K: Sink, R: Threads + Wait + Sync>(
+    rt: &R,
+    alloc: Global,
+    desks: Vec<Desk<Book<AnyGame>>>,
+    rows: Vec<Vec<Pass<Book<AnyGame>>>>,
+    bench: Desk<Wishes>,
+    bench_passes: Vec<Pass<Wishes>>,
+    readies: Vec<W>,
+    spare: Spare,
+    table: Option<(AnyGame, u8)>,
+    sessions: u32,
+    door: D,
+    sink: &mut K,
+    seed: [u8; 32],
+) -> (ServeEnd, D, Vec<Book<AnyGame>>)
+where
+    D::L: Send,
+    requires rooms { (0 < spare.rooms) × (spare.rooms ≤ 64) }
+    requires some { 0 < vec_len readies }
+    requires enough { (vec_len readies ≤ spare.places) × (spare.places ≤ 4096) }
+    requires many { (vec_len desks ≡ spare.rooms) × (vec_len rows ≡ spare.places) }
+    requires objects { map (λ d. d.desk.object) desks.items ≡ numbers 0 spare.rooms }
+    requires counts { All (λ d. d.passes ≡ spare.places) desks.items }
+    requires belong { All (λ p. Belong desks.items (number_of p.items) p.items) rows.items }
+    requires free { All (λ p. AttachedBy p.items None) rows.items }
+    requires within { All (λ p. number_of p.items < spare.places) rows.items }
+    requires bench { (vec_len bench_passes ≡ spare.places) × All (λ p. p.desk ≡ bench.desk) bench_passes.items }
+    requires fresh { (D.given door ≡ 0) × (D.out door ≡ 0) × (D.bots_out door ≡ 0) × (D.shut door ≡ false) }
+    requires none_back { IfSome (D.returned door) (λ told. told ≡ []) }
+    ensures out { (D.out result.1 ≡ 0) × (D.bots_out result.1 ≡ 0) }
+    ensures served { AreServed seed spare.places (D.returned result.1) }
+    ensures sink_never_falls { K.faults sink.old ≤ K.faults sink.new }
+    ensures ended { EndsBy result.0 sessions (D.faults door) (D.left door) (D.shut result.1) (D.faults result.1) (D.given result.1) (K.faults sink.old) (K.faults sink.new) }
+    ensures reports { IsSome (K.held sink.old) → Reports spare.rooms (D.given result.1) result.2.items result.0 (told_bytes (K.held sink.old)) (K.held sink.new) }
+{
+    let mut rows = rows;
+    if open_match(rt, desks.as_slice(), &mut rows, table, seed) {
+        serve_hall(
             rt,
             alloc,
             desks,
@@ -194,14 +266,15 @@ where
             door,
             sink,
             seed,
-        ),
-        Err(NoMemory) => {
-            drop(bench_passes);
-            drop(bench);
-            drop(spare);
-            drop(readies);
-            (ServeEnd::NoMemory, door, Vec::new(alloc))
-        }
+        )
+    } else {
+        drop(rows);
+        drop(desks);
+        drop(bench_passes);
+        drop(bench);
+        drop(spare);
+        drop(readies);
+        (ServeEnd::NoMemory, door, Vec::new(alloc))
     }
 }
 

@@ -38,7 +38,7 @@ where
 {
     let mut sink = MemorySink::new(alloc, List::new(alloc));
     let (end, door, books) = serve_rooms(
-        rt, alloc, 38, 300, readies, 300, door, &mut sink, [0; 32],
+        rt, alloc, 38, 300, readies, None, 300, door, &mut sink, [0; 32],
     );
     drop(books);
     drop(door);
