@@ -1,4 +1,5 @@
 pub mod Answers
+pub mod Games
 pub mod Numbers
 pub mod Options
 pub mod Play

@@ -1,44 +1,67 @@
--- What the words of `serve` ask for. They are those of a simple command: where to listen, how many rooms, workers, links at once and sessions, and
--- whom it lets in.
-use Rattle.std.specs.Prelude.{ℕ, List, [], ◌∷◌, ◌&&◌, Bool, Option, Some, None, bytes_eq, codes, if◌then◌else◌, is_some, min, not, unwrap_or}
+-- What the words of `serve` ask for. They are those of a simple command: where to listen, how many rooms, workers, links at once and sessions, whom
+-- it lets in, from where it hands out a page, and which bots it seats at which pace.
+use Rattle.std.specs.Prelude.{ℕ, List, [], ◌∷◌, ◌&&◌, ◌||◌, Bool, Option, Some, None, bytes_eq, codes, if◌then◌else◌, is_some, min, not, option_map, unwrap_or}
+use Rattle.any_game.specs.GameKind.{GameKind}
 use Rattle.clap.specs.Words.{App, Row, fault_of, first_of, matches_of, new_app, with_rule}
 use Rattle.clap.specs.Kinds.{Kinds}
+use Rattle.command_words.specs.Games.{bots_from, pace_from}
 use Rattle.command_words.specs.Numbers.{number_or}
 use Rattle.command_words.specs.Options.{flag_rule, needed_rule, option_rule}
 use Rattle.command_words.specs.declared.serve.ServeWords.{ServeWords}
 
 abbrev pub serve_app : App
 serve_app =
-    with_rule (with_rule (with_rule (with_rule (with_rule (with_rule (with_rule (with_rule (new_app (codes "serve")) (needed_rule (codes "listen"))) (option_rule (codes "rooms")))
-    (option_rule (codes "workers"))) (option_rule (codes "links"))) (option_rule (codes "sessions"))) (option_rule (codes "silence"))) (option_rule (codes "origin"))) (flag_rule (codes "ws"))
+    with_rule (with_rule (with_rule (with_rule (with_rule (with_rule (with_rule (with_rule (with_rule (with_rule (with_rule (with_rule (new_app (codes "serve")) (needed_rule (codes "listen")))
+    (option_rule (codes "rooms"))) (option_rule (codes "workers"))) (option_rule (codes "links"))) (option_rule (codes "sessions"))) (option_rule (codes "silence"))) (option_rule (codes "origin")))
+    (option_rule (codes "page"))) (option_rule (codes "bots"))) (option_rule (codes "seats"))) (option_rule (codes "pace"))) (flag_rule (codes "ws"))
 
--- With so many links there are no more workers than those. An origin is that of a page, which comes over WebSockets alone.
-abbrev pub with_links : List ℕ → ℕ → ℕ → Option ℕ → ℕ → ℕ → Option (List ℕ) → Bool → Option ServeWords
-with_links listen rooms workers None sessions silence origin ws = None
-with_links listen rooms workers (Some links) sessions silence origin ws =
-    if is_some origin && not ws
+-- whom it lets in, from where it hands out a page, and which bots it seats, at which pace: a page, and one of an origin, come over WebSockets alone
+pub record Guests : Type 0 where
+  pub origin : Option (List ℕ)
+  pub page : Option (List ℕ)
+  pub ws : Bool
+  pub bots : Option (List ℕ)
+  pub seats : Option (List ℕ)
+  pub pace : Option (List ℕ)
+
+abbrev pub guests : Option (List ℕ) → Option (List ℕ) → Bool → Option (List ℕ) → Option (List ℕ) → Option (List ℕ) → Guests
+guests origin page ws bots seats pace = record { origin = origin; page = page; ws = ws; bots = bots; seats = seats; pace = pace }
+
+-- with bots at so many seconds
+abbrev pub with_pace : List ℕ → ℕ → ℕ → ℕ → ℕ → ℕ → Guests → Option ℕ → Option ServeWords
+with_pace listen rooms workers links sessions silence g None = None
+with_pace listen rooms workers links sessions silence g (Some pace) =
+    option_map (λ bots. record { listen = listen; rooms = rooms; workers = min workers links; links = links; sessions = sessions; silence = silence; origin = g.origin; page = g.page; ws = g.ws; bots = bots; pace = pace })
+    (bots_from links g.bots g.seats)
+
+-- With so many links there are no more workers than those, and fewer bots.
+abbrev pub with_links : List ℕ → ℕ → ℕ → Option ℕ → ℕ → ℕ → Guests → Option ServeWords
+with_links listen rooms workers None sessions silence g = None
+with_links listen rooms workers (Some links) sessions silence g =
+    if (is_some g.origin || is_some g.page) && not g.ws
     then None
-    else Some (record { listen = listen; rooms = rooms; workers = min workers links; links = links; sessions = sessions; silence = silence; origin = origin; ws = ws })
+    else with_pace listen rooms workers links sessions silence g (pace_from g.bots g.pace)
 
 -- where no links are said there are as many as workers
-abbrev pub with_numbers : List ℕ → Option ℕ → Option ℕ → Option (List ℕ) → Option ℕ → Option ℕ → Option (List ℕ) → Bool → Option ServeWords
-with_numbers listen (Some rooms) (Some workers) links (Some sessions) (Some silence) origin ws = with_links listen rooms workers (number_or 1 4096 workers links) sessions silence origin ws
-with_numbers listen rooms workers links sessions silence origin ws = None
+abbrev pub with_numbers : List ℕ → Option ℕ → Option ℕ → Option (List ℕ) → Option ℕ → Option ℕ → Guests → Option ServeWords
+with_numbers listen (Some rooms) (Some workers) links (Some sessions) (Some silence) g = with_links listen rooms workers (number_or 1 4096 workers links) sessions silence g
+with_numbers listen rooms workers links sessions silence g = None
 
 -- whether a flag was said, by the text that stands for it
 abbrev pub is_said : Option (List ℕ) → Bool
 is_said text = bytes_eq (unwrap_or text []) (codes "true")
 
 -- by the values of the options, where they are said
-abbrev pub serve_of : Option (List ℕ) → Option (List ℕ) → Option (List ℕ) → Option (List ℕ) → Option (List ℕ) → Option (List ℕ) → Option (List ℕ) → Option (List ℕ) → Option ServeWords
-serve_of None rooms workers links sessions silence origin ws = None
-serve_of (Some listen) rooms workers links sessions silence origin ws =
-    with_numbers listen (number_or 1 64 16 rooms) (number_or 1 32 8 workers) links (number_or 1 1000000 1000000 sessions) (number_or 0 86400 0 silence) origin (is_said ws)
+abbrev pub serve_of : Option (List ℕ) → Option (List ℕ) → Option (List ℕ) → Option (List ℕ) → Option (List ℕ) → Option (List ℕ) → Guests → Option ServeWords
+serve_of None rooms workers links sessions silence g = None
+serve_of (Some listen) rooms workers links sessions silence g =
+    with_numbers listen (number_or 1 64 16 rooms) (number_or 1 32 8 workers) links (number_or 1 1000000 1000000 sessions) (number_or 0 86400 0 silence) g
 
 abbrev pub serve_in : List Row → Option ServeWords
 serve_in rows =
     serve_of (first_of (codes "listen") rows) (first_of (codes "rooms") rows) (first_of (codes "workers") rows) (first_of (codes "links") rows) (first_of (codes "sessions") rows)
-    (first_of (codes "silence") rows) (first_of (codes "origin") rows) (first_of (codes "ws") rows)
+    (first_of (codes "silence") rows) (guests (first_of (codes "origin") rows) (first_of (codes "page") rows) (is_said (first_of (codes "ws") rows)) (first_of (codes "bots") rows) (first_of (codes "seats") rows)
+    (first_of (codes "pace") rows))
 
 -- nothing is asked for by words that the command refuses
 abbrev pub unless_refused : {A : Type 0} → Kinds → Option A → Option A

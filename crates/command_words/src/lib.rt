@@ -1,6 +1,7 @@
 //! The words of the commands `serve` and `play`, read with `clap`.
 #![tactic(auto)]
 
+mod games;
 mod numbers;
 mod options;
 mod play;

@@ -2,14 +2,14 @@
 
 ghost use Rattle.std.specs.Prelude.{◌≡◌, IfOk, codes, map, option_map, string_bytes};
 ghost use Rattle.clap.specs.Words.{FailsBy, HasMatchesOf, fault_of, first_value, found_of};
-ghost use Rattle.any_game.specs.AnyRules.{named};
 ghost use Rattle.command_words.specs.Answers.{Answers};
 ghost use Rattle.command_words.specs.Play.{play_app, play_from, play_of, seat_from, viewer_from};
 
+use crate::games::game_of;
 use crate::options::{flag, needed, option};
 use crate::serve::is_said;
 use crate::words_no::{WordsNo, word_of};
-use any_game::{AnyGame, by_name};
+use any_game::AnyGame;
 use clap::{ArgMatches, Command, Error};
 use game_sheet::{MatchName, Seat, Text, Viewer};
 use std::alloc::Global;
@@ -79,17 +79,6 @@ fn words_in(alloc: Global, matches: &ArgMatches) -> Result<PlayWords, WordsNo>
         viewer,
         draws,
     })
-}
-
-/// The game of this name.
-fn game_of(alloc: Global, name: &str) -> Result<AnyGame, WordsNo>
-    ensures { Answers (named name.now) result }
-{
-    match by_name(alloc, name) {
-        Ok(Some(game)) => Ok(game),
-        Ok(None) => Err(WordsNo::Usage),
-        Err(_) => Err(WordsNo::NoMemory),
-    }
 }
 
 /// Who looks; none where the seat or the key is in no form, or one of them isn't said.

@@ -1,13 +1,16 @@
-//! The words of `serve`: where it listens, how many rooms, workers, links at once and sessions it has, and whom it lets in.
+//! The words of `serve`: where it listens, how many rooms, workers, links at once and sessions it has, whom it lets in, which page it gives, and
+//! which bots it seats, at which pace.
 
 ghost use Rattle.std.specs.Prelude.{◌≡◌, ◌≤◌, IfOk, codes, map, option_map, string_bytes};
 ghost use Rattle.clap.specs.Words.{FailsBy, HasMatchesOf, fault_of, first_value, found_of};
 ghost use Rattle.command_words.specs.Answers.{Answers};
-ghost use Rattle.command_words.specs.Serve.{is_said, serve_app, serve_from, serve_of};
+ghost use Rattle.command_words.specs.Serve.{guests, is_said, serve_app, serve_from, serve_of};
 
+use crate::games::{bots_of, pace_of};
 use crate::numbers::number_or;
 use crate::options::{flag, needed, option};
 use crate::words_no::{WordsNo, word_of};
+use any_game::AnyGame;
 use clap::{ArgMatches, Command, Error};
 use game_sheet::{NoMemory, Text};
 use std::alloc::Global;
@@ -29,14 +32,22 @@ pub struct ServeWords {
     pub silence: u32,
     /// The only origin of a page whose WebSockets are taken, if there is one.
     pub origin: Option<Text>,
+    /// The folder of the page that browsers are given, if they are given one.
+    pub page: Option<Text>,
     /// Whether its links are WebSockets.
     pub ws: bool,
+    /// The game of a match at whose seats bots sit, and how many there are: fewer than the links; none where it seats no bots.
+    pub bots: Option<(AnyGame, u8)>,
+    /// How many seconds about a bot lets pass before it answers, up to 60; 0 where it answers at once.
+    pub pace: u8,
 }
 
 /// What the words of `serve` ask for; the first word is the command's own.
 ///
 /// `Usage` comes exactly where the words are in no form: an option that isn't there or stands twice, no `--listen`, a
-/// number that has a sign or a leading zero or is out of its bounds, or an origin without WebSockets.
+/// number that has a sign or a leading zero or is out of its bounds, an origin or a page without WebSockets, a game of bots without its seats or the
+/// reverse, a pace without bots, a game that nobody knows, seats that aren't within its bounds or as many as the links at once, or more than
+/// 32 links with bots.
 pub fn serve_words(alloc: Global, words: &[String]) -> Result<ServeWords, WordsNo>
     ensures asked { Answers (serve_from (map string_bytes words.now)) result }
     ensures bounds { IfOk result (λ asked. (1 ≤ asked.rooms) × (asked.rooms ≤ 64) × (1 ≤ asked.workers) × (asked.workers ≤ 32) × (asked.workers ≤ asked.links) × (asked.links ≤ 4096)) }
@@ -60,6 +71,10 @@ fn matches_of<'a>(alloc: Global, words: &'a [String]) -> Result<ArgMatches<'a>, 
         .arg(option(alloc, "sessions"))?
         .arg(option(alloc, "silence"))?
         .arg(option(alloc, "origin"))?
+        .arg(option(alloc, "page"))?
+        .arg(option(alloc, "bots"))?
+        .arg(option(alloc, "seats"))?
+        .arg(option(alloc, "pace"))?
         .arg(flag(alloc, "ws"))?;
     command.try_get_matches_from(words)
 }
@@ -68,7 +83,9 @@ fn matches_of<'a>(alloc: Global, words: &'a [String]) -> Result<ArgMatches<'a>, 
 fn words_in(alloc: Global, matches: &ArgMatches) -> Result<ServeWords, WordsNo>
     ensures asked { Answers (serve_of (first_value (found_of matches.now) (codes "listen")) (first_value (found_of matches.now) (codes "rooms"))
         (first_value (found_of matches.now) (codes "workers")) (first_value (found_of matches.now) (codes "links")) (first_value (found_of matches.now) (codes "sessions"))
-        (first_value (found_of matches.now) (codes "silence")) (first_value (found_of matches.now) (codes "origin")) (first_value (found_of matches.now) (codes "ws"))) result }
+        (first_value (found_of matches.now) (codes "silence")) (guests (first_value (found_of matches.now) (codes "origin")) (first_value (found_of matches.now) (codes "page"))
+        (is_said (first_value (found_of matches.now) (codes "ws")))
+        (first_value (found_of matches.now) (codes "bots")) (first_value (found_of matches.now) (codes "seats")) (first_value (found_of matches.now) (codes "pace")))) result }
     ensures bounds { IfOk result (λ asked. (1 ≤ asked.rooms) × (asked.rooms ≤ 64) × (1 ≤ asked.workers) × (asked.workers ≤ 32) × (asked.workers ≤ asked.links) × (asked.links ≤ 4096)) }
 {
     let listen = matches.get_str("listen").ok_or(WordsNo::Usage)?;
@@ -80,12 +97,21 @@ fn words_in(alloc: Global, matches: &ArgMatches) -> Result<ServeWords, WordsNo>
     )?;
     let silence = number_or(matches.get_str("silence"), 0, 86_400, 0).ok_or(WordsNo::Usage)?;
     let origin = matches.get_str("origin");
+    let page = matches.get_str("page");
     let ws = is_said(matches.get_str("ws"));
-    if origin.is_some() && !ws {
+    if (origin.is_some() || page.is_some()) && !ws {
         return Err(WordsNo::Usage);
     }
+    let pace = pace_of(matches.get_str("bots"), matches.get_str("pace")).ok_or(WordsNo::Usage)?;
     let listen = Text::from_str(alloc, listen)?;
-    let origin = origin_of(alloc, origin)?;
+    let origin = copy_of(alloc, origin)?;
+    let page = copy_of(alloc, page)?;
+    let bots = bots_of(
+        alloc,
+        matches.get_str("bots"),
+        matches.get_str("seats"),
+        links,
+    )?;
     Ok(ServeWords {
         listen,
         rooms: rooms as u8,
@@ -94,13 +120,16 @@ fn words_in(alloc: Global, matches: &ArgMatches) -> Result<ServeWords, WordsNo>
         sessions,
         silence,
         origin,
+        page,
         ws,
+        bots,
+        pace: pace as u8,
     })
 }
 
-/// A copy of an origin.
-fn origin_of(alloc: Global, text: Option<&str>) -> Result<Option<Text>, NoMemory>
-    ensures { IfOk result (λ origin. origin ≡ option_map (λ text. text.now) text.entry) }
+/// A copy of a text, if there is one.
+fn copy_of(alloc: Global, text: Option<&str>) -> Result<Option<Text>, NoMemory>
+    ensures { IfOk result (λ copy. copy ≡ option_map (λ text. text.now) text.entry) }
 {
     match text {
         Some(text) => Ok(Some(Text::from_str(alloc, text)?)),
