@@ -1,0 +1,15 @@
+use Rattle.kept_script.proofs.Ends.{has_run}
+use Rattle.kept_script.proofs.KeptLines.{stands_so}
+use Rattle.kept_script.proofs.running.run_hall.Goals as goal
+
+pub run_lines-exit-requires : goal.run_lines-exit-requires
+run_lines-exit-requires g c =
+    let d = g.D.Disk in
+    (c.requires.0, stands_so d.is_told d.seen d.may_leave d.moment d.left_since d.faults c.args.hall c.requires.0 c.requires.1)
+
+pub returns-clause-ran : goal.returns-clause-ran
+returns-clause-ran g c = λ s k l h.
+    let d = g.D.Disk in
+    let stands = stands_so d.is_told d.seen d.may_leave d.moment d.left_since d.faults c.args.hall s k in
+    has_run d.is_told d.seen d.may_leave d.moment d.left_since d.faults s _ _ _ _ c.run_lines-exit.result c.run_lines-exit.new.interpreter c.close-disk.result.1 c.exit_after.result c.close-disk.result.0
+    c.exit_after.ensures c.close-disk.ensures.disk c.close-disk.ensures.stopped (c.run_lines-exit.ensures.ends s stands l h) (c.run_lines-exit.ensures.leaves s stands l h)

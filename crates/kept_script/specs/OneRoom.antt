@@ -1,0 +1,38 @@
+-- What a session's call in the one room comes to.
+use Rattle.std.specs.Prelude.{◌≡◌, ℕ, Bool, true, List, [], ◌∷◌}
+use Rattle.any_game.specs.AnyRules.{any_rules}
+use Rattle.any_game.specs.GameKind.{GameKind}
+use Rattle.any_game.specs.declared.any_g.AnyG.{AnyG}
+use Rattle.match_master.specs.Held.{Held, StandsFor, is_starved}
+use Rattle.room_object.specs.Entry.{entry}
+use Rattle.session_driver.specs.Calls.{Did}
+use Rattle.session_driver.specs.OfBooks.{CallsBook, RoomCalls}
+use Rattle.kept_script.specs.Journal.{Calls, Since, stands_in}
+use Rattle.kept_script.specs.declared.room.KeptRoom.{KeptRoom}
+
+abbrev pub number_of : Held GameKind AnyG → ℕ
+number_of b = b.room
+
+abbrev pub stands_for : Held GameKind AnyG → RoomCalls → Type 0
+stands_for b h = StandsFor any_rules b h
+
+abbrev pub always : Held GameKind AnyG → Bool
+always b = true
+
+abbrev pub books_of : {D : Type 0} → KeptRoom D → List (Held GameKind AnyG)
+books_of r = r.object.book ∷ []
+
+-- the room is the first, and stands for some calls
+abbrev pub IsFirst : {D : Type 0} → KeptRoom D → Type 0
+IsFirst r = (r.object.room ≡ 0) × ((h : Calls) × stands_in r.object h)
+
+-- a call in books, of which there is one
+abbrev pub calls_book : List (Held GameKind AnyG) → ℕ → Did → List (Held GameKind AnyG) → Type 0
+calls_book books pass made after = CallsBook number_of stands_for always books pass made after
+
+-- the call was made in the room as it is made in a room that keeps nothing, and was kept
+abbrev pub CallsOne : {D : Type 0} → (D → Type 0) → (D → List ℕ) → (D → List ℕ → Type 0) → (D → ℕ) → (D → ℕ → List ℕ → Type 0) → (D → ℕ)
+    → KeptRoom D → ℕ → Did → KeptRoom D → Type 0
+CallsOne is_told seen may_leave moment left_since faults r pass made t =
+    calls_book (books_of r) pass made (books_of t)
+    × Since is_told seen may_leave moment left_since faults r t (entry pass made.call (is_starved made.reply) ∷ [])

@@ -1,0 +1,164 @@
+//! Runs a script over one room whose changes are kept in the file of a disk.
+
+ghost use Rattle.std.specs.Prelude.{◌≡◌, ◌≤◌, ◌⊎◌, None, IfErr, IfOk, IsSome, true, false};
+ghost use Rattle.board_links.specs.Pieces.{told_bytes};
+ghost use Rattle.hall_history.specs.Hall.{new_hall};
+ghost use Rattle.object_journal.specs.Opening.{IsRefused};
+ghost use Rattle.room_journal.specs.Kept.{may_follow};
+ghost use Rattle.session_hall.specs.Held.{AreCores};
+ghost use Rattle.kept_script.specs.Ending.{HasRun, IsOpenedRoom, IsUnopened, RunsOpened, exit_after, exit_by, exit_of};
+ghost use Rattle.kept_script.specs.Journal.{Calls};
+ghost use Rattle.kept_script.specs.KeptDoing.{IsKept};
+ghost use Rattle.kept_script.specs.KeptPlay.{KeptState};
+
+use crate::hall::{KeptHall, all_cores};
+use crate::room::KeptRoom;
+use board_links::{Sink, Source};
+use game_hall::SessionCore;
+use line_runner::{Exit, run_lines};
+use object_journal::{OpenNo, Stop};
+use record_file::RecordFile;
+use room_disk::Disk;
+use room_journal::{KeptBook, RoomBook, open_book};
+use std::alloc::Global;
+use std::mem;
+
+/// Runs the script of a source over one room, whose accepted changes are kept in the file of a disk, and prints its transcript into a sink. The
+/// file is opened first, and the changes of its records are made again. It hands the disk back.
+///
+/// A line is printed only where each of its changes was kept. `StoreFault` comes where the disk failed, `LongJournal` where the file has, or
+/// with a further record would have, more than 268,435,456 bytes, and `BadRecord` where it is damaged, with the place of the gate; every other
+/// end comes as that of a script. Where source and sink tell what they hold, `ran` says what was printed. Where the disk goes by the model too,
+/// `keeps` says what the file then has, and that whenever a crash came, it has a first part of the records of the changes that were made.
+pub fn run_kept<S: Source, K: Sink, D: Disk + Drop>(
+    alloc: Global,
+    source: &mut S,
+    sink: &mut K,
+    disk: D,
+) -> (Exit, D)
+    ensures source_never_falls { S.faults source.old ≤ S.faults source.new }
+    ensures sink_never_falls { K.faults sink.old ≤ K.faults sink.new }
+    ensures ran { IsSome (S.left source.old) → IsSome (K.held sink.old)
+        → IsUnopened D.is_told D.seen D.faults disk result.1 result.0
+        ⊎ RunsOpened D.is_told D.seen D.may_leave D.moment D.left_since D.faults disk false (told_bytes (S.left source.old)) (told_bytes (S.left source.new)) (told_bytes (K.held sink.old)) (K.held sink.new) result.0 result.1 }
+    ensures keeps { D.is_told disk → IsSome (S.left source.old) → IsSome (K.held sink.old)
+        → IsUnopened D.is_told D.seen D.faults disk result.1 result.0
+        ⊎ RunsOpened D.is_told D.seen D.may_leave D.moment D.left_since D.faults disk true (told_bytes (S.left source.old)) (told_bytes (S.left source.new)) (told_bytes (K.held sink.old)) (K.held sink.new) result.0 result.1 }
+{
+    match all_cores(alloc) {
+        Ok(cores) => run_with(alloc, cores, source, sink, disk),
+        Err(_) => (Exit::NoMemory, disk),
+    }
+}
+
+/// Opens the file, and runs the script with these cores.
+fn run_with<S: Source, K: Sink, D: Disk + Drop>(
+    alloc: Global,
+    cores: Vec<SessionCore>,
+    source: &mut S,
+    sink: &mut K,
+    disk: D,
+) -> (Exit, D)
+    requires { AreCores cores.items (new_hall 1) }
+    ensures source_never_falls { S.faults source.old ≤ S.faults source.new }
+    ensures sink_never_falls { K.faults sink.old ≤ K.faults sink.new }
+    ensures ran { IsSome (S.left source.old) → IsSome (K.held sink.old)
+        → IsUnopened D.is_told D.seen D.faults disk result.1 result.0
+        ⊎ RunsOpened D.is_told D.seen D.may_leave D.moment D.left_since D.faults disk false (told_bytes (S.left source.old)) (told_bytes (S.left source.new)) (told_bytes (K.held sink.old)) (K.held sink.new) result.0 result.1 }
+    ensures keeps { D.is_told disk → IsSome (S.left source.old) → IsSome (K.held sink.old)
+        → IsUnopened D.is_told D.seen D.faults disk result.1 result.0
+        ⊎ RunsOpened D.is_told D.seen D.may_leave D.moment D.left_since D.faults disk true (told_bytes (S.left source.old)) (told_bytes (S.left source.new)) (told_bytes (K.held sink.old)) (K.held sink.new) result.0 result.1 }
+{
+    match open_room(alloc, disk) {
+        Ok(room) => run_hall(alloc, KeptHall::new(alloc, room, cores), source, sink),
+        Err(refused) => {
+            drop(cores);
+            let (no, disk) = refused;
+            (exit_of(no), disk)
+        }
+    }
+}
+
+/// Opens the file of the room.
+fn open_room<D: Disk + Drop>(alloc: Global, disk: D) -> Result<KeptRoom<D>, (OpenNo, D)>
+    ensures opened { IfOk result (λ room. (first : Calls) × IsOpenedRoom D.is_told D.seen D.may_leave D.moment D.left_since D.faults disk first false room) }
+    ensures keeps { D.is_told disk → IfOk result (λ room. (first : Calls) × IsOpenedRoom D.is_told D.seen D.may_leave D.moment D.left_since D.faults disk first true room) }
+    ensures refused { IfErr result (λ e. IsRefused (may_follow 0) D.is_told D.seen D.faults disk e.1 e.0) }
+{
+    match RoomBook::new(alloc, 0) {
+        Ok(spare) => match open_book(alloc, 0, disk) {
+            Ok(kept) => Ok(taken(alloc, kept, spare)),
+            Err(refused) => {
+                drop(spare);
+                Err(refused)
+            }
+        },
+        Err(_) => Err((OpenNo::NoMemory, disk)),
+    }
+}
+
+/// The room of a journal that was opened; another room's book takes the place of its own.
+fn taken<D: Disk + Drop>(alloc: Global, kept: KeptBook<D>, spare: RoomBook) -> KeptRoom<D>
+    ensures object { result.object ≡ kept.object }
+    ensures disk { result.file.disk ≡ kept.file.disk }
+    ensures end { result.file.end ≡ kept.file.end }
+    ensures whole { result.stopped ≡ None }
+{
+    let mut kept = kept;
+    let object = mem::replace(&mut kept.object, spare);
+    let end = kept.file.end;
+    let disk = kept.close();
+    KeptRoom::new(alloc, object, RecordFile { disk, end })
+}
+
+/// Runs the script in a hall that stands for some state, and hands the hall's disk back.
+fn run_hall<S: Source, K: Sink, D: Disk + Drop>(
+    alloc: Global,
+    hall: KeptHall<D>,
+    source: &mut S,
+    sink: &mut K,
+) -> (Exit, D)
+    requires { (s : KeptState D) × IsKept D.is_told D.seen D.may_leave D.moment D.left_since D.faults hall s }
+    ensures source_never_falls { S.faults source.old ≤ S.faults source.new }
+    ensures sink_never_falls { K.faults sink.old ≤ K.faults sink.new }
+    ensures ran { (s : KeptState D) → IsKept D.is_told D.seen D.may_leave D.moment D.left_since D.faults hall s → IsSome (S.left source.old) → IsSome (K.held sink.old)
+        → HasRun D.is_told D.seen D.may_leave D.moment D.left_since D.faults s (told_bytes (S.left source.old)) (told_bytes (S.left source.new)) (told_bytes (K.held sink.old)) (K.held sink.new) result.0 result.1 }
+{
+    let mut hall = hall;
+    let exit = run_lines(alloc, &mut hall, source, sink);
+    let (disk, stopped) = hall.close();
+    (exit_after(exit, stopped), disk)
+}
+
+/// The end of a run whose file wasn't opened.
+fn exit_of(no: OpenNo) -> Exit
+    ensures { result ≡ exit_of no }
+{
+    match no {
+        OpenNo::DiskFault => Exit::StoreFault,
+        OpenNo::Long => Exit::LongJournal,
+        OpenNo::Damaged { place } => Exit::BadRecord { place },
+        OpenNo::NoMemory => Exit::NoMemory,
+    }
+}
+
+/// The end of a run, by that of its lines and by why the room has stopped, if it has.
+fn exit_after(exit: Exit, stopped: Option<Stop>) -> Exit
+    ensures { result ≡ exit_after exit stopped }
+{
+    match exit {
+        Exit::NoMemory => exit_by(stopped),
+        other => other,
+    }
+}
+
+/// The end of a run for which there was no memory, or whose room has stopped.
+fn exit_by(stopped: Option<Stop>) -> Exit
+    ensures { result ≡ exit_by stopped }
+{
+    match stopped {
+        None | Some(Stop::NoMemory) => Exit::NoMemory,
+        Some(Stop::Full { .. }) => Exit::LongJournal,
+        Some(Stop::NotKept { .. }) => Exit::StoreFault,
+    }
+}
