@@ -1,3 +1,4 @@
+pub mod KeptWords
 pub mod Modes
 pub mod Page
 pub mod Playing

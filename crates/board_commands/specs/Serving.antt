@@ -1,5 +1,5 @@
 -- How `serve` ends, by what its words ask for, and what it then says of the door, the sink and the books that are handed back.
-use Rattle.std.specs.Prelude.{◌≡◌, ℕ, List, Bool, Option, IsSome}
+use Rattle.std.specs.Prelude.{◌≡◌, ◌≤◌, ◌<◌, ◌+◌, ℕ, List, Bool, Option, Some, None, IsSome, option_map}
 use Rattle.any_game.specs.GameKind.{GameKind}
 use Rattle.any_game.specs.declared.any_g.AnyG.{AnyG}
 use Rattle.board_links.specs.Pieces.{told_bytes}
@@ -18,11 +18,37 @@ exit_of end.DoorFault = DoorFault
 exit_of end.WriteFault = WriteFault
 exit_of end.NoMemory = NoMemory
 
+-- how many bots are asked for
+abbrev pub seats_asked : Option (GameKind × ℕ) → ℕ
+seats_asked None = 0
+seats_asked (Some table) = table.1
+
+-- how many links there are with those of the bots, where a door told how many it held
+abbrev pub held_with : Option (GameKind × ℕ) → Option ℕ → Option ℕ
+held_with None links = links
+held_with (Some table) links = option_map (λ n. n + table.1) links
+
+-- Of so many bots' links so many were given: all of them where the door gave a link, since bots' links come first.
+pub record GaveBots (seats bots given : ℕ) : Type 0 where
+  pub most : bots ≤ seats
+  pub first : 0 < given → bots ≡ seats
+
+-- rooms were served so, with so many bots' links before those of the door: each of these is a session too
+pub record ServesSeats (how : ServeEnd) (rooms sessions seats : ℕ) (books : List (Book GameKind AnyG)) (faults : ℕ) (links : Option ℕ) (shut : Bool) (faults_after given : ℕ)
+    (sink_faults sink_faults_after : ℕ) (held held_after : Option (List ℕ)) : Type 0 where
+  pub bots : ℕ
+  pub gave : GaveBots seats bots given
+  pub ended : EndsBy how sessions faults links shut faults_after (bots + given) sink_faults sink_faults_after
+  pub reports : IsSome held → Reports rooms (bots + given) books how (told_bytes held) held_after
+
 -- The serving that was asked for. The door had so many faults and held so many links, where it told them; afterwards it is shut or not, has so
--- many faults, and has given so many links. The sink had so many faults and held this before, and so afterwards.
+-- many faults, and has given so many links. The sink had so many faults and held this before, and so afterwards. The links of the bots that were
+-- given count as the door's do.
 pub record Serves (asked : ServeWords) (exit : Exit) (books : List (Book GameKind AnyG)) (faults : ℕ) (links : Option ℕ) (shut : Bool) (faults_after given : ℕ)
     (sink_faults sink_faults_after : ℕ) (held held_after : Option (List ℕ)) : Type 0 where
   pub how : ServeEnd
+  pub bots : ℕ
+  pub gave : GaveBots (seats_asked asked.bots) bots given
   pub exits : exit ≡ exit_of how
-  pub ended : EndsBy how asked.sessions faults links shut faults_after given sink_faults sink_faults_after
-  pub reports : IsSome held → Reports asked.rooms given books how (told_bytes held) held_after
+  pub ended : EndsBy how asked.sessions faults (held_with asked.bots links) shut faults_after (bots + given) sink_faults sink_faults_after
+  pub reports : IsSome held → Reports asked.rooms (bots + given) books how (told_bytes held) held_after

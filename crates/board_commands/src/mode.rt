@@ -14,6 +14,8 @@ pub enum Mode {
     Serve,
     /// To play a match.
     Play,
+    /// To run a script over a room whose changes are kept.
+    Kept,
     /// To run what is read.
     Run,
 }
@@ -51,6 +53,8 @@ fn mode_by(word: &[u8]) -> Mode
         Mode::Serve
     } else if word == b"play".as_slice() {
         Mode::Play
+    } else if word == b"kept".as_slice() {
+        Mode::Kept
     } else {
         Mode::Run
     }

@@ -10,13 +10,17 @@ use line_runner::Exit;
 /// The page of help.
 pub const HELP: &str = "board_server: matches of turn-based games
 
-board_server serve --listen ADDRESS [--rooms 16] [--workers 8] [--links N] [--sessions 1000000] [--silence SECONDS] [--ws [--origin TEXT]]
-    serves matches over TCP, or over WebSockets, N at once or as many as workers, until so many sessions are over, and reports
+board_server serve --listen ADDRESS [--rooms 16] [--workers 8] [--links N] [--sessions 1000000] [--silence SECONDS] [--ws [--origin TEXT] [--page FOLDER]]
+        [--bots GAME --seats COUNT [--pace SECONDS]]
+    serves matches over TCP, or over WebSockets, N at once or as many as workers, until so many sessions are over, and reports;
+    gives browsers the page in a folder; with bots at all seats of a first match, fewer than N, which answer at once or after so many seconds
 board_server play --connect ADDRESS --game NAME --match MATCH [--seat SEAT --key KEY] [--draw]
     plays a match by the commands on standard input: act ACT, move NAME ARGS, end turn, undo, redo, read, wait, show, end;
     and draws what is shown
 board_server script
     plays the script on standard input, and prints its transcript
+board_server kept FILE
+    plays the script on standard input over one room, keeps its changes in a journal, and prints its transcript
 board_server world
     plays the world on standard input, and prints its transcript
 board_server replay

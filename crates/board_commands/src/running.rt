@@ -1,10 +1,9 @@
 //! What the program does with the words that it is called with.
 
-ghost use Rattle.std.specs.Prelude.{◌≡◌, ◌≤◌, ℕ, List, IsSome, Some, None};
+ghost use Rattle.std.specs.Prelude.{◌≡◌, ◌≤◌, ℕ, IsSome, Some, None};
 ghost use Rattle.board_links.specs.Faults.{HasRisen};
 ghost use Rattle.board_links.specs.Pieces.{told_bytes};
-ghost use Rattle.hall_history.specs.Mark.{Mark};
-ghost use Rattle.world_script.specs.Converging.{ConvergesIn};
+ghost use Rattle.world_script.specs.Converging.{ConvergesIn, telling};
 ghost use Rattle.journal_replay.specs.Replaying.{ReplayEnds};
 ghost use Rattle.line_runner.specs.Running.{AreInForm, Ends, IsComplete};
 ghost use Rattle.world_script.specs.ScriptPlay.{first_hall, script_play};
@@ -31,7 +30,7 @@ use world_script::{run_script, run_world};
 /// `Usage` comes exactly where the words are none of these, and then nothing was read or written. Where source and
 /// sink tell what they hold, `ends` says what a script added to the sink and where each end comes, and what Takes print for
 /// each session; `completes`, that a script in form without a fault is run to its end, or there was no memory; `world_ends`
-/// and `world_completes` say it of a world, and `world_converges`, what its clients see of their matches. `replays` says that a replay
+/// and `world_completes` say it of a world, and what its clients see of their matches. `replays` says that a replay
 /// prints what the records of the journal make, and where it is damaged or too long. `workload_prints` says that a
 /// workload adds its transcript, or a first part of it where it doesn't end with `Done`, and `workload_completes` that without a fault
 /// of the sink it is run to its end, or there was no memory.
@@ -52,10 +51,9 @@ pub fn run<S: Source, K: Sink>(
     ensures completes { command_of words.now ≡ Some Script → IsSome (S.left source.old) → IsSome (K.held sink.old) → AreInForm script_play (told_bytes (S.left source.old))
         → (HasRisen (S.faults source.old) (S.faults source.new) → ⊥) → (HasRisen (K.faults sink.old) (K.faults sink.new) → ⊥) → IsComplete result }
     ensures world_ends { command_of words.now ≡ Some World → IsSome (S.left source.old) → IsSome (K.held sink.old)
-        → Ends world_play first_world (told_bytes (S.left source.old)) (told_bytes (S.left source.new)) (told_bytes (K.held sink.old)) (K.held sink.new) result }
+        → Ends (telling world_play ConvergesIn) first_world (told_bytes (S.left source.old)) (told_bytes (S.left source.new)) (told_bytes (K.held sink.old)) (K.held sink.new) result }
     ensures world_completes { command_of words.now ≡ Some World → IsSome (S.left source.old) → IsSome (K.held sink.old) → AreInForm world_play (told_bytes (S.left source.old))
         → (HasRisen (S.faults source.old) (S.faults source.new) → ⊥) → (HasRisen (K.faults sink.old) (K.faults sink.new) → ⊥) → IsComplete result }
-    ensures world_converges { command_of words.now ≡ Some World → (marks : List Mark) (lines : List (List ℕ)) → ConvergesIn marks lines }
     ensures replays { command_of words.now ≡ Some Replay → IsSome (S.left source.old) → IsSome (K.held sink.old)
         → ReplayEnds (told_bytes (S.left source.old)) (S.left source.new) (told_bytes (K.held sink.old)) (K.held sink.new) result }
     ensures workload_source { (seed steps : ℕ) → command_of words.now ≡ Some (Workload seed steps) → source.new ≡ source.old }

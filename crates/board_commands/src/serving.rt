@@ -1,4 +1,4 @@
-//! Serves matches, as the words of `serve` ask for.
+//! Serves matches, as the words of `serve` ask for, with bots or without.
 
 ghost use Rattle.std.specs.Prelude.{◌≡◌, ◌≤◌, ◌<◌, IfSome, IsSome, None, Some, [], false, map, string_bytes, vec_len};
 ghost use Rattle.board_links.specs.Faults.{HasRisen};
@@ -8,9 +8,11 @@ ghost use Rattle.link_play.specs.Ends.{IsComplete};
 ghost use Rattle.session_pool.specs.Sittings.{AreServed};
 ghost use Rattle.line_runner.specs.declared.exit.Exit.TheVariants.{Usage};
 ghost use Rattle.board_commands.specs.Playing.{IsRefused};
-ghost use Rattle.board_commands.specs.Serving.{Serves, exit_of};
+ghost use Rattle.board_commands.specs.Serving.{Serves, exit_of, seats_asked};
 
+use crate::seating::serve_seated;
 use any_game::AnyGame;
+use board_bots::{Bot, Rest};
 use board_links::{Door, Sink};
 use command_words::{ServeWords, WordsNo, serve_words};
 use door_serve::{ServeEnd, serve_rooms};
@@ -30,8 +32,19 @@ use std::thread::Threads;
 /// which is a function of the count of links and of the books that are handed back, in the order of the rooms, or none where there was no memory
 /// to set the rooms up; `completes`, that a door and a sink without a fault give `Done`, or there was no memory. Place p, one for
 /// each link at once, draws its words from stream p of the seed, one session after another; a door that tells what came back tells only links
-/// that were served so.
-pub fn serve<D: Door + Send, W: Ready<D::L> + Send, K: Sink, R: Threads + Wait + Sync>(
+/// that were served so, where no bots were asked for.
+///
+/// There are as many of `bots`, and of `rests`, as the words ask for seats, and none where they ask for no bots. The bots sit at the seats of the
+/// first match of room 0, in order, as players over links of their own, which come before those of the door and count as sessions as they do. The
+/// match is made before any link is taken, with words 0 to 7 of stream 32 of the seed. The door has no bots' links of its own. The pace that the
+/// words ask for says when bots get their turns, and no clause speaks of it.
+pub fn serve<
+    D: Door + Send,
+    W: Ready<D::L> + Send,
+    K: Sink,
+    R: Threads + Wait + Sync,
+    Z: Rest + Send,
+>(
     rt: &R,
     alloc: Global,
     words: &[String],
@@ -39,9 +52,14 @@ pub fn serve<D: Door + Send, W: Ready<D::L> + Send, K: Sink, R: Threads + Wait +
     door: D,
     sink: &mut K,
     seed: [u8; 32],
+    bots: Vec<Box<dyn Bot + Send>>,
+    rests: Vec<Z>,
 ) -> (Exit, D, Vec<Book<AnyGame>>)
 where
     D::L: Send,
+    requires plain { D.has_bots ≡ false }
+    requires bots { (asked : Asked) → serve_from (map string_bytes words.now) ≡ Some asked → vec_len bots ≡ seats_asked asked.bots }
+    requires rests { (asked : Asked) → serve_from (map string_bytes words.now) ≡ Some asked → vec_len rests ≡ seats_asked asked.bots }
     requires workers { (asked : Asked) → serve_from (map string_bytes words.now) ≡ Some asked → vec_len readies ≡ asked.workers }
     requires fresh { (D.given door ≡ 0) × (D.out door ≡ 0) × (D.bots_out door ≡ 0) × (D.shut door ≡ false) }
     requires none_back { IfSome (D.returned door) (λ told. told ≡ []) }
@@ -54,25 +72,35 @@ where
     ensures serves { (asked : Asked) → serve_from (map string_bytes words.now) ≡ Some asked
         → Serves asked result.0 result.2.items (D.faults door) (D.left door) (D.shut result.1) (D.faults result.1) (D.given result.1)
         (K.faults sink.old) (K.faults sink.new) (K.held sink.old) (K.held sink.new) }
-    ensures served { (asked : Asked) → serve_from (map string_bytes words.now) ≡ Some asked → AreServed seed asked.links (D.returned result.1) }
+    ensures served { (asked : Asked) → serve_from (map string_bytes words.now) ≡ Some asked → asked.bots ≡ None → AreServed seed asked.links (D.returned result.1) }
     ensures completes { (asked : Asked) → serve_from (map string_bytes words.now) ≡ Some asked
         → (HasRisen (D.faults door) (D.faults result.1) → ⊥) → (HasRisen (K.faults sink.old) (K.faults sink.new) → ⊥) → IsComplete result.0 }
 {
     match serve_words(alloc, words) {
-        Ok(asked) => serve_asked(rt, alloc, asked, readies, door, sink, seed),
+        Ok(asked) => serve_asked(rt, alloc, asked, readies, door, sink, seed, bots, rests),
         Err(WordsNo::Usage) => {
             drop(readies);
+            drop(bots);
+            drop(rests);
             (Exit::Usage, door, Vec::new(alloc))
         }
         Err(WordsNo::NoMemory) => {
             drop(readies);
+            drop(bots);
+            drop(rests);
             (Exit::NoMemory, door, Vec::new(alloc))
         }
     }
 }
 
 /// Serves as was asked for.
-fn serve_asked<D: Door + Send, W: Ready<D::L> + Send, K: Sink, R: Threads + Wait + Sync>(
+fn serve_asked<
+    D: Door + Send,
+    W: Ready<D::L> + Send,
+    K: Sink,
+    R: Threads + Wait + Sync,
+    Z: Rest + Send,
+>(
     rt: &R,
     alloc: Global,
     asked: ServeWords,
@@ -80,17 +108,21 @@ fn serve_asked<D: Door + Send, W: Ready<D::L> + Send, K: Sink, R: Threads + Wait
     door: D,
     sink: &mut K,
     seed: [u8; 32],
+    bots: Vec<Box<dyn Bot + Send>>,
+    rests: Vec<Z>,
 ) -> (Exit, D, Vec<Book<AnyGame>>)
 where
     D::L: Send,
     requires rooms { (0 < asked.rooms) × (asked.rooms ≤ 64) }
     requires workers { (0 < asked.workers) × (asked.workers ≤ asked.links) × (asked.links ≤ 4096) }
     requires readies { vec_len readies ≡ asked.workers }
+    requires plain { D.has_bots ≡ false }
+    requires bots { (vec_len bots ≡ seats_asked asked.bots) × (vec_len rests ≡ seats_asked asked.bots) }
     requires fresh { (D.given door ≡ 0) × (D.out door ≡ 0) × (D.bots_out door ≡ 0) × (D.shut door ≡ false) }
     requires none_back { IfSome (D.returned door) (λ told. told ≡ []) }
     ensures out { (D.out result.1 ≡ 0) × (D.bots_out result.1 ≡ 0) }
     ensures sink_never_falls { K.faults sink.old ≤ K.faults sink.new }
-    ensures served { AreServed seed asked.links (D.returned result.1) }
+    ensures served { asked.bots ≡ None → AreServed seed asked.links (D.returned result.1) }
     ensures serves { Serves asked result.0 result.2.items (D.faults door) (D.left door) (D.shut result.1) (D.faults result.1) (D.given result.1)
         (K.faults sink.old) (K.faults sink.new) (K.held sink.old) (K.held sink.new) }
 {
@@ -102,14 +134,31 @@ where
         sessions,
         silence: _,
         origin,
+        page,
         ws: _,
+        bots: table,
+        pace,
     } = asked;
     drop(listen);
     drop(origin);
-    let (end, door, books) = serve_rooms(
-        rt, alloc, rooms, links, readies, sessions, door, sink, seed,
-    );
-    (exit_of(end), door, books)
+    drop(page);
+    match table {
+        None => {
+            drop(bots);
+            drop(rests);
+            let (end, door, books) = serve_rooms(
+                rt, alloc, rooms, links, readies, None, sessions, door, sink, seed,
+            );
+            (exit_of(end), door, books)
+        }
+        Some((game, seats)) => {
+            let (end, door, books) = serve_seated(
+                rt, alloc, rooms, links, readies, game, seats, pace, bots, rests, sessions, door,
+                sink, seed,
+            );
+            (exit_of(end), door, books)
+        }
+    }
 }
 
 /// The end of a run that served.

@@ -3,11 +3,15 @@
 #![tactic(auto)]
 
 #[cfg(test)]
+mod bots;
+#[cfg(test)]
 mod plays;
 #[cfg(test)]
 mod puts;
 #[cfg(test)]
 mod runs;
+#[cfg(test)]
+mod seats;
 #[cfg(test)]
 mod serves;
 #[cfg(test)]

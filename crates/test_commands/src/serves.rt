@@ -2,10 +2,12 @@
 
 ghost use Rattle.std.specs.Prelude.{◌≡◌, [], IfOk, Some, false, map, string_bytes, vec_len};
 ghost use Rattle.board_links.specs.Doors.{IsFresh};
+ghost use Rattle.board_commands.specs.Serving.{seats_asked};
 ghost use Rattle.command_words.specs.Serve.{serve_from};
 ghost use Rattle.command_words.specs.declared.serve.ServeWords.{ServeWords as Asked};
 
-use board_commands::serve;
+use board_bots::{Bot, NoRest, PassBot};
+use board_commands::{seats_of, serve};
 use board_links::{AtEnd, Door, MemoryDoor, MemoryLink, MemorySink, Scripted};
 use command_words::{WordsNo, serve_words};
 use game_sheet::{List, NoMemory};
@@ -24,6 +26,9 @@ const JOIN: &[u8] = b"{\"match\":\"0-1\",\"name\":\"ann\",\"seat\":0,\"type\":\"
 
 const LEAVE: &[u8] =
     b"{\"key\":\"da41597c5157488d7724e03fb8d84a37\",\"match\":\"0-1\",\"seat\":0,\"type\":\"leave\"}";
+
+/// A wish for a seat of the match.
+const TAKEOVER: &[u8] = b"{\"match\":\"0-1\",\"seat\":0,\"type\":\"takeover\"}";
 
 /// Another player, who sits down once the match is there.
 const SECOND: [&[u8]; 3] = [
@@ -60,7 +65,7 @@ const WHOLE: Row = Row {
 };
 
 /// A link that says these lines, and ends. Where a line is empty it says nothing once.
-fn link(alloc: Global, lines: &[&[u8]]) -> Result<MemoryLink, NoMemory>
+pub(crate) fn link(alloc: Global, lines: &[&[u8]]) -> Result<MemoryLink, NoMemory>
     ensures { IfOk result (λ l. IsFresh l.faults l.finished (Some l.answers) (Some l.sent)) }
 {
     let mut script = Vec::new(alloc);
@@ -105,8 +110,34 @@ fn words(alloc: Global, more: &[&str]) -> Result<Vec<String>, NoMemory> {
     Ok(words)
 }
 
+/// How many bots the words ask for.
+pub(crate) fn seats(alloc: Global, words: &[String]) -> Result<u8, NoMemory>
+    ensures { IfOk result (λ n. (asked : Asked) → serve_from (map string_bytes words.now) ≡ Some asked → n ≡ seats_asked asked.bots) }
+{
+    match serve_words(alloc, words) {
+        Ok(asked) => {
+            let seats = seats_of(&asked.bots);
+            drop(asked);
+            Ok(seats)
+        }
+        Err(WordsNo::Usage) => Ok(0),
+        Err(WordsNo::NoMemory) => Err(NoMemory),
+    }
+}
+
+/// So many rests.
+pub(crate) fn rests(alloc: Global, seats: u8) -> Result<Vec<NoRest>, NoMemory>
+    ensures { IfOk result (λ r. vec_len r ≡ seats) }
+{
+    let mut rests = Vec::with_capacity(alloc, usize::from(seats))?;
+    for _seat in 0..seats {
+        rests.push_reserved(NoRest);
+    }
+    Ok(rests)
+}
+
 /// For each worker that the words ask for, what names its places in turn.
-fn readies(alloc: Global, words: &[String]) -> Result<Vec<InTurn>, NoMemory>
+pub(crate) fn readies(alloc: Global, words: &[String]) -> Result<Vec<InTurn>, NoMemory>
     ensures { IfOk result (λ r. (asked : Asked) → serve_from (map string_bytes words.now) ≡ Some asked → vec_len r ≡ asked.workers) }
 {
     let (workers, links) = match serve_words(alloc, words) {
@@ -141,7 +172,16 @@ fn served<R: Threads + Wait + Sync>(
 {
     let mut sink = MemorySink::new(alloc, List::from_slice(alloc, writes)?);
     let readies = readies(alloc, words)?;
-    let (exit, door, books) = serve(rt, alloc, words, readies, door, &mut sink, seed);
+    let seats = seats(alloc, words)?;
+    let rests = rests(alloc, seats)?;
+    let mut bots: Vec<Box<dyn Bot + Send>> = Vec::with_capacity(alloc, usize::from(seats))?;
+    for _seat in 0..seats {
+        let bot: Box<dyn Bot + Send> = Box::new(alloc, PassBot::new(alloc))?;
+        bots.push_reserved(bot);
+    }
+    let (exit, door, books) = serve(
+        rt, alloc, words, readies, door, &mut sink, seed, bots, rests,
+    );
     drop(books);
     Ok((exit, door, sink))
 }
@@ -245,5 +285,25 @@ fn matches_are_served_and_reported(rt: HostRuntime) -> Result<(), Fail> {
     for row in rows {
         serves(&rt, rt.alloc(), row)?;
     }
+    Ok(())
+}
+
+#[test]
+fn a_server_without_bots_has_none_to_take_over(rt: HostRuntime) -> Result<(), Fail> {
+    let alloc = rt.alloc();
+    let words = words(alloc, &[])?;
+    let door = door(alloc, &[TAKEOVER], &[CREATE], &[])?;
+    let (_exit, door, sink) = served(&rt, alloc, words.as_slice(), door, &[], [0; 32])?;
+    drop(sink);
+    let mut found = false;
+    for (link, _end) in door.ended() {
+        if link.sent()
+            == b"{\"field\":null,\"reason\":\"not-a-bot\",\"type\":\"refused\"}\n".as_slice()
+        {
+            found = true;
+        }
+    }
+    drop(door);
+    assert!(rt; found);
     Ok(())
 }

@@ -4,8 +4,12 @@ use Rattle.board_commands.proofs.serving.serve.Goals as goal
 pub serve_asked-requires-clause-readies : goal.serve_asked-requires-clause-readies
 serve_asked-requires-clause-readies g c κs inside = c.requires.workers c.in-Ok.asked c.in-Ok.ensures.asked
 
+pub serve_asked-requires-clause-bots : goal.serve_asked-requires-clause-bots
+serve_asked-requires-clause-bots g c κs inside =
+    (c.requires.bots c.in-Ok.asked c.in-Ok.ensures.asked, c.requires.rests c.in-Ok.asked c.in-Ok.ensures.asked)
+
 pub returns-in-Err-Usage-clause-served : goal.returns-in-Err-Usage-clause-served
-returns-in-Err-Usage-clause-served g c asked said = none_served c.args.seed asked.links (g.D.Door.returned c.args.door) c.requires.none_back
+returns-in-Err-Usage-clause-served g c asked said none = none_served c.args.seed asked.links (g.D.Door.returned c.args.door) c.requires.none_back
 
 pub returns-in-Err-NoMemory-clause-served : goal.returns-in-Err-NoMemory-clause-served
-returns-in-Err-NoMemory-clause-served g c asked said = none_served c.args.seed asked.links (g.D.Door.returned c.args.door) c.requires.none_back
+returns-in-Err-NoMemory-clause-served g c asked said none = none_served c.args.seed asked.links (g.D.Door.returned c.args.door) c.requires.none_back
