@@ -2,24 +2,31 @@
 //! wait and to start threads, which `main` is given.
 
 ghost use Rattle.std.specs.Prelude.{◌≡◌, [], IfSome, Some, false, map, string_bytes, vec_len};
+ghost use Rattle.board_commands.specs.Serving.{seats_asked};
 ghost use Rattle.command_words.specs.Serve.{serve_from};
 ghost use Rattle.command_words.specs.declared.serve.ServeWords.{ServeWords as Asked};
 
 use crate::outspoken::Outspoken;
-use board_commands::{play, print_page, run, serve};
+use board_bots::{Bot, DiceBot, NoRest};
+use board_commands::{kept, kept_path, play, print_page, run, seats_of, serve};
 use board_drawing::DrawingSink;
 use board_links::{Door, ReaderSource, WriterSink};
 use command_words::{ServeWords, WordsNo, play_words, serve_words};
+use dice_words::Tape;
 use game_sheet::{NoMemory, Text};
 use line_runner::Exit;
 use link_rounds::Ready;
+use page_files::{Pages, read_pages};
 use poll_links::open;
+use room_disk::FileDisk;
 use std::alloc::Global;
-use std::fs::File;
+use std::fs::{File, TryLockError};
 use std::io::{self, Read};
 use std::mem;
 use std::net::SocketAddr;
 use std::os::fd::AsRawFd;
+use std::os::unix::fs::OpenOptionsExt;
+use std::path::Path;
 use std::sync::{Arc, Wait};
 use std::thread::Threads;
 use tcp_links::TcpLink;
@@ -48,6 +55,9 @@ const NULL: &str = "/dev/null";
 /// How many bytes a line of a client may have.
 const CLIENT_LINE: u32 = 65_536;
 
+/// The stream of a server's seed from which the bot at seat 0 throws its die; that of each further seat follows.
+const DICE: u64 = 33;
+
 /// Prints a page on standard output.
 pub fn print_here(rt: &HostRuntime, page: &str) -> Exit {
     print_page(&mut WriterSink::new(rt.stdout()), page)
@@ -58,6 +68,57 @@ pub fn run_here(rt: &HostRuntime, words: &[String]) -> Exit {
     let mut source = ReaderSource::new(rt.reader());
     let mut sink = WriterSink::new(rt.stdout());
     run(rt.alloc(), words, &mut source, &mut sink)
+}
+
+/// Runs the script of standard input over the room whose changes the file that the words name keeps.
+pub fn kept_here(rt: &HostRuntime, words: &[String]) -> Exit {
+    let Some(path) = kept_path(words) else {
+        return Exit::Usage;
+    };
+    match open_journal(rt, path) {
+        Ok(file) => {
+            let mut source = ReaderSource::new(rt.reader());
+            let mut sink = WriterSink::new(rt.stdout());
+            let (exit, disk) = kept(
+                rt.alloc(),
+                words,
+                &mut source,
+                &mut sink,
+                FileDisk::new(file),
+            );
+            drop(disk);
+            exit
+        }
+        Err(error) => fault(&error, Exit::StoreFault),
+    }
+}
+
+/// Opens the file of a journal for this process alone, and makes it where there is none. Nobody but its owner may read it, since it has the
+/// players' keys.
+fn open_journal(rt: &HostRuntime, path: &str) -> io::Result<File> {
+    let mut options = File::options();
+    options.read(true).write(true).create(true).mode(0o600);
+    let file = options.open(rt, path)?;
+    match file.try_lock() {
+        Ok(()) => {}
+        Err(TryLockError::WouldBlock) => return Err(io::Error::from(io::ErrorKind::WouldBlock)),
+        Err(TryLockError::Error(error)) => return Err(error),
+    }
+    sync_folder(rt, path)?;
+    Ok(file)
+}
+
+/// Hands the name of a file to the device, so that a crash doesn't lose a file that was made just now.
+fn sync_folder(rt: &HostRuntime, path: &str) -> io::Result<()> {
+    let folder = match Path::new(path).parent() {
+        Some(folder) => folder,
+        None => return Ok(()),
+    };
+    if folder.as_os_str().is_empty() {
+        File::open(rt, ".")?.sync_all()
+    } else {
+        File::open(rt, folder)?.sync_all()
+    }
 }
 
 /// Plays a match over a link to the server that the words name.
@@ -119,12 +180,21 @@ pub fn serve_there<R: Threads + Wait + Sync>(
         sessions,
         silence,
         origin,
+        page,
         ws,
+        bots: table,
+        pace: _,
     } = asked;
     let addr = listen.as_str().parse::<SocketAddr>();
     drop(listen);
+    let seats = seats_of(&table);
+    drop(table);
     let Ok(origin) = shared(rt.alloc(), origin) else {
         return Exit::NoMemory;
+    };
+    let pages = match pages_in(rt, page) {
+        Ok(pages) => pages,
+        Err(error) => return fault(&error, Exit::ReadFault),
     };
     let Ok(addr) = addr else {
         return Exit::DoorFault;
@@ -137,16 +207,17 @@ pub fn serve_there<R: Threads + Wait + Sync>(
         if silence > 0 { Some(silence) } else { None },
         usize::from(workers),
         u32::from(links),
-        sessions,
+        // Bots' sessions count too, and need no connection.
+        sessions.saturating_sub(u32::from(seats)),
     );
     match opened {
         Ok((door, readies)) => {
             announce(rt, door.addr());
             if ws {
-                let door = WsDoor::from(rt.alloc(), PollStreams::over(door), origin);
-                serve_at(leave, rt, words, readies, Outspoken::new(*rt, door))
+                let door = WsDoor::with_pages(rt.alloc(), PollStreams::over(door), origin, pages);
+                serve_at(leave, rt, words, seats, readies, Outspoken::new(*rt, door))
             } else {
-                serve_at(leave, rt, words, readies, Outspoken::new(*rt, door))
+                serve_at(leave, rt, words, seats, readies, Outspoken::new(*rt, door))
             }
         }
         Err(error) => fault(&error, Exit::DoorFault),
@@ -161,17 +232,33 @@ fn shared(alloc: Global, origin: Option<Text>) -> Result<Option<Arc<Text, Global
     }
 }
 
-/// Serves matches at this door.
+/// The files of the page in a folder, for all links of a door, if there is one.
+fn pages_in(rt: &HostRuntime, folder: Option<Text>) -> io::Result<Option<Arc<Pages, Global>>> {
+    let Some(folder) = folder else {
+        return Ok(None);
+    };
+    let pages = read_pages(rt, rt.alloc(), folder.as_str());
+    drop(folder);
+    match Arc::new(rt.alloc(), pages?) {
+        Ok(pages) => Ok(Some(pages)),
+        Err(_) => Err(io::Error::from(io::ErrorKind::OutOfMemory)),
+    }
+}
+
+/// Serves matches at this door, with so many bots.
 fn serve_at<D: Door + Send, W: Ready<D::L> + Send, R: Threads + Wait + Sync>(
     leave: &R,
     rt: &HostRuntime,
     words: &[String],
+    seats: u8,
     readies: Vec<W>,
     door: D,
 ) -> Exit
 where
     D::L: Send,
     requires workers { (asked : Asked) → serve_from (map string_bytes words.now) ≡ Some asked → vec_len readies ≡ asked.workers }
+    requires seats { (asked : Asked) → serve_from (map string_bytes words.now) ≡ Some asked → seats ≡ seats_asked asked.bots }
+    requires plain { D.has_bots ≡ false }
     requires given { D.given door ≡ 0 }
     requires out { D.out door ≡ 0 }
     requires bots_out { D.bots_out door ≡ 0 }
@@ -179,28 +266,57 @@ where
     requires none_back { IfSome (D.returned door) (λ told. told ≡ []) }
 {
     match seed(rt) {
-        Ok(seed) => {
-            let mut sink = WriterSink::new(rt.stdout());
-            let (exit, door, books) = serve(
-                leave,
-                rt.alloc(),
-                words,
-                readies,
-                door,
-                &mut sink,
-                seed,
-            );
-            drop(door);
-            // The process ends with this run, and its memory goes with it.
-            mem::forget(books);
-            exit
-        }
+        Ok(seed) => match serve_seeded(leave, rt, words, seats, readies, door, seed) {
+            Ok(exit) => exit,
+            Err(NoMemory) => Exit::NoMemory,
+        },
         Err(error) => {
             drop(readies);
             drop(door);
             fault(&error, Exit::DoorFault)
         }
     }
+}
+
+/// Serves matches at this door, with so many bots, and with the words of this seed. A bot never rests, since it gets a turn only where it may have
+/// something to say.
+fn serve_seeded<D: Door + Send, W: Ready<D::L> + Send, R: Threads + Wait + Sync>(
+    leave: &R,
+    rt: &HostRuntime,
+    words: &[String],
+    seats: u8,
+    readies: Vec<W>,
+    door: D,
+    seed: [u8; 32],
+) -> Result<Exit, NoMemory>
+where
+    D::L: Send,
+    requires workers { (asked : Asked) → serve_from (map string_bytes words.now) ≡ Some asked → vec_len readies ≡ asked.workers }
+    requires seats { (asked : Asked) → serve_from (map string_bytes words.now) ≡ Some asked → seats ≡ seats_asked asked.bots }
+    requires plain { D.has_bots ≡ false }
+    requires given { D.given door ≡ 0 }
+    requires out { D.out door ≡ 0 }
+    requires bots_out { D.bots_out door ≡ 0 }
+    requires shut { D.shut door ≡ false }
+    requires none_back { IfSome (D.returned door) (λ told. told ≡ []) }
+{
+    let alloc = rt.alloc();
+    let mut bots: Vec<Box<dyn Bot + Send>> = Vec::with_capacity(alloc, usize::from(seats))?;
+    let mut rests = Vec::with_capacity(alloc, usize::from(seats))?;
+    for seat in 0..seats {
+        let tape = Tape::live(seed, DICE + u64::from(seat), 0);
+        let bot: Box<dyn Bot + Send> = Box::new(alloc, DiceBot::new(alloc, tape))?;
+        bots.push_reserved(bot);
+        rests.push_reserved(NoRest);
+    }
+    let mut sink = WriterSink::new(rt.stdout());
+    let (exit, door, books) = serve(
+        leave, alloc, words, readies, door, &mut sink, seed, bots, rests,
+    );
+    drop(door);
+    // The process ends with this run, and its memory goes with it.
+    mem::forget(books);
+    Ok(exit)
 }
 
 /// Says on standard error where the door listens. A line that can't be written is lost.
