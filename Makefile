@@ -1,4 +1,4 @@
-.PHONY: program demo serve served play page-test test bench
+.PHONY: program demo serve served page play page-test test bench
 
 SHELL := bash
 .SHELLFLAGS := -o pipefail -c
@@ -33,13 +33,26 @@ bench: program
 served: program
 	@bench/served.py same crates/board_server/out/board_server 20000
 
-# Serves matches over WebSockets at an address, and the files of the page at another, until it is stopped.
-PAGE ?= 127.0.0.1:8000
-play: program
-	@echo "Play at http://$(PAGE)/?server=ws://$(LISTEN)/"
-	@python3 -m http.server $(lastword $(subst :, ,$(PAGE))) --bind $(firstword $(subst :, ,$(PAGE))) --directory page >/dev/null 2>&1 & \
-	files=$$!; trap "kill $$files" EXIT; crates/board_server/out/board_server serve --listen $(LISTEN) --ws --links $(LINKS)
+# Proves the client that guesses ahead on the page, and makes WebAssembly of it for browsers.
+page: page/page_program.wasm
+
+page/page_program.wasm: $(wildcard page/wasm/*) $(shell find crates -path '*/src/*' -name '*.rt')
+	@cd crates/page_program && rt all check --jobs $(JOBS) | grep -Ev '^(crate|fn|library|logic|only=|so far|statements)'
+	@cd crates/page_program && ../../page/wasm/capture.py out/page_program.bc <stdin >out/page_program.lines
+	@cmp crates/page_program/out/page_program.lines crates/page_program/stdout
+	@page/wasm/compile.sh crates/page_program/out/page_program.bc $@
+
+# Serves matches over WebSockets at an address, and the page, until it is stopped. Bots sit at a first match, and answer after so many seconds.
+BOTS ?= tic-tac-toe
+SEATS ?= 2
+PACE ?= 3
+PLAY_LINKS ?= 32
+play: program page
+	@echo "Play at http://$(LISTEN)/"
+	@echo "$(SEATS) bots wait in match 0-1, $(BOTS): ask one of them for its seat, and play against the other."
+	@crates/board_server/out/board_server serve --listen $(LISTEN) --ws --page page --links $(PLAY_LINKS) \
+		--bots $(BOTS) --seats $(SEATS) --pace $(PACE)
 
 # Plays on the page in headless Chromium, against the program, or against SARPUNTXE_PROGRAM or SARPUNTXE_SERVER. It wants node and chromium.
-page-test: $(if $(SARPUNTXE_PROGRAM)$(SARPUNTXE_SERVER),,program)
+page-test: $(if $(SARPUNTXE_PROGRAM)$(SARPUNTXE_SERVER),,program) page
 	@node --experimental-websocket --no-warnings page/test/play.mjs $(PLAYS)

@@ -16,23 +16,30 @@ import { highHand } from "./high-hand.mjs";
 import { blindBid, captions } from "./sealed.mjs";
 import { cuts, reasons, unknownGame } from "./cuts.mjs";
 import { guesses } from "./guesses.mjs";
+import { handed } from "./handed.mjs";
 import { phone } from "./phone.mjs";
-import { program } from "./program.mjs";
+import { program, recorded } from "./program.mjs";
 import { takeover } from "./takeover.mjs";
+import { bots } from "./bots.mjs";
 
-const PLAYS = { addresses, lobby, gone, reasons, ticTacToe, countdown, pig, highHand, blindBid, captions, cuts, unknownGame, program, guesses, takeover, phone };
+const PLAYS = { handed, addresses, lobby, gone, reasons, ticTacToe, countdown, pig, highHand, blindBid, captions, cuts, unknownGame, program, recorded, guesses, takeover, bots, phone };
 const here = (path) => fileURLToPath(new URL(path, import.meta.url));
 
 const words = process.argv.slice(2);
 const pictures = words[0] === "--pictures" ? words.splice(0, 2)[1] : null;
 const wanted = words.length ? words : Object.keys(PLAYS);
-const server = await startServer(here("../../crates/board_server/out/board_server"));
+const start = (...more) => startServer(here("../../crates/board_server/out/board_server"), here("../"), ...more);
+const server = await start("--links", "64", "--rooms", "64");
 const files = await serveFiles(here("../"));
 const browser = await openBrowser();
 const session = await Session.open(server.address);
 const scene = {
-  browser, session, pictures, server: server.address, files: files.address, address: pageAt(files.address, server.address),
+  browser, session, pictures, server: server.address, page: server.page, files: files.address,
+  // The page from the server itself; from another host, where a relay stands between, which the server's policy wouldn't let the page ask.
+  address: server.page ? `${server.page}?guess=no` : pageAt(files.address, server.address),
   open: () => Session.open(server.address),
+  // Another server, of these words.
+  start,
 };
 let failed = 0;
 for (const name of wanted) {

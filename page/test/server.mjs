@@ -3,11 +3,12 @@
 import { spawn } from "node:child_process";
 import { existsSync } from "node:fs";
 
-export async function startServer(built) {
-  if (process.env.SARPUNTXE_SERVER) return { address: process.env.SARPUNTXE_SERVER, fresh: false, stop() {} };
+/** Starts the server with these words, which hands out the files of the page in this folder too: `page` is where it does, or null. */
+export async function startServer(built, folder, ...words) {
+  if (process.env.SARPUNTXE_SERVER) return { address: process.env.SARPUNTXE_SERVER, page: null, fresh: false, stop() {} };
   const program = process.env.SARPUNTXE_PROGRAM ?? built;
   if (!existsSync(program)) throw new Error(`there is no program ${program}: build it, or set SARPUNTXE_PROGRAM or SARPUNTXE_SERVER`);
-  const child = spawn(program, ["serve", "--listen", "127.0.0.1:0", "--ws", "--workers", "32", "--rooms", "64"], { stdio: ["ignore", "ignore", "pipe"] });
+  const child = spawn(program, ["serve", "--listen", "127.0.0.1:0", "--ws", "--page", folder, ...words], { stdio: ["ignore", "ignore", "pipe"] });
   const port = await new Promise((found, failed) => {
     let said = "";
     child.on("exit", (status) => failed(new Error(`the server ended with status ${status}: ${said}`)));
@@ -17,18 +18,22 @@ export async function startServer(built) {
       if (place) found(place[1]);
     });
   });
-  return { address: `ws://127.0.0.1:${port}/`, fresh: true, stop: () => child.kill() };
+  return { address: `ws://127.0.0.1:${port}/`, page: `http://127.0.0.1:${port}/`, fresh: true, stop: () => child.kill() };
 }
 
-/** A session by lines. `snapshot` is the last state that its stream told. */
+/** A session by lines. `snapshot` is the last state that its stream told, and `heard` is called with each line. */
 export class Session {
   #socket; #waiting = []; #heard = [];
   snapshot = null;
+  heard = () => {};
 
   static async open(address) {
     const session = new Session();
     session.#socket = new WebSocket(address);
-    session.#socket.onmessage = ({ data }) => session.#take(JSON.parse(data));
+    session.#socket.onmessage = ({ data }) => {
+      session.heard(data);
+      session.#take(JSON.parse(data));
+    };
     await new Promise((done, failed) => { session.#socket.onopen = done; session.#socket.onerror = failed; });
     return session;
   }
