@@ -103,12 +103,10 @@ fn door(alloc: Global, looks: bool) -> Result<MemoryDoor<MemoryLink>, NoMemory>
 
 /// Whether a text stands somewhere in another.
 fn has(text: &[u8], part: &[u8]) -> bool {
-    let mut rest = text;
-    while !rest.is_empty() {
-        if rest.starts_with(part) {
+    for at in 0..text.len() {
+        if text[at..].starts_with(part) {
             return true;
         }
-        rest = &rest[1..];
     }
     false
 }
@@ -187,12 +185,18 @@ fn plays<R: Abort + Threads + Wait + Sync>(
         assert_eq!(rt; marks[1].load(Ordering::SeqCst), shown[1]);
     }
     let mut books = books;
-    for at in 0..books.len() {
-        if at == 0 {
-            assert!(rt; ends_so(&mut books[at], table.ends));
+    books.reverse();
+    let ends = match books.pop() {
+        Some(book) => {
+            let mut book = book;
+            let ends = ends_so(&mut book, table.ends);
+            drop(book);
+            ends
         }
-    }
+        None => table.exit != Exit::Done,
+    };
     drop(books);
+    assert!(rt; ends);
     Ok(())
 }
 
