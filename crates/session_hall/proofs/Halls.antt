@@ -27,10 +27,11 @@ use Rattle.room_history.specs.declared.call.RoomCall.TheVariants as call
 use Rattle.room_history.specs.declared.reply.RoomReply.{RoomReply}
 use Rattle.room_object.specs.Entry.{Entry, entry}
 use Rattle.wire_json.specs.ClientReading.{client_read}
-use Rattle.session_hall.specs.Answered.{Frees, HearsLine, Leaves, Opens, leaving, leaving_by}
+use Rattle.session_hall.specs.Answered.{Frees, HearsLineBy, Leaves, Opens, leaving, leaving_by}
 use Rattle.session_hall.specs.Held.{AreBooks, AreCores, HeldHall, IsBook, IsTape, StandsForHall, StandsForOne}
 use Rattle.session_hall.specs.Opens.{OpensIn}
-use Rattle.session_driver.specs.Calls.{did}
+use Rattle.session_hall.specs.Requests.{with_calls}
+use Rattle.session_driver.specs.Calls.{Did, did}
 use Rattle.session_driver.specs.Freeing.{Frees as FreesBy, FreesAt, freed_by}
 use Rattle.session_driver.specs.OfBooks.{AreInOrder}
 use Rattle.session_driver.specs.Hearing.{Draws, Hears, Side, draws, side}
@@ -141,8 +142,8 @@ module _ (tape : ℕ → List ℕ) (held : HeldHall) (h : Hall GameKind) (s : St
 
   -- ---- a session's line
 
-  module _ (pass : ℕ) (there : pass < 32) (line : List ℕ) (d : Core GameKind) (books : Books) (said : List ℕ) (again : Bool) (tally : Tally)
-      (r : HearsRequest tape h pass (client_read line) d books said again tally) (strip : Strip) (seed : Option (List ℕ))
+  module _ (pass : ℕ) (there : pass < 32) (line : List ℕ) (d : Core GameKind) (books : Books) (said : List ℕ) (again : Bool) (tally : Tally) (calls : List Did)
+      (r : HearsRequest tape h pass (client_read line) d books said again tally (with_calls pass calls h.rooms)) (strip : Strip) (seed : Option (List ℕ))
       (kept : again ≡ true → IsTape tape h.place strip × (seed ≡ h.seed))
       (drew : again ≡ false → IsTape tape (h.place + words_drawn_by (client_read line) h.seed) strip × (seed ≡ seed_left_by (client_read line) h.seed)) where
     abbrev done : Core GameKind × Rooms GameKind
@@ -168,14 +169,17 @@ module _ (tape : ℕ → List ℕ) (held : HeldHall) (h : Hall GameKind) (s : St
     seed_by true e = subst (λ b. seed ≡ (if b then h.seed else seed_left_by (client_read line) h.seed)) (sym e ∙ r.want) (kept e).1
     seed_by false e = subst (λ b. seed ≡ (if b then h.seed else seed_left_by (client_read line) h.seed)) (sym e ∙ r.want) (drew e).1
 
-    pub line_heard : HearsLine tape h pass line (record { books = books; cores = slice_set held.cores pass d; tape = strip; seed = seed }) said again tally
+    pub line_heard : HearsLineBy tape h pass line (record { books = books; cores = slice_set held.cores pass d; tape = strip; seed = seed }) said again tally calls
     line_heard = record {
-      mark = r.mark;
-      stands = stands_with next books (slice_set held.cores pass d) strip seed as_many r.stand
-          (put_core held.cores h next pass d s.cores_held there as_many is_idle (λ q e. other_at pass done.0.at h.at q e)) (words_by again refl) (seed_by again refl);
-      text = r.text;
-      want = r.want;
-      tallies = r.tallies;
+      heard = record {
+        mark = r.mark;
+        stands = stands_with next books (slice_set held.cores pass d) strip seed as_many r.stand
+            (put_core held.cores h next pass d s.cores_held there as_many is_idle (λ q e. other_at pass done.0.at h.at q e)) (words_by again refl) (seed_by again refl);
+        text = r.text;
+        want = r.want;
+        tallies = r.tallies;
+      };
+      rooms = r.rooms;
     }
 
   -- ---- a session's line, by what the driver made of it
@@ -186,9 +190,9 @@ module _ (tape : ℕ → List ℕ) (held : HeldHall) (h : Hall GameKind) (s : St
     ready : IsReady tape h pass c held.books (next_action held.tape).left held.seed
     ready = record { is_core = own_core pass there c is; are_books = s.books_held; are_words = next_words tape h.place held.tape s.tape_held; is_seed = s.seed_held }
 
-    heard_so : HearsRequest tape h pass (client_read line) now after said again tally
+    heard_so : HearsRequest tape h pass (client_read line) now after said again tally (with_calls pass k.runs.makes.all h.rooms)
     heard_so =
-        hears_as tape h pass (client_read line) d now after after said again tally tally
+        hears_as tape h pass (client_read line) d now after after said again tally tally (with_calls pass k.runs.makes.all h.rooms)
         (hall_hears_line tape h pass line c held.books (draws held.tape held.seed) ready d after left tally k) is_now is_said is_again_so refl refl
 
     -- there was no memory for it
@@ -208,8 +212,8 @@ module _ (tape : ℕ → List ℕ) (held : HeldHall) (h : Hall GameKind) (s : St
           ap (λ (x : Draws). x.seed) so ∙ ap (λ x. seed_left_by (client_read line) x) s.seed_held,
         )
 
-    pub line_driven : HearsLine tape h pass line (record { books = after; cores = slice_set held.cores pass now; tape = left.words; seed = left.seed }) said again tally
-    line_driven = line_heard pass there line now after said again tally heard_so left.words left.seed kept drew
+    pub line_driven : HearsLineBy tape h pass line (record { books = after; cores = slice_set held.cores pass now; tape = left.words; seed = left.seed }) said again tally k.runs.makes.all
+    line_driven = line_heard pass there line now after said again tally k.runs.makes.all heard_so left.words left.seed kept drew
 
   -- ---- a Take and a Detach
 
@@ -394,7 +398,7 @@ module _ (tape : ℕ → List ℕ) (held : HeldHall) (h : Hall GameKind) (s : St
         after_drawing tape h.place held.tape s.tape_held (seed_words h.seed) strip
         (drew ∙ ap (λ x. drawn (seed_words held.seed) x) is_next ∙ ap (λ x. drawn (seed_words x) (next_action held.tape)) s.seed_held)
 
-    seed_then : seed ≡ seed_of h.seed (tape h.place)
+    pub seed_then : seed ≡ seed_of h.seed (tape h.place)
     seed_then =
         is_seed ∙ ap (λ (x : Strip). seed_of held.seed x.left) is_next ∙ ap (λ x. seed_of held.seed x) (next_words tape h.place held.tape s.tape_held)
         ∙ ap (λ x. seed_of x (tape h.place)) s.seed_held

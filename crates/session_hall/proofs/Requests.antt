@@ -33,9 +33,8 @@ abbrev pub mark_of : Want → Mark
 mark_of None = Served
 mark_of (Some want) = Starved (suc want.0) want.1
 
--- a call was made in a room, and the core goes on from its reply
-pub record Asks (pass room : ℕ) (call : RoomCall GameKind) (c : Core GameKind) (h : History GameKind) (d : Core GameKind) (book : Held GameKind AnyG) (tally : Tally) : Type 0 where
-  pub told : RoomReply
+-- a call was made in a room and replied to so, and the core goes on from the reply
+pub record Asks (pass room : ℕ) (call : RoomCall GameKind) (told : RoomReply) (c : Core GameKind) (h : History GameKind) (d : Core GameKind) (book : Held GameKind AnyG) (tally : Tally) : Type 0 where
   pub is : told ≡ reply any_rules room h (entry pass call (is_starved told))
   pub fed : is_starved told ≡ true → may_starve call ≡ true
   pub stands : StandsFor any_rules book (entry pass call (is_starved told) ∷ h)
@@ -50,8 +49,7 @@ pub record RunsTo (n pass : ℕ) (c : Core GameKind) (rooms : Rooms GameKind) (d
   pub left : (run named (ask_rooms any_rules pass) n c (record { rooms = rooms; luck = luck_of want })).1.rooms ≡ after
 
 -- and the books stand for those rooms
-pub record Runs (pass : ℕ) (c : Core GameKind) (rooms : Rooms GameKind) (d : Core GameKind) (books : List (Held GameKind AnyG)) (tally : Tally) : Type 0 where
-  pub after : Rooms GameKind
+pub record Runs (pass : ℕ) (c : Core GameKind) (rooms after : Rooms GameKind) (d : Core GameKind) (books : List (Held GameKind AnyG)) (tally : Tally) : Type 0 where
   pub stand : AreBooks books after
   pub goes : RunsTo (length rooms + 1) pass c rooms d after
   pub tallies : Tallies rooms tally after
@@ -63,11 +61,12 @@ pub record IsReady (words : ℕ → List ℕ) (h : Hall GameKind) (pass : ℕ) (
   pub are_words : left ≡ words h.place
   pub is_seed : seed ≡ h.seed
 
--- a session's message was served as far as a mark says
-pub record HearsRequest (words : ℕ → List ℕ) (h : Hall GameKind) (pass : ℕ) (read : Result ClientMsg Fault) (d : Core GameKind) (books : List (Held GameKind AnyG)) (line : List ℕ) (again : Bool) (tally : Tally) : Type 0 where
+-- a session's message was served as far as a mark says, and left these rooms
+pub record HearsRequest (words : ℕ → List ℕ) (h : Hall GameKind) (pass : ℕ) (read : Result ClientMsg Fault) (d : Core GameKind) (books : List (Held GameKind AnyG)) (line : List ℕ) (again : Bool) (tally : Tally) (after : Rooms GameKind) : Type 0 where
   pub mark : Mark
   pub stand : AreBooks books (request named any_rules words mark h pass read).1.rooms
   pub core : d ≡ plain (request named any_rules words mark h pass read).0
   pub text : line ≡ written (request named any_rules words mark h pass read).0
   pub want : again ≡ is_again (request named any_rules words mark h pass read).0.said
   pub tallies : Tallies h.rooms tally (request named any_rules words mark h pass read).1.rooms
+  pub rooms : (request named any_rules words mark h pass read).1.rooms ≡ after

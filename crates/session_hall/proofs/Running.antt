@@ -193,46 +193,45 @@ module _ (n pass : ℕ) (c : Core GameKind) (rooms : Rooms GameKind) (room : ℕ
         ap (λ x. runs n pass x (with_luck next (Some (0, there)))) s ∙ still pass n d (with_luck next (Some (0, there))) closed in
         runs_by (Some (0, there)) told_as.NoMemory next (Some (0, there)) e after a (ap (λ done. done.0) stays ∙ same.0) (ap (λ done. done.1.rooms) stays ∙ same.1)
 
-    module _ (d : Core GameKind) (book : Held GameKind AnyG) (tally : Tally) (a : Asks pass room made (asked c) (history_of rooms room) d book tally) (e : Core GameKind) (after : Rooms GameKind)
-        (r : RunsTo n pass d (with_entry rooms room (entry pass made (is_starved a.told))) e after) where
+    module _ (told : RoomReply) (d : Core GameKind) (book : Held GameKind AnyG) (tally : Tally) (a : Asks pass room made told (asked c) (history_of rooms room) d book tally) (e : Core GameKind) (after : Rooms GameKind)
+        (r : RunsTo n pass d (with_entry rooms room (entry pass made (is_starved told))) e after) where
       abbrev next_by : Bool → Rooms GameKind
       next_by b = with_entry rooms room (entry pass made b)
 
-      goes_by : (b : Bool) → is_starved a.told ≡ b → RunsTo n pass d (next_by b) e after → HearsReply (asked c) a.told d → RunsTo (suc n) pass c rooms e after
+      goes_by : (b : Bool) → is_starved told ≡ b → RunsTo n pass d (next_by b) e after → HearsReply (asked c) told d → RunsTo (suc n) pass c rooms e after
       goes_by true s r (inl heard) =
           let memory : (true && takes_memory made) ≡ true = same_memory made ∙ a.fed s in
-          let want : a.told ≡ told_as.NoMemory = starved_is a.told s in
+          let want : told ≡ told_as.NoMemory = starved_is told s in
           let said : reply_in any_rules rooms room (entry pass made (true && takes_memory made)) ≡ told_as.NoMemory =
           ap (λ b. reply_in any_rules rooms room (entry pass made b)) (memory ∙ sym s) ∙ sym a.is ∙ want in
           stops true (next_by true) d e after
           (asks_by (Some (1, true)) true true told_as.NoMemory refl refl (ap (λ x. unheard x) said) ∙ ap (λ b. (told_as.NoMemory, with_luck (next_by b) (Some (0, true)))) memory)
           (ap (λ x. answered named (asked c) x) (sym want) ∙ sym heard)
           r
-      goes_by true s r (inr unheard_it) = absurd (starved_heard request a.told (starved_is a.told s) (wants_of c.request request a.told open_one unheard_it.1))
+      goes_by true s r (inr unheard_it) = absurd (starved_heard request told (starved_is told s) (wants_of c.request request told open_one unheard_it.1))
       goes_by false s r (inl heard) =
-          let said : reply_in any_rules rooms room (entry pass made false) ≡ a.told = ap (λ b. reply_in any_rules rooms room (entry pass made b)) (sym s) ∙ sym a.is in
-          let asks : asked_with (luck_of (later r.want)) ≡ (a.told, with_luck (next_by false) (luck_of r.want)) =
-          asks_by (luck_of (later r.want)) false false a.told (later_served r.want) (later_there r.want) said ∙ ap (λ l. (a.told, with_luck (next_by false) l)) (later_luck r.want) in
-          runs_by (later r.want) a.told (next_by false) (luck_of r.want) e after asks
+          let said : reply_in any_rules rooms room (entry pass made false) ≡ told = ap (λ b. reply_in any_rules rooms room (entry pass made b)) (sym s) ∙ sym a.is in
+          let asks : asked_with (luck_of (later r.want)) ≡ (told, with_luck (next_by false) (luck_of r.want)) =
+          asks_by (luck_of (later r.want)) false false told (later_served r.want) (later_there r.want) said ∙ ap (λ l. (told, with_luck (next_by false) l)) (later_luck r.want) in
+          runs_by (later r.want) told (next_by false) (luck_of r.want) e after asks
           (ap (λ x. (runs n pass x (with_luck (next_by false) (luck_of r.want))).0) (sym heard) ∙ r.core)
           (ap (λ x. (runs n pass x (with_luck (next_by false) (luck_of r.want))).1.rooms) (sym heard) ∙ r.left)
       goes_by false s r (inr unheard_it) =
-          let said : reply_in any_rules rooms room (entry pass made false) ≡ a.told = ap (λ b. reply_in any_rules rooms room (entry pass made b)) (sym s) ∙ sym a.is in
-          let want : (unheard a.told ≡ told_as.NoMemory) × (ticket_of (Some request) ≡ None) =
-          want_unheard request a.told (wants_of c.request request a.told open_one unheard_it.1) in
+          let said : reply_in any_rules rooms room (entry pass made false) ≡ told = ap (λ b. reply_in any_rules rooms room (entry pass made b)) (sym s) ∙ sym a.is in
+          let want : (unheard told ≡ told_as.NoMemory) × (ticket_of (Some request) ≡ None) =
+          want_unheard request told (wants_of c.request request told open_one unheard_it.1) in
           stops false (next_by false) d e after
           (asks_by (Some (1, false)) true false told_as.NoMemory refl refl (ap (λ x. unheard x) said ∙ want.0))
           (starves ∙ ap (λ t. starved (asked c) t) want.1 ∙ sym unheard_it.0)
           r
 
       pub goes : RunsTo (suc n) pass c rooms e after
-      goes = goes_by (is_starved a.told) refl r a.heard
+      goes = goes_by (is_starved told) refl r a.heard
 
 -- ---- a request, from one call to the next
 
--- so many calls have been made, from one core and rooms on
-pub record RunsFrom (made pass : ℕ) (c : Core GameKind) (rooms : Rooms GameKind) (now : Core GameKind) (books : Books) (tally : Tally) : Type 0 where
-  pub asked_rooms : Rooms GameKind
+-- so many calls have been made, from one core and rooms on to these
+pub record RunsFrom (made pass : ℕ) (c : Core GameKind) (rooms asked_rooms : Rooms GameKind) (now : Core GameKind) (books : Books) (tally : Tally) : Type 0 where
   pub stand : AreBooks books asked_rooms
   pub count : length asked_rooms ≡ length rooms
   pub tallies : Tallies rooms tally asked_rooms
@@ -243,9 +242,8 @@ pub added_none : (n none : ℕ) → none ≡ 0 → n ≡ n + none
 added_none n none e = omega (arith, e)
 
 pub runs_first : (pass : ℕ) (c : Core GameKind) (rooms : Rooms GameKind) (books : Books) (tally : Tally) → tally.accepted ≡ 0 → tally.refused ≡ 0 → AreBooks books rooms
-    → RunsFrom 0 pass c rooms c books tally
+    → RunsFrom 0 pass c rooms rooms c books tally
 runs_first pass c rooms books tally none never a = record {
-  asked_rooms = rooms;
   stand = a;
   count = refl;
   tallies = record { accepted = added_none _ tally.accepted none; refused = added_none _ tally.refused never };
@@ -255,36 +253,35 @@ runs_first pass c rooms books tally none never a = record {
     all_left : (n : ℕ) → 0 + n ≡ length rooms + 1 → n ≡ length rooms + 1
     all_left n e = omega (arith, e)
 
-module _ (made pass : ℕ) (c : Core GameKind) (rooms : Rooms GameKind) (now : Core GameKind) (books : Books) (tally : Tally) (f : RunsFrom made pass c rooms now books tally) where
-  pub runs_next : (room : ℕ) (asked_for : RoomCall GameKind) (request : Request) → now.call ≡ Some (room, asked_for) → now.request ≡ Some request → room < length books
+module _ (made pass : ℕ) (c : Core GameKind) (rooms asked_rooms : Rooms GameKind) (now : Core GameKind) (books : Books) (tally : Tally) (f : RunsFrom made pass c rooms asked_rooms now books tally) where
+  pub runs_next : (room : ℕ) (asked_for : RoomCall GameKind) (told : RoomReply) (request : Request) → now.call ≡ Some (room, asked_for) → now.request ≡ Some request → room < length books
       → (d : Core GameKind) (old book : Held GameKind AnyG) → old ≡ slice_index_or books room old → book.room ≡ old.room
-      → (one all : Tally) → ((h : History GameKind) → StandsFor any_rules old h → Asks pass old.room asked_for (asked now) h d book one)
+      → (one all : Tally) → ((h : History GameKind) → StandsFor any_rules old h → Asks pass old.room asked_for told (asked now) h d book one)
       → all.accepted ≡ tally.accepted + one.accepted → all.refused ≡ tally.refused + one.refused
-      → RunsFrom (made + 1) pass c rooms d (slice_set books room book) all
-  runs_next room asked_for request wanted open_one below d old book is same one all asks more fewer = record {
-    asked_rooms = with_entry f.asked_rooms room (entry pass asked_for (is_starved told.told));
-    stand = put_entry books f.asked_rooms room book (entry pass asked_for (is_starved told.told)) f.stand there (same ∙ numbered) told.stands;
-    count = same_length f.asked_rooms room (entry pass asked_for (is_starved told.told)) ∙ f.count;
+      → RunsFrom (made + 1) pass c rooms (with_entry asked_rooms room (entry pass asked_for (is_starved told))) d (slice_set books room book) all
+  runs_next room asked_for told request wanted open_one below d old book is same one all asks more fewer = record {
+    stand = put_entry books asked_rooms room book (entry pass asked_for (is_starved told)) f.stand there (same ∙ numbered) went.stands;
+    count = same_length asked_rooms room (entry pass asked_for (is_starved told)) ∙ f.count;
     tallies = record {
-      accepted = counts_entry any_rules accepts f.asked_rooms room (entry pass asked_for (is_starved told.told)) there
-          ∙ with_one _ _ tally.accepted one.accepted all.accepted _ f.tallies.accepted (told.accepted ∙ ap accepts told.is) more;
-      refused = counts_entry any_rules refuses f.asked_rooms room (entry pass asked_for (is_starved told.told)) there
-          ∙ with_one _ _ tally.refused one.refused all.refused _ f.tallies.refused (told.refused ∙ ap refuses told.is) fewer;
+      accepted = counts_entry any_rules accepts asked_rooms room (entry pass asked_for (is_starved told)) there
+          ∙ with_one _ _ tally.accepted one.accepted all.accepted _ f.tallies.accepted (went.accepted ∙ ap accepts went.is) more;
+      refused = counts_entry any_rules refuses asked_rooms room (entry pass asked_for (is_starved told)) there
+          ∙ with_one _ _ tally.refused one.refused all.refused _ f.tallies.refused (went.refused ∙ ap refuses went.is) fewer;
     };
-    goes = λ n e after l r. f.goes (suc n) e after (one_less_left n l) (goes n pass now f.asked_rooms room asked_for wanted request open_one d book one told e after r);
+    goes = λ n e after l r. f.goes (suc n) e after (one_less_left n l) (goes n pass now asked_rooms room asked_for wanted request open_one told d book one went e after r);
   }
     where
-      there : room < length f.asked_rooms
+      there : room < length asked_rooms
       there = subst (λ k. room < k) f.stand.count below
 
-      held : IsBook room f.asked_rooms old
-      held = subst (λ x. IsBook room f.asked_rooms x) (sym is) (f.stand.each room old there)
+      held : IsBook room asked_rooms old
+      held = subst (λ x. IsBook room asked_rooms x) (sym is) (f.stand.each room old there)
 
       numbered : old.room ≡ room
       numbered = held.number
 
-      told : Asks pass room asked_for (asked now) (history_of f.asked_rooms room) d book one
-      told = subst (λ k. Asks pass k asked_for (asked now) (history_of f.asked_rooms room) d book one) numbered (asks (history_of f.asked_rooms room) held.stands)
+      went : Asks pass room asked_for told (asked now) (history_of asked_rooms room) d book one
+      went = subst (λ k. Asks pass k asked_for told (asked now) (history_of asked_rooms room) d book one) numbered (asks (history_of asked_rooms room) held.stands)
 
       with_one : (now_all before_all so_far this all_of counted : ℕ) → now_all ≡ before_all + so_far → this ≡ counted → all_of ≡ so_far + this → now_all + counted ≡ before_all + all_of
       with_one now_all before_all so_far this all_of counted p q r = omega (arith, p, q, r)
@@ -293,15 +290,14 @@ module _ (made pass : ℕ) (c : Core GameKind) (rooms : Rooms GameKind) (now : C
       one_less_left n l = omega (arith, l)
 
   -- no call is wanted any more
-  pub runs_closed : now.call ≡ None → made ≤ length books + 1 → Runs pass c rooms (asked now) books tally
+  pub runs_closed : now.call ≡ None → made ≤ length books + 1 → Runs pass c rooms asked_rooms (asked now) books tally
   runs_closed closed most =
       let n : ℕ = length rooms + 1 - made in
-      let r : RunsTo n pass now f.asked_rooms now f.asked_rooms = stands_still pass n now f.asked_rooms closed in
+      let r : RunsTo n pass now asked_rooms now asked_rooms = stands_still pass n now asked_rooms closed in
       record {
-        after = f.asked_rooms;
         stand = f.stand;
         tallies = f.tallies;
-        goes = subst (λ x. RunsTo (length rooms + 1) pass c rooms x f.asked_rooms) (sym same) (f.goes n now f.asked_rooms (omega (arith, most, f.stand.count, f.count)) r);
+        goes = subst (λ x. RunsTo (length rooms + 1) pass c rooms x asked_rooms) (sym same) (f.goes n now asked_rooms (omega (arith, most, f.stand.count, f.count)) r);
       }
     where
       same : asked now ≡ now

@@ -16,6 +16,7 @@ use Rattle.session_driver.specs.Calls.{Did}
 use Rattle.session_driver.specs.Hearing.{HearsReply, Makes, RunsOut, Side, side}
 use Rattle.session_driver.specs.OfBooks.{AreInOrder, CallsBook, RoomCalls}
 use Rattle.session_hall.specs.Held.{AreBooks, IsBook}
+use Rattle.session_hall.specs.Requests.{with_calls}
 use Rattle.session_hall.proofs.Requests.{Asks, Runs}
 use Rattle.session_driver.specs.declared.tally.Tally.{Tally}
 use Rattle.session_hall.proofs.Books.{Books}
@@ -50,7 +51,7 @@ tally_one made = record { accepted = accepts made.reply; refused = refuses made.
 
 -- so far: it has run, and its core is settled, of the same pass
 pub record SoFar (pass : ℕ) (c : Core GameKind) (rooms : Rooms GameKind) (all : List Did) (t : Side Books) : Type 0 where
-  pub runs : RunsFrom (length all) pass c rooms t.core t.rooms (tally_of all)
+  pub runs : RunsFrom (length all) pass c rooms (with_calls pass all rooms) t.core t.rooms (tally_of all)
   pub settled : IsSettled t.core.call t.core.request t.core.said
   pub pass_is : t.core.pass ≡ pass
 
@@ -58,9 +59,9 @@ module _ (pass : ℕ) (c : Core GameKind) (rooms : Rooms GameKind) where
   one_further : (all : List Did) (m : Side Books) → SoFar pass c rooms all m → (made : Did) (t : Side Books) → m.core.call ≡ Some (made.room, made.call) → calls_book m.rooms m.core.pass made t.rooms
       → HearsReply (asked m.core) made.reply t.core → SoFar pass c rooms (made ∷ all) t
   one_further all m f made t wanted called heard_it = record {
-    runs = subst (λ n. RunsFrom n pass c rooms t.core t.rooms (tally_of (made ∷ all))) (longer (length all))
-        (subst (λ bs. RunsFrom (length all + 1) pass c rooms t.core bs (tally_of (made ∷ all))) (sym called.set)
-        (runs_next (length all) pass c rooms m.core m.rooms (tally_of all) f.runs made.room made.call open_one.0.0 wanted open_one.0.1 called.here t.core called.old called.book called.is called.room
+    runs = subst (λ n. RunsFrom n pass c rooms (with_calls pass (made ∷ all) rooms) t.core t.rooms (tally_of (made ∷ all))) (longer (length all))
+        (subst (λ bs. RunsFrom (length all + 1) pass c rooms (with_calls pass (made ∷ all) rooms) t.core bs (tally_of (made ∷ all))) (sym called.set)
+        (runs_next (length all) pass c rooms (with_calls pass all rooms) m.core m.rooms (tally_of all) f.runs made.room made.call made.reply open_one.0.0 wanted open_one.0.1 called.here t.core called.old called.book called.is called.room
         (tally_one made) (tally_of (made ∷ all)) asks refl refl));
     settled = replied_settled (asked m.core) open_one.0.0 made.reply t.core open_one.1 open_one.0.1 heard_it;
     pass_is = passes_on heard_it ∙ f.pass_is;
@@ -72,9 +73,8 @@ module _ (pass : ℕ) (c : Core GameKind) (rooms : Rooms GameKind) where
       longer : (n : ℕ) → n + 1 ≡ suc n
       longer n = omega arith
 
-      asks : (h : History GameKind) → StandsFor any_rules called.old h → Asks pass called.old.room made.call (asked m.core) h t.core called.book (tally_one made)
-      asks h s = subst (λ p. Asks p called.old.room made.call (asked m.core) h t.core called.book (tally_one made)) f.pass_is (record {
-        told = made.reply;
+      asks : (h : History GameKind) → StandsFor any_rules called.old h → Asks pass called.old.room made.call made.reply (asked m.core) h t.core called.book (tally_one made)
+      asks h s = subst (λ p. Asks p called.old.room made.call made.reply (asked m.core) h t.core called.book (tally_one made)) f.pass_is (record {
         is = called.told h s;
         fed = called.fed refl;
         stands = called.stands h s;
@@ -104,14 +104,15 @@ module _ (pass : ℕ) (c : Core GameKind) (rooms : Rooms GameKind) where
 
 -- the clause of session_hall's `run`
 pub hall_runs : (c : Core GameKind) (rooms : Rooms GameKind) (books : Books) (tally : Tally) (d : Core GameKind) (after : Books) → AreBooks books rooms → IsSettled c.call c.request c.said
-    → c.rooms ≡ length books → RunsOut calls_book (side books c) tally (side after d) → Runs c.pass c rooms d after tally
+    → c.rooms ≡ length books → (r : RunsOut calls_book (side books c) tally (side after d)) → Runs c.pass c rooms (with_calls c.pass r.makes.all rooms) d after tally
 hall_runs c rooms books tally d after a settled many r =
     let f = so_far c.pass c rooms books a settled refl r.makes.all (side after d) r.makes.made in
     let same_books : length after ≡ length rooms = f.runs.stand.count ∙ f.runs.count in
     let few : length r.makes.all ≤ length after + 1 = enough (length r.makes.all) r.n c.rooms (length books) (length rooms) (length after) r.makes.many r.most many a.count same_books in
-    let ran : Runs c.pass c rooms (asked d) after (tally_of r.makes.all) = runs_closed (length r.makes.all) c.pass c rooms d after (tally_of r.makes.all) f.runs r.done few in
+    let left : Rooms GameKind = with_calls c.pass r.makes.all rooms in
+    let ran : Runs c.pass c rooms left (asked d) after (tally_of r.makes.all) = runs_closed (length r.makes.all) c.pass c rooms left d after (tally_of r.makes.all) f.runs r.done few in
     let told : tally_of r.makes.all ≡ tally = as_counted r.makes.all tally r.makes.accepted r.makes.refused in
-    subst (λ t. Runs c.pass c rooms d after t) told (subst (λ x. Runs c.pass c rooms x after (tally_of r.makes.all)) (asked_none d r.done) ran)
+    subst (λ t. Runs c.pass c rooms left d after t) told (subst (λ x. Runs c.pass c rooms left x after (tally_of r.makes.all)) (asked_none d r.done) ran)
   where
     enough : (made n m books rooms after : ℕ) → made ≡ n → n ≤ m + 1 → m ≡ books → books ≡ rooms → after ≡ rooms → made ≤ after + 1
     enough made n m books rooms after e l f g h = omega (arith, e, l, f, g, h)

@@ -16,7 +16,8 @@ use Rattle.room_object.specs.Entry.{Entry}
 use Rattle.wire_json.specs.MatchText.{match_text}
 use Rattle.session_hall.specs.Held.{HeldHall, StandsForHall}
 use Rattle.session_hall.specs.Opens.{made_by}
-use Rattle.session_hall.specs.Requests.{Tallies}
+use Rattle.session_hall.specs.Requests.{Tallies, with_calls}
+use Rattle.session_driver.specs.Calls.{Did}
 use Rattle.session_driver.specs.declared.tally.Tally.{Tally}
 
 -- a session's line was heard, with the memory that a mark says
@@ -26,6 +27,11 @@ pub record HearsLine (tape : ℕ → List ℕ) (h : Hall GameKind) (pass : ℕ) 
   pub text : said ≡ text_said (after_line named any_rules tape mark h pass line).1
   pub want : again ≡ is_again (after_line named any_rules tape mark h pass line).1
   pub tallies : Tallies h.rooms tally (after_line named any_rules tape mark h pass line).0.rooms
+
+-- and these are the calls that it made, the latest first
+pub record HearsLineBy (tape : ℕ → List ℕ) (h : Hall GameKind) (pass : ℕ) (line : List ℕ) (new : HeldHall) (said : List ℕ) (again : Bool) (tally : Tally) (calls : List Did) : Type 0 where
+  pub heard : HearsLine tape h pass line new said again tally
+  pub rooms : (after_line named any_rules tape heard.mark h pass line).0.rooms ≡ with_calls pass calls h.rooms
 
 -- a Take or a Detach of a session was replied to; none where the session isn't attached
 pub record Frees (tape : ℕ → List ℕ) (h : Hall GameKind) (pass : ℕ) (call : RoomCall GameKind) (new : HeldHall) (told : Option RoomReply) : Type 0 where

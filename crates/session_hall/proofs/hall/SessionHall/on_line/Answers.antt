@@ -27,11 +27,11 @@ invariant_of-self c =
     let d = c.hear-tally.new in
     let k = hears_by _ calls_book (λ (b : Books (Held GameKind AnyG)). b.books.items) (λ s p made t called. called) c.args.line.now _ _ _ _ c.hear-tally.result c.hear-tally.ensures.hears in
     stands_for_one _ _ _ (line_driven _ _ c.self.invariant.0 c.self.invariant.1 c.args.pass c.requires c.args.line.now c.index_mut-core.result.now c.index_mut-core.ensures.value
-    d.core d.rooms.books.items (draws d.tape d.seed) c.hear-tally.result k c.written.new.self c.written.ensures.plain c.written.result c.written.ensures.line c.is_again.result c.is_again.ensures).stands
+    d.core d.rooms.books.items (draws d.tape d.seed) c.hear-tally.result k c.written.new.self c.written.ensures.plain c.written.result c.written.ensures.line c.is_again.result c.is_again.ensures).heard.stands
 
 pub returns : goal.returns
 returns c = λ tape h s.
     let d = c.hear-tally.new in
     let k = hears_by _ calls_book (λ (b : Books (Held GameKind AnyG)). b.books.items) (λ s p made t called. called) c.args.line.now _ _ _ _ c.hear-tally.result c.hear-tally.ensures.hears in
-    line_driven tape _ h (subst (λ x. StandsForHall tape x h) (sym c.self.view_is) s) c.args.pass c.requires c.args.line.now c.index_mut-core.result.now c.index_mut-core.ensures.value
-    d.core d.rooms.books.items (draws d.tape d.seed) c.hear-tally.result k c.written.new.self c.written.ensures.plain c.written.result c.written.ensures.line c.is_again.result c.is_again.ensures
+    (line_driven tape _ h (subst (λ x. StandsForHall tape x h) (sym c.self.view_is) s) c.args.pass c.requires c.args.line.now c.index_mut-core.result.now c.index_mut-core.ensures.value
+    d.core d.rooms.books.items (draws d.tape d.seed) c.hear-tally.result k c.written.new.self c.written.ensures.plain c.written.result c.written.ensures.line c.is_again.result c.is_again.ensures).heard
