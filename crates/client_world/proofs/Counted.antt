@@ -1,7 +1,6 @@
 -- What each step of a world comes to where it is served, and what it counts.
-use Rattle.std.proofs.Common.{◌≡◌, ◌++◌, ◌+◌, ℕ, Bool, true, false, List, [], ◌∷◌, Option, Some, None, codes, decimal, refl, sym, ap, subst, ◌∙◌, arith}
-use Rattle.std.specs.Prelude.{length, Result, Ok, Err, bytes_eq}
-use Rattle.std.specs.List.{concat}
+use Rattle.std.proofs.Common.{◌≡◌, ◌++◌, ◌+◌, ℕ, Bool, true, false, List, [], ◌∷◌, Option, Some, None, codes, decimal, refl, sym, ap, subst, ◌∙◌}
+use Rattle.std.specs.Prelude.{Result, Ok, Err, bytes_eq}
 use Rattle.std.proofs.lemmas.List.{append_cancel_left, append_cancel_right}
 use Rattle.any_game.specs.AnyRules.{any_rules, named}
 use Rattle.any_game.specs.GameKind.{GameKind}
@@ -17,23 +16,18 @@ use Rattle.client_predict.specs.declared.told.Predicted.TheVariants.{Guessed, Se
 use Rattle.client_predict.specs.declared.told.Told.{Told}
 use Rattle.client_predict.specs.declared.told.Told.TheVariants.{Synced, Updated, Accepted, Refused, Again, Ended, Other}
 use Rattle.game_hall.specs.Core.{is_again}
-use Rattle.game_hall.specs.declared.answer.Answer.{Answer}
-use Rattle.game_sheet.specs.Lines.{lines}
 use Rattle.game_sheet.specs.declared.act.Bye.{Bye}
 use Rattle.hall_history.specs.Counts.{hands_out}
 use Rattle.hall_history.specs.Freeing.{frees}
-use Rattle.hall_history.specs.Hall.{Hall, after_line}
+use Rattle.hall_history.specs.Hall.{after_line}
 use Rattle.hall_history.specs.Mark.{Mark, Served}
-use Rattle.hall_history.specs.Rooms.{Rooms}
-use Rattle.world_history.specs.Words.{act_no_word, feed_no_word, heard_word, of_client, predicted_word, told_word}
+use Rattle.world_history.specs.Words.{act_no_word, heard_word, of_client, predicted_word}
 use Rattle.world_history.specs.Workload.{is_held, is_read, is_some_no}
-use Rattle.world_history.specs.World.{World, Acts, Arrives, Reads, with_down, with_hall, with_up}
-use Rattle.world_history.specs.WorldScript.{acts, acts_in, arrived, arrives, answer_lines, does, has_starved, prints_word, reads_in, takes}
-use Rattle.room_history.specs.Session.{bye_lines, bytes_handed_out}
+use Rattle.world_history.specs.World.{World, with_hall}
+use Rattle.world_history.specs.WorldScript.{acts, acts_in, arrived, arrives, has_starved, prints_word, reads_in, takes}
 use Rattle.room_history.specs.declared.call.RoomCall.TheVariants as call
 use Rattle.room_history.specs.declared.reply.RoomReply.{RoomReply}
 use Rattle.room_history.specs.declared.reply.RoomReply.TheVariants as reply
-use Rattle.session_hall.specs.Answered.{HearsLine}
 use Rattle.session_hall.specs.Held.{StandsForHall}
 use Rattle.session_hall.specs.Requests.{Tallies}
 use Rattle.session_driver.specs.declared.tally.Tally.{Tally}
@@ -41,7 +35,7 @@ use Rattle.wire_json.specs.declared.asked.Asked.{Asked}
 use Rattle.client_world.specs.Counted.{HasActed, HasArrived, HasHanded, HasHandedReply, HasTaken, TellsHeld, TellsRead, handed_in}
 use Rattle.client_world.specs.Counted.{HasRead as HasReadLine}
 use Rattle.client_world.specs.IsWorld.{HeldWorld, IsWorld}
-use Rattle.client_world.specs.Outcomes.{Acted, HasRead, Hands, HandsReply, ReadsNext, acted_word, reads_next}
+use Rattle.client_world.specs.Outcomes.{Acted, HasRead, ReadsNext, reads_next}
 use Rattle.client_world.specs.Peers.{ArePeers}
 use Rattle.client_world.proofs.Doing.{hands_nothing, took, unattached}
 use Rattle.client_world.proofs.Unmarked.{served_line}
@@ -209,16 +203,6 @@ module _ (tape : ℕ → List ℕ) (w : World GameKind AnyG) (c : ℕ) (new : He
   reading_told (Some heard) read e r hall = subst (λ b. HasReadLine tape w c b new) (sym e.0) (line_was_read heard (r e.1) hall)
 
   -- ---- a line arrives
-
-  none_added : (n none : ℕ) → none ≡ 0 → n ≡ n + none
-  none_added n none e = omega (arith, e)
-
-  pub nothing_arrived : (tally : Tally) → tally.accepted ≡ 0 → tally.refused ≡ 0 → w.up c ≡ [] → IsWorld tape new w → HasArrived tape w c tally new
-  nothing_arrived tally accepted refused none is = record {
-    stands = subst (λ ls. IsWorld tape new (arrives named any_rules tape Served w c ls).0) (sym none) is;
-    tallies = subst (λ ls. Tallies w.hall.rooms tally (arrives named any_rules tape Served w c ls).0.hall.rooms) (sym none)
-        (record { accepted = none_added _ tally.accepted accepted; refused = none_added _ tally.refused refused });
-  }
 
   pub line_arrived : (mark : Mark) (line : List ℕ) (rest : List (List ℕ)) (tally : Tally) → w.up c ≡ line ∷ rest
       → is_again (after_line named any_rules tape mark w.hall c line).1 ≡ false

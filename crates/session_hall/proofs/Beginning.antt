@@ -1,17 +1,17 @@
 -- The books and the cores of a hall in which nothing has happened, one after another.
-use Rattle.std.proofs.Common.{◌≡◌, ◌≤◌, ◌<◌, ℕ, zero, suc, ◌+◌, ◌==◌, Bool, true, false, List, [], ◌∷◌, ◌++◌, length, slice_index_or, None, refl, sym, ap, ◌∙◌, subst, arith}
+use Rattle.std.proofs.Common.{◌≡◌, ◌<◌, ℕ, zero, suc, ◌+◌, ◌==◌, Bool, true, false, List, [], ◌∷◌, ◌++◌, length, slice_index_or, refl, sym, ap, ◌∙◌, subst, arith}
 use Rattle.std.specs.Prelude.{replicate}
 use Rattle.std.proofs.lemmas.List.{get_or_append_left, get_or_push, length-replicate, length_push}
 use Rattle.any_game.specs.AnyRules.{any_rules}
 use Rattle.any_game.specs.GameKind.{GameKind}
 use Rattle.any_game.specs.declared.any_g.AnyG.{AnyG}
-use Rattle.dice_words.specs.Strip.{Strip, live}
+use Rattle.dice_words.specs.Strip.{live}
 use Rattle.game_hall.specs.Core.{Core, fresh}
 use Rattle.hall_history.specs.Hall.{new_hall}
 use Rattle.hall_history.specs.Rooms.{Rooms, history_of}
 use Rattle.hall_history.proofs.Rooming.{not_same, same_number}
 use Rattle.match_master.specs.Held.{Held, StandsFor}
-use Rattle.session_hall.specs.Held.{AreBooks, AreCores, IsBook, IsTape, StandsForHall, tape_of}
+use Rattle.session_hall.specs.Held.{AreBooks, AreCores, IsBook, IsTape, tape_of}
 use Rattle.session_hall.proofs.Books.{Books}
 
 abbrev pub new_rooms : ℕ → Rooms GameKind
@@ -24,9 +24,6 @@ none_yet (suc rooms) (suc room) = none_yet rooms room
 
 below_last : (r n : ℕ) → r < n + 1 → (n ≡ r → ⊥) → r < n
 below_last r n l other = omega (arith, l, other)
-
-pub no_books : AreBooks [] (new_rooms 0)
-no_books = record { count = refl; each = λ room d below. absurd (omega (arith, below)) }
 
 pub push_book : (books : Books) (rooms : ℕ) (b : Held GameKind AnyG) → AreBooks books (new_rooms rooms) → b.room ≡ rooms → StandsFor any_rules b []
     → AreBooks (books ++ b ∷ []) (new_rooms (rooms + 1))
@@ -83,15 +80,3 @@ all_there rooms cores a = record {
 
 pub new_tape : (seed : List ℕ) → IsTape (tape_of seed) 0 (live seed 0 0)
 new_tape seed = record { live = refl; gives = λ at. refl; stands_at = refl }
-
-pub stands_new : (rooms : ℕ) (seed : List ℕ) (books : Books) (cores : List (Core GameKind)) (strip : Strip) → 1 ≤ rooms → rooms ≤ 64
-    → AreBooks books (new_rooms rooms) → AreCores cores (new_hall rooms) → strip ≡ live seed 0 0
-    → StandsForHall (tape_of seed) (record { books = books; cores = cores; tape = strip; seed = None }) (new_hall rooms)
-stands_new rooms seed books cores strip least most b c t = record {
-  least = subst (λ n. 1 ≤ n) (sym (length-replicate rooms [])) least;
-  most = subst (λ n. n ≤ 64) (sym (length-replicate rooms [])) most;
-  books_held = b;
-  cores_held = c;
-  tape_held = subst (λ s. IsTape (tape_of seed) 0 s) (sym t) (new_tape seed);
-  seed_held = refl;
-}

@@ -304,12 +304,6 @@ module _ (tape : ℕ → List ℕ) (held : HeldHall) (h : Hall GameKind) (s : St
 
   -- ---- a player's leaving
 
-  pub none_leaves : (name : Name) (seat : ℕ) → nat_lt name.room (length h.rooms) ≡ false → Leaves tape h name seat held None
-  none_leaves name seat e =
-      let is : leaving h name seat ≡ (h, None) =
-      ap (λ b. if b then leaving_by h name.room (own_entry (call.Leave name.serial seat (seat_key seat))) else (h, None)) e in
-      record { stands = subst (λ x. StandsForHall tape held x.0) (sym is) s; reply = sym (ap (λ x. x.1) is) }
-
   pub one_leaves : (name : Name) (seat : ℕ) → name.room < length h.rooms → nat_lt name.room (length h.rooms) ≡ true
       → (b : Held GameKind AnyG) → b.room ≡ name.room
       → StandsFor any_rules b (own_entry (call.Leave name.serial seat (seat_key seat)) ∷ history_of h.rooms name.room)
@@ -359,9 +353,6 @@ module _ (tape : ℕ → List ℕ) (held : HeldHall) (h : Hall GameKind) (s : St
       (λ g k. answered g k ∙ ap (λ m. reply any_rules old.room g (entry own_pass m (is_starved told))) is_made)
       (λ g k. subst (λ m. StandsFor any_rules new (entry own_pass m (is_starved told) ∷ g)) is_made (stands g k))
       (λ e. subst (λ m. may_starve m ≡ true) is_made (fed e)))
-
-  pub nobody_leaves : (name : Name) (seat : ℕ) → length held.books ≤ name.room → Leaves tape h name seat held None
-  nobody_leaves name seat above = none_leaves name seat (is_not_below name.room (length h.rooms) (omega (arith, above, s.books_held.count)))
 
   -- ---- a seed
 

@@ -13,7 +13,7 @@ use Rattle.game_hall.specs.declared.next.Next.TheVariants.{Says}
 use Rattle.game_hall.specs.declared.request.Request.TheVariants.{Creating}
 use Rattle.game_hall.proofs.Running.{moved_over}
 use Rattle.game_sheet.specs.MatchName.{Name}
-use Rattle.hall_history.specs.Opening.{opened_text, own_entry, own_pass, seated_by}
+use Rattle.hall_history.specs.Opening.{own_entry, own_pass, seated_by}
 use Rattle.hall_history.specs.Rooms.{History, Rooms, history_of, reply_in, with_entry}
 use Rattle.hall_history.proofs.Rooming.{same_length}
 use Rattle.match_master.specs.Held.{Held, StandsFor}
@@ -23,7 +23,6 @@ use Rattle.room_history.specs.declared.reply.RoomReply.{RoomReply}
 use Rattle.room_history.specs.declared.reply.RoomReply.TheVariants as told_as
 use Rattle.room_object.specs.Entry.{Entry}
 use Rattle.wire_json.specs.declared.refusal.Refusal.TheVariants.{Full, NoGame}
-use Rattle.session_hall.specs.Answered.{made_text}
 use Rattle.session_hall.specs.Held.{AreBooks, IsBook}
 use Rattle.session_hall.specs.Opens.{CreatesIn, MakesIn, OpensIn, made_by, opening_in, seated_in, tried_by}
 use Rattle.session_hall.specs.declared.opening.Tried.{Tried}
@@ -56,12 +55,6 @@ tried_none : (room : ℕ) (told : RoomReply) → Refused ≡ tried_by told → (
 tried_none room (told_as.Created n) e = cc
 tried_none room told_as.Busy e = cc
 tried_none room told e = (refl, (refl, λ seats rooms. refl))
-
--- what an open prints is by the match that it made
-pub made_text_is : (said : Option Answer) → opened_text said ≡ made_text (made_by said)
-made_text_is None = refl
-made_text_is (Some (answer.Created name)) = refl
-made_text_is (Some other) = refl
 
 -- ---- room after room
 
@@ -175,9 +168,6 @@ module _ (rooms : Rooms GameKind) (game : List ℕ) (seats : ℕ) (seed : List �
           none_made (created_by at told) left_calls grown (slice_set books at b) (by_busy false none.0) none.1 (grown_books s)
 
       -- the match was made
-      made_serial : (serial : ℕ) → Made serial ≡ tried_by told → 1 ≤ serial
-      made_serial serial e = subst IsNamed (tried_made told serial e) (named_by any_rules at (history_of o.asked at) made_entry _ refl)
-
       is_made_one : (serial : ℕ) → Made serial ≡ tried_by told → StandsFor any_rules b (seated_in serial seats (made_entry ∷ history_of o.asked at))
           → OpensIn rooms game seats seed (slice_set books at b) (Some (record { room = at; serial = serial }))
       is_made_one serial e s =
@@ -206,10 +196,6 @@ module _ (rooms : Rooms GameKind) (game : List ℕ) (seats : ℕ) (seed : List �
 
   -- a match was made in a room, by what that room's book stands for before players are seated
   module _ (at : ℕ) (below : at < length rooms) (books : Books) (o : OpensFrom at books) (serial : ℕ) where
-    made_history : Option GameKind → History GameKind
-    made_history None = history_of o.asked at
-    made_history (Some x) = own_entry (call.Create x seats seed) ∷ history_of o.asked at
-
     not_made : Made serial ≡ Refused → ⊥
     not_made e = cc
 
