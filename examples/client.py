@@ -87,13 +87,18 @@ class Player:
 
 def act_of(words):
     """The act that a line of standard input asks for."""
-    name, _, rest = words.strip().partition(" ")
+    name, _, rest = words.rstrip("\r\n").partition(" ")
     if name in ("undo", "redo"):
         return {"kind": name}
     if name == "endTurn":
         return {"event": name, "kind": "event", "to": None}
-    are_numbers = all(word.lstrip("-").isdigit() for word in rest.split())
-    return {"args": [int(word) for word in rest.split()] if are_numbers else [rest], "kind": "move", "move": name}
+    # a caption is one text, even if it is of digits; the other moves take numbers
+    args = [rest] if name == "write" else [int(word) if is_number(word) else word for word in rest.split()]
+    return {"args": args, "kind": "move", "move": name}
+
+
+def is_number(word):
+    return word.isascii() and word.removeprefix("-").isdigit()
 
 
 def show(line):
@@ -134,5 +139,7 @@ def main(address, command, *words):
 if __name__ == "__main__":
     try:
         main(*sys.argv[1:]) if sys.argv[2:] else sys.exit(__doc__)
+    except ConnectionError as why:
+        sys.exit(f"no connection: {why}")
     except TimeoutError:
         sys.exit("no answer in 10 seconds: the server may have as many connections as it serves at once")
