@@ -1,4 +1,4 @@
-.PHONY: program demo serve served page play page-test test bench
+.PHONY: program demo serve served page play try page-test test bench
 
 SHELL := bash
 .SHELLFLAGS := -o pipefail -c
@@ -29,9 +29,10 @@ test:
 bench: program
 	@bench/run.sh crates/board_server/out/board_server
 
-# Plays many actions against a served port, and compares what each player was sent with a script's run.
+# Plays many actions against a served port, and compares what each player was sent with a script's run; then each game by the example's client.
 served: program
 	@bench/served.py same crates/board_server/out/board_server 20000
+	@bench/clients.py crates/board_server/out/board_server
 
 # Proves the client that guesses ahead on the page, and makes WebAssembly of it for browsers.
 page: page/page_program.wasm
@@ -51,6 +52,12 @@ play: program page
 	@echo "Play at http://$(LISTEN)/"
 	@echo "$(SEATS) bots wait in match 0-1, $(BOTS): ask one of them for its seat, and play against the other."
 	@crates/board_server/out/board_server serve --listen $(LISTEN) --ws --page page --links $(PLAY_LINKS) \
+		--bots $(BOTS) --seats $(SEATS) --pace $(PACE)
+
+# The same at once, for an hour, by a program that is built without a proof; the page then guesses nothing ahead.
+try:
+	@echo "Building without proofs, which takes some minutes; then play at http://$(LISTEN)/"
+	@cd crates/board_server && rt try --seconds 3600 -- serve --listen $(LISTEN) --ws --page $(CURDIR)/page --links $(PLAY_LINKS) \
 		--bots $(BOTS) --seats $(SEATS) --pace $(PACE)
 
 # Plays on the page in headless Chromium, against the program, or against SARPUNTXE_PROGRAM or SARPUNTXE_SERVER. It wants node and chromium.
