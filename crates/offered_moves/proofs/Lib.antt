@@ -1,0 +1,14 @@
+pub mod Ending
+pub mod Holding
+pub mod TableOffers
+pub mod Chains
+pub mod Allowing
+pub mod CardOffers
+pub mod Lifting
+pub mod TableMatches
+pub mod CardMatches
+pub mod CardFlow
+pub mod Allowed
+pub mod Matches
+pub mod Rooms
+pub mod Views

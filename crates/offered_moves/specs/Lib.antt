@@ -1,0 +1,3 @@
+pub mod Admitted
+pub mod OfferedLaw
+pub mod Submitting
