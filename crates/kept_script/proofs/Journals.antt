@@ -264,17 +264,17 @@ module _ {D : Type 0} (is_told : D → Type 0) (seen : D → List ℕ) (may_leav
 
   -- ---- since the file was opened
 
-  module _ (start : D) (first : Calls) (known : Bool) (old new : KeptRoom D) (more : Calls) (numbered : old.object.room ≡ 0) (was : old.stopped ≡ None) (is : new.stopped ≡ None) where
-    pub journal_goes : IsJournal is_told seen may_leave moment left_since faults start first known old → Was old new more → IsJournal is_told seen may_leave moment left_since faults start first known new
+  module _ (start : D) (first made : Calls) (known : Bool) (old new : KeptRoom D) (more : Calls) (numbered : old.object.room ≡ 0) (was : old.stopped ≡ None) (is : new.stopped ≡ None) where
+    pub journal_goes : IsJournal is_told seen may_leave moment left_since faults start first made known old → Was old new more
+        → IsJournal is_told seen may_leave moment left_since faults start first (more ++ made) known new
     journal_goes j since = record {
-      made = more ++ j.made;
-      stands = subst (λ (l : Calls). stands_in new.object l) (sym (append_assoc more j.made first)) (since.stands (j.made ++ first) j.stands);
-      keeps = λ told. subst (λ (l : Calls). Holds new l) (sym (append_assoc more j.made first)) (since.kept is (j.made ++ first) (j.keeps told));
+      stands = subst (λ (l : Calls). stands_in new.object l) (sym (append_assoc more made first)) (since.stands (made ++ first) j.stands);
+      keeps = λ told. subst (λ (l : Calls). Holds new l) (sym (append_assoc more made first)) (since.kept is (made ++ first) (j.keeps told));
       crash = λ told only.
-          and_then moment left_since start old.file.disk new.file.disk (HasPart (room_records 0) first (more ++ j.made))
-          (weaker moment left_since start old.file.disk (HasPart (room_records 0) first j.made) (HasPart (room_records 0) first (more ++ j.made)) (more_part (room_records 0) first j.made more) (j.crash told only))
-          (weaker moment left_since old.file.disk new.file.disk (HasPart (room_records 0) (j.made ++ first) more) (HasPart (room_records 0) first (more ++ j.made)) (over_part (room_records 0) first j.made more)
-          (subst (λ (r : ℕ). Leaves old.file.disk new.file.disk (HasPart (room_records r) (j.made ++ first) more)) numbered (since.crash (j.made ++ first) was (j.keeps told))));
+          and_then moment left_since start old.file.disk new.file.disk (HasPart (room_records 0) first (more ++ made))
+          (weaker moment left_since start old.file.disk (HasPart (room_records 0) first made) (HasPart (room_records 0) first (more ++ made)) (more_part (room_records 0) first made more) (j.crash told only))
+          (weaker moment left_since old.file.disk new.file.disk (HasPart (room_records 0) (made ++ first) more) (HasPart (room_records 0) first (more ++ made)) (over_part (room_records 0) first made more)
+          (subst (λ (r : ℕ). Leaves old.file.disk new.file.disk (HasPart (room_records r) (made ++ first) more)) numbered (since.crash (made ++ first) was (j.keeps told))));
       never_falls = higher (faults start) (faults old.file.disk) (faults new.file.disk) j.never_falls
           (subst (λ (o : Option Stop). StopRaises o (faults old.file.disk) (faults new.file.disk)) is (subst (λ (o : Option Stop). Went o old new) was since.goes));
     }

@@ -1,18 +1,17 @@
 -- What a line comes to over a kept room, by what its step comes to.
-use Rattle.std.proofs.Common.{◌≡◌, ℕ, Bool, true, false, List, Option, Some, None, Result, Ok, Err, OnOk, refl, sym, ap, ◌∙◌, subst}
+use Rattle.std.proofs.Common.{◌≡◌, ℕ, Bool, true, false, List, [], ◌∷◌, ◌++◌, Option, Some, None, Result, Ok, Err, OnOk, refl, sym, ap, ◌∙◌, append_assoc}
 use Rattle.std.specs.Prelude.{is_some}
 use Rattle.any_game.specs.GameKind.{GameKind}
-use Rattle.hall_history.specs.Hall.{Hall}
+use Rattle.hall_history.specs.Rooms.{Rooms, history_of}
 use Rattle.hall_history.specs.Script.{Step}
-use Rattle.hall_history.specs.Tapes.{hall_tape}
-use Rattle.line_runner.specs.Play.{Does, RunsLine}
+use Rattle.line_runner.specs.Play.{RunsLine}
 use Rattle.object_journal.specs.declared.performing.Stop.{Stop}
-use Rattle.session_hall.specs.Held.{StandsForHall}
 use Rattle.world_script.specs.Forms.{step_of}
 use Rattle.world_script.specs.ScriptDoing.{script_doing}
-use Rattle.kept_script.specs.Journal.{Calls, Since}
+use Rattle.kept_script.specs.Journal.{Calls}
 use Rattle.kept_script.specs.KeptDoing.{IsKept, IsLeft, kept_doing}
 use Rattle.kept_script.specs.KeptPlay.{KeptState, ended_unless, hall_of, kept_play}
+use Rattle.kept_script.specs.Moving.{MovesByStep, StepGrows}
 use Rattle.kept_script.specs.declared.hall.KeptHall.{KeptHall}
 use Rattle.kept_script.proofs.Journals.{journal_goes}
 
@@ -26,18 +25,17 @@ none_of (Some why) e = absurd (true_false e)
 module _ {D : Type 0} (is_told : D → Type 0) (seen : D → List ℕ) (may_leave : D → List ℕ → Type 0) (moment : D → ℕ) (left_since : D → ℕ → List ℕ → Type 0) (faults : D → ℕ) where
   module _ {A E : Type 0} (told : Result A E) (stopped : Bool) (old new : KeptHall D) (line before after : List ℕ) where
     pub kept_line : (step : Step) → step_of line ≡ Some step
-        → ((h : Hall GameKind) → StandsForHall hall_tape (hall_of old) h → OnOk told (Does script_doing h step (hall_of new) before after))
-        → ((more : Calls) × Since is_told seen may_leave moment left_since faults old.room new.room more)
+        → MovesByStep is_told seen may_leave moment left_since faults old new step before after told
         → stopped ≡ is_some new.room.stopped
         → (s : KeptState D) → (kept_doing is_told seen may_leave moment left_since faults).Stands old s
         → RunsLine kept_play (kept_doing is_told seen may_leave moment left_since faults) s line new before after (ended_unless stopped told)
     unfolding kept_play kept_doing script_doing
-    kept_line step e f since is s k = by told stopped is (f s.hall k.stands)
+    kept_line step e m is s k = by told stopped is (m.comes s.hall k.stands)
       where
         left : IsLeft is_told seen may_leave moment left_since faults new s
-        left = record { before = old; was = k; more = since.0; since = since.1 }
+        left = record { before = old; was = k; more = m.more; since = m.since }
 
-        by : (r : Result A E) (b : Bool) → b ≡ is_some new.room.stopped → OnOk r (Does script_doing s.hall step (hall_of new) before after)
+        by : (r : Result A E) (b : Bool) → b ≡ is_some new.room.stopped → OnOk r (StepGrows s.hall step (hall_of new) before after m.more)
             → RunsLine kept_play (kept_doing is_told seen may_leave moment left_since faults) s line new before after (ended_unless b r)
         by (Ok x) false none d =
             let whole : new.room.stopped ≡ None = none_of new.room.stopped (sym none) in
@@ -45,14 +43,16 @@ module _ {D : Type 0} (is_told : D → Type 0) (seen : D → List ℕ) (may_leav
               step = step;
               in_form = e;
               does = record {
-                mark = d.mark;
+                mark = d.0.mark;
                 stands = record {
-                  stands = d.stands;
-                  numbered = since.1.same_room ∙ k.numbered;
+                  made = m.more ++ k.made;
+                  is = d.1 ∙ ap (λ (l : Calls). l ∷ []) (ap (λ (rooms : Rooms GameKind). m.more ++ history_of rooms 0) k.is ∙ sym (append_assoc m.more k.made s.first));
+                  stands = d.0.stands;
+                  numbered = m.since.same_room ∙ k.numbered;
                   whole = whole;
-                  journal = journal_goes is_told seen may_leave moment left_since faults s.start s.first s.told old.room new.room since.0 k.numbered k.whole whole k.journal since.1;
+                  journal = journal_goes is_told seen may_leave moment left_since faults s.start s.first k.made s.told old.room new.room m.more k.numbered k.whole whole k.journal m.since;
                 };
-                added = d.added;
+                added = d.0.added;
               };
             }
         by (Ok x) true none d = left

@@ -61,7 +61,7 @@ module _ {D : Type 0} (is_told : D → Type 0) (seen : D → List ℕ) (may_leav
     }
 
     pub kept_first : IsKept is_told seen may_leave moment left_since faults held (opened_state start first told)
-    kept_first = record { stands = hall_stands; numbered = o.numbered; whole = o.whole; journal = o.journal }
+    kept_first = record { made = []; is = refl; stands = hall_stands; numbered = o.numbered; whole = o.whole; journal = o.journal }
 
   pub kept_hall : (start : D) (first : Calls) (told : Bool) (held : KeptHall D) (room : KeptRoom D) (cores : Vec (Core GameKind) Global) → held.room ≡ room → held.cores ≡ cores → AreCores cores.items (new_hall 1)
       → held.tape ≡ live (replicate 32 0) 0 0 → held.seed ≡ None → WasOpened start first told room → IsKept is_told seen may_leave moment left_since faults held (opened_state start first told)
@@ -88,7 +88,6 @@ module _ {D : Type 0} (is_told : D → Type 0) (seen : D → List ℕ) (may_leav
         whole = whole;
         stands = subst (λ (b : RoomBook). stands_in b h) (sym is_object) o.stands;
         journal = record {
-          made = [];
           stands = subst (λ (b : RoomBook). stands_in b h) (sym is_object) o.stands;
           keeps = λ e. absurd (false_true e);
           crash = λ e. absurd (false_true e);
@@ -116,7 +115,6 @@ module _ {D : Type 0} (is_told : D → Type 0) (seen : D → List ℕ) (may_leav
           whole = whole;
           stands = subst (λ (b : RoomBook). stands_in b h) (sym is_object) o.keeping.stands;
           journal = record {
-            made = [];
             stands = subst (λ (b : RoomBook). stands_in b h) (sym is_object) o.keeping.stands;
             keeps = λ e. keeps;
             crash = λ e only. subst (λ (d : D). LeavesOnly moment left_since start d (λ c. HasRecords c (room_records 0 h))) (sym is_disk) (crash only (room_records 0 h) o.had);

@@ -19,9 +19,56 @@ use Rattle.session_hall.specs.declared.opening.Tried.{Tried}
 use Rattle.session_hall.specs.declared.opening.Tried.TheVariants as hall_tried
 use Rattle.session_hall.proofs.RoomByRoom.{OpensFrom, busy_next, made_ends, opens_first, opens_full, refused_ends, serial_there}
 use Rattle.kept_script.specs.Journal.{Calls, Since, stands_in}
+use Rattle.kept_script.specs.Growing.{AreOpening, creating_calls}
 use Rattle.kept_script.specs.OneRoom.{books_of}
+use Rattle.kept_script.specs.Tries.{UnlessStarved, tried_as}
+use Rattle.kept_script.specs.declared.opening.Tried.{Tried as KeptTried}
+use Rattle.kept_script.specs.declared.opening.Tried.TheVariants as kept_tried
 use Rattle.kept_script.specs.declared.room.KeptRoom.{KeptRoom}
 use Rattle.kept_script.proofs.OneCall.{in_room}
+
+-- ---- calls for which there was memory
+
+not_starved : (told : RoomReply) (t : Tried) → t ≡ tried_by told → (t ≡ hall_tried.Starved → ⊥) → is_starved told ≡ false
+not_starved answer.NoMemory t e n = absurd (n e)
+not_starved told t e n = refl
+
+module _ (game : GameKind) (seats : ℕ) (seed : List ℕ) (told : RoomReply) where
+  abbrev Created : Type 0
+  Created = entry own_pass (Create game seats seed) (is_starved told) ∷ [] ≡ creating_calls (Some game) seats seed
+
+  created_one : is_starved told ≡ false → Created
+  created_one e = ap (λ (b : Bool). entry own_pass (Create game seats seed) b ∷ []) e
+
+  pub created_unless : (r : KeptTried) → tried_as r ≡ tried_by told → UnlessStarved r Created
+  created_unless kept_tried.Busy e = created_one (not_starved told hall_tried.Busy e (λ n. cc))
+  created_unless (kept_tried.Made serial) e = created_one (not_starved told (hall_tried.Made serial) e (λ n. cc))
+  created_unless kept_tried.Refused e = created_one (not_starved told hall_tried.Refused e (λ n. cc))
+  created_unless kept_tried.Starved e = tt
+
+-- where another thing follows from it
+pub unless_weaker : (r : KeptTried) (P Q : Type 0) → (P → Q) → UnlessStarved r P → UnlessStarved r Q
+unless_weaker kept_tried.Busy P Q f p = f p
+unless_weaker (kept_tried.Made serial) P Q f p = f p
+unless_weaker kept_tried.Refused P Q f p = f p
+unless_weaker kept_tried.Starved P Q f p = p
+
+pub joined_one : (serial seat : ℕ) (call : RoomCall GameKind) (told : RoomReply) → call ≡ Join serial seat (seat_name seat) (seat_key seat) → is_starved told ≡ false
+    → entry own_pass call (is_starved told) ∷ [] ≡ joins serial seat ∷ []
+joined_one serial seat call told is served =
+    ap (λ (b : Bool). entry own_pass call b ∷ []) served ∙ ap (λ (made : RoomCall GameKind). entry own_pass made false ∷ []) is
+
+-- an open that makes no match, and one that makes one
+pub opens_none : (game : List ℕ) (seats : ℕ) (seed : List ℕ) (more : Calls) → more ≡ creating_calls (named game) seats seed → AreOpening game seats seed None more
+opens_none game seats seed more e = record { are = e; first = tt }
+
+pub opens_made : {E : Type 0} (r : Result (Option Name) E) (game : List ℕ) (seats : ℕ) (seed : List ℕ) (serial : ℕ) (made more : Calls) → made ≡ creating_calls (named game) seats seed
+    → IfOk r (λ o. o ≡ Some (record { room = 0; serial = serial })) → OnOk r (more ≡ seated_in serial seats []) → IfOk r (λ o. AreOpening game seats seed o (more ++ made))
+opens_made (Ok o) game seats seed serial made more e n s =
+    let name : Name = record { room = 0; serial = serial } in
+    subst (λ (x : Option Name). AreOpening game seats seed x (more ++ made)) (sym n)
+    (record { are = ap (λ (l : Calls). more ++ l) e ∙ ap (λ (l : Calls). l ++ creating_calls (named game) seats seed) s; first = refl })
+opens_made (Err x) game seats seed serial made more e n s = s
 
 -- ---- one call of the script's own pass
 

@@ -56,7 +56,7 @@ module _ {D : Type 0} (is_told : D → Type 0) (seen : D → List ℕ) (may_leav
     pub numbered : r.object.room ≡ 0
     pub whole : r.stopped ≡ None
     pub stands : stands_in r.object first
-    pub journal : IsJournal is_told seen may_leave moment left_since faults start first told r
+    pub journal : IsJournal is_told seen may_leave moment left_since faults start first [] told r
     pub had : told ≡ true → HasRecords (seen start) (room_records 0 first)
     pub reads : ReadsBack 0 first
     pub follow : AllFollow (may_follow 0) [] (room_records 0 first)

@@ -55,10 +55,9 @@ module _ {D : Type 0} (is_told : D → Type 0) (seen : D → List ℕ) (may_leav
     pub crash : (h : Calls) → old.stopped ≡ None → Keeps old h → LeavesOnly moment left_since old.file.disk new.file.disk (HasPart (room_records old.object.room) h more)
     pub goes : Goes old.stopped old new
 
-  -- The room was opened from the file of a disk, by these calls, and others were made since. Where the disk goes by the model, all are kept; and
-  -- whenever a crash came, if nothing was pending at first, the file has a first part of their records.
-  pub record IsJournal (start : D) (first : Calls) (told : Bool) (r : KeptRoom D) : Type 0 where
-    pub made : Calls
+  -- The room was opened from the file of a disk, by the first calls, and the others were made since. Where the disk goes by the model, all are
+  -- kept; and whenever a crash came, if nothing was pending at first, the file has a first part of their records.
+  pub record IsJournal (start : D) (first made : Calls) (told : Bool) (r : KeptRoom D) : Type 0 where
     pub stands : stands_in r.object (made ++ first)
     pub keeps : told ≡ true → Keeps r (made ++ first)
     pub crash : told ≡ true → Only (seen start) (may_leave start) → LeavesOnly moment left_since start r.file.disk (HasPart (room_records 0) first made)

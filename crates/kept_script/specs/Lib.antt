@@ -1,7 +1,9 @@
 pub mod Ending
+pub mod Growing
 pub mod Journal
 pub mod KeptDoing
 pub mod KeptLaws
 pub mod KeptPlay
+pub mod Moving
 pub mod OneRoom
 pub mod Tries

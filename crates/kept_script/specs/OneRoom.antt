@@ -1,12 +1,16 @@
--- What a session's call in the one room comes to.
+-- What a session's call in the one room comes to, and its line.
 use Rattle.std.specs.Prelude.{◌≡◌, ℕ, Bool, true, List, [], ◌∷◌}
 use Rattle.any_game.specs.AnyRules.{any_rules}
 use Rattle.any_game.specs.GameKind.{GameKind}
 use Rattle.any_game.specs.declared.any_g.AnyG.{AnyG}
+use Rattle.game_hall.specs.Core.{Core}
 use Rattle.match_master.specs.Held.{Held, StandsFor, is_starved}
 use Rattle.room_object.specs.Entry.{entry}
 use Rattle.session_driver.specs.Calls.{Did}
+use Rattle.session_driver.specs.Hearing.{Draws, Hears, side}
 use Rattle.session_driver.specs.OfBooks.{CallsBook, RoomCalls}
+use Rattle.session_driver.specs.declared.tally.Tally.{Tally}
+use Rattle.kept_script.specs.Growing.{line_calls}
 use Rattle.kept_script.specs.Journal.{Calls, Since, stands_in}
 use Rattle.kept_script.specs.declared.room.KeptRoom.{KeptRoom}
 
@@ -36,3 +40,9 @@ abbrev pub CallsOne : {D : Type 0} → (D → Type 0) → (D → List ℕ) → (
 CallsOne is_told seen may_leave moment left_since faults r pass made t =
     calls_book (books_of r) pass made (books_of t)
     × Since is_told seen may_leave moment left_since faults r t (entry pass made.call (is_starved made.reply) ∷ [])
+
+module _ {D : Type 0} (is_told : D → Type 0) (seen : D → List ℕ) (may_leave : D → List ℕ → Type 0) (moment : D → ℕ) (left_since : D → ℕ → List ℕ → Type 0) (faults : D → ℕ) where
+  -- a session's line was heard over books, of which there is one, and its calls were kept
+  pub record HearsKept (old new : KeptRoom D) (line : List ℕ) (c : Core GameKind) (before : Draws) (d : Core GameKind) (after : Draws) (tally : Tally) : Type 0 where
+    pub hears : Hears calls_book line (side (books_of old) c) before (side (books_of new) d) after tally
+    pub since : Since is_told seen may_leave moment left_since faults old new (line_calls c.pass hears.runs.makes.all)

@@ -9,3 +9,8 @@ tried_as Busy = hall_tried.Busy
 tried_as (Made serial) = hall_tried.Made serial
 tried_as Refused = hall_tried.Refused
 tried_as Starved = hall_tried.Starved
+
+-- unless there was no memory
+abbrev pub UnlessStarved : Tried → Type 0 → Type 0
+UnlessStarved Starved P = Unit {0}
+UnlessStarved tried P = P

@@ -5,11 +5,10 @@ ghost use Rattle.any_game.specs.GameKind.{GameKind};
 ghost use Rattle.hall_history.specs.Hall.{Hall, new_hall};
 ghost use Rattle.hall_history.specs.Tapes.{hall_tape};
 ghost use Rattle.room_history.specs.declared.call.RoomCall.TheVariants as call;
-ghost use Rattle.session_hall.specs.Answered.{Frees, HearsLine, Opens};
 ghost use Rattle.session_hall.specs.Held.{AreCores, StandsForHall};
 ghost use Rattle.dice_words.specs.Strip.{live};
-ghost use Rattle.kept_script.specs.Journal.{Calls, Since};
 ghost use Rattle.kept_script.specs.KeptPlay.{hall_of};
+ghost use Rattle.kept_script.specs.Moving.{MovesByFreeing, MovesByLine, MovesByOpen};
 
 use crate::opening::open_match;
 use crate::room::KeptRoom;
@@ -94,9 +93,7 @@ impl<D: Disk + Drop> KeptHall<D> {
         requires there { pass < 32 }
         requires first { self.old.room.object.room ≡ 0 }
         requires stands { (h : Hall GameKind) × StandsForHall hall_tape (hall_of self.old) h }
-        ensures heard { (h : Hall GameKind) → StandsForHall hall_tape (hall_of self.old) h
-            → HearsLine hall_tape h pass line.now (hall_of self.new) result.line result.again result.tally }
-        ensures since { (more : Calls) × Since D.is_told D.seen D.may_leave D.moment D.left_since D.faults self.old.room self.new.room more }
+        ensures heard { MovesByLine D.is_told D.seen D.may_leave D.moment D.left_since D.faults self.old self.new pass line.now result.line result.again result.tally }
     {
         let core = &mut self.cores[pass as usize];
         let tally = hear_in(
@@ -120,8 +117,7 @@ impl<D: Disk + Drop> KeptHall<D> {
         requires there { pass < 32 }
         requires first { self.old.room.object.room ≡ 0 }
         requires stands { (h : Hall GameKind) × StandsForHall hall_tape (hall_of self.old) h }
-        ensures freed { (h : Hall GameKind) → StandsForHall hall_tape (hall_of self.old) h → Frees hall_tape h pass call.Take (hall_of self.new) result }
-        ensures since { (more : Calls) × Since D.is_told D.seen D.may_leave D.moment D.left_since D.faults self.old.room self.new.room more }
+        ensures freed { MovesByFreeing D.is_told D.seen D.may_leave D.moment D.left_since D.faults self.old self.new pass call.Take result }
     {
         take_in(&mut self.room, &mut self.cores[pass as usize])
     }
@@ -131,8 +127,7 @@ impl<D: Disk + Drop> KeptHall<D> {
         requires there { pass < 32 }
         requires first { self.old.room.object.room ≡ 0 }
         requires stands { (h : Hall GameKind) × StandsForHall hall_tape (hall_of self.old) h }
-        ensures freed { (h : Hall GameKind) → StandsForHall hall_tape (hall_of self.old) h → Frees hall_tape h pass call.Detach (hall_of self.new) result }
-        ensures since { (more : Calls) × Since D.is_told D.seen D.may_leave D.moment D.left_since D.faults self.old.room self.new.room more }
+        ensures freed { MovesByFreeing D.is_told D.seen D.may_leave D.moment D.left_since D.faults self.old self.new pass call.Detach result }
     {
         detach_in(&mut self.room, &mut self.cores[pass as usize])
     }
@@ -142,9 +137,7 @@ impl<D: Disk + Drop> KeptHall<D> {
     pub fn open(&mut self, game: &str, seats: u8) -> Result<Option<MatchName>, NoMemory>
         requires first { self.old.room.object.room ≡ 0 }
         requires stands { (h : Hall GameKind) × StandsForHall hall_tape (hall_of self.old) h }
-        ensures opened { (h : Hall GameKind) → StandsForHall hall_tape (hall_of self.old) h
-            → IfOk result (λ made. Opens hall_tape h game.now seats (hall_of self.new) made) }
-        ensures since { (more : Calls) × Since D.is_told D.seen D.may_leave D.moment D.left_since D.faults self.old.room self.new.room more }
+        ensures opened { MovesByOpen D.is_told D.seen D.may_leave D.moment D.left_since D.faults self.old self.new game.now seats result }
     {
         self.tape.begin();
         let seed = match_seed(&mut self.tape, &mut self.seed);

@@ -1,6 +1,6 @@
 //! Opens: a match in the one room, with a player at each of its seats.
 
-ghost use Rattle.std.specs.Prelude.{◌≡◌, ◌≤◌, ◌∷◌, Some, IfOk, OnOk, false};
+ghost use Rattle.std.specs.Prelude.{◌≡◌, ◌≤◌, [], ◌∷◌, Some, IfOk, OnOk, false};
 ghost use Rattle.any_game.specs.AnyRules.{any_rules, named};
 ghost use Rattle.any_game.specs.GameKind.{GameKind};
 ghost use Rattle.hall_history.specs.Opening.{joins, seat_key, seat_name};
@@ -9,9 +9,10 @@ ghost use Rattle.match_master.specs.Held.{StandsFor, is_starved};
 ghost use Rattle.room_history.specs.declared.call.RoomCall.TheVariants as call_of;
 ghost use Rattle.session_hall.specs.Held.{AreBooks};
 ghost use Rattle.session_hall.specs.Opens.{CreatesIn, OpensIn, seated_in, tried_by};
+ghost use Rattle.kept_script.specs.Growing.{AreOpening, creating_calls};
 ghost use Rattle.kept_script.specs.Journal.{Calls, Since, stands_in};
 ghost use Rattle.kept_script.specs.OneRoom.{books_of};
-ghost use Rattle.kept_script.specs.Tries.{tried_as};
+ghost use Rattle.kept_script.specs.Tries.{UnlessStarved, tried_as};
 
 use crate::room::KeptRoom;
 use any_game::{AnyGame, by_name};
@@ -49,7 +50,7 @@ pub fn open_match<D: Disk + Drop>(
     requires serves { (h : Calls) × stands_in room.old.object h }
     ensures opened { (rooms : AllRooms GameKind) → AreBooks (books_of room.old) rooms
         → IfOk result (λ made. OpensIn rooms game.now seats seed (books_of room.new) made) }
-    ensures since { (more : Calls) × Since D.is_told D.seen D.may_leave D.moment D.left_since D.faults room.old room.new more }
+    ensures since { (more : Calls) × Since D.is_told D.seen D.may_leave D.moment D.left_since D.faults room.old room.new more × IfOk result (λ made. AreOpening game.now seats seed made more) }
 {
     match create(alloc, room, game, seats, seed) {
         Tried::Busy => Ok(None),
@@ -72,7 +73,7 @@ fn seat_match<D: Disk + Drop>(
     ensures seated { (h : History GameKind) → StandsFor any_rules room.old.object.book h
         → OnOk result (StandsFor any_rules room.new.object.book (seated_in serial seats h)) }
     ensures same { room.new.object.book.room ≡ room.old.object.book.room }
-    ensures since { (more : Calls) × Since D.is_told D.seen D.may_leave D.moment D.left_since D.faults room.old room.new more }
+    ensures since { (more : Calls) × Since D.is_told D.seen D.may_leave D.moment D.left_since D.faults room.old room.new more × OnOk result (more ≡ seated_in serial seats []) }
 {
     match seat_players(alloc, room, serial, seats) {
         Ok(()) => Ok(Some(MatchName::new(0, serial))),
@@ -92,7 +93,7 @@ fn create<D: Disk + Drop>(
     ensures created { (h : History GameKind) → StandsFor any_rules room.old.object.book h
         → CreatesIn room.old.object.book.room (named game.now) seats seed h (tried_as result) room.new.object.book }
     ensures same { room.new.object.book.room ≡ room.old.object.book.room }
-    ensures since { (more : Calls) × Since D.is_told D.seen D.may_leave D.moment D.left_since D.faults room.old room.new more }
+    ensures since { (more : Calls) × Since D.is_told D.seen D.may_leave D.moment D.left_since D.faults room.old room.new more × UnlessStarved result (more ≡ creating_calls (named game.now) seats seed) }
 {
     match by_name(alloc, game) {
         Ok(Some(game)) => create_game(room, game, seats, seed),
@@ -112,7 +113,7 @@ fn create_game<D: Disk + Drop>(
     ensures created { (h : History GameKind) → StandsFor any_rules room.old.object.book h
         → CreatesIn room.old.object.book.room (Some game) seats seed h (tried_as result) room.new.object.book }
     ensures same { room.new.object.book.room ≡ room.old.object.book.room }
-    ensures since { (more : Calls) × Since D.is_told D.seen D.may_leave D.moment D.left_since D.faults room.old room.new more }
+    ensures since { (more : Calls) × Since D.is_told D.seen D.may_leave D.moment D.left_since D.faults room.old room.new more × UnlessStarved result (more ≡ creating_calls (Some game) seats seed) }
 {
     let reply = room.ask(OWN_PASS, RoomCall::Create { game, seats, seed });
     let tried = told(&reply);
@@ -143,7 +144,7 @@ fn seat_players<D: Disk + Drop>(
     ensures seated { (h : History GameKind) → StandsFor any_rules room.old.object.book h
         → OnOk result (StandsFor any_rules room.new.object.book (seated_in serial seats h)) }
     ensures same { room.new.object.book.room ≡ room.old.object.book.room }
-    ensures since { (more : Calls) × Since D.is_told D.seen D.may_leave D.moment D.left_since D.faults room.old room.new more }
+    ensures since { (more : Calls) × Since D.is_told D.seen D.may_leave D.moment D.left_since D.faults room.old room.new more × OnOk result (more ≡ seated_in serial seats []) }
 {
     for seat in 0..seats {
         match seat_player(alloc, room, serial, seat) {
@@ -165,7 +166,7 @@ fn seat_player<D: Disk + Drop>(
     ensures seated { (h : History GameKind) → StandsFor any_rules room.old.object.book h
         → OnOk result (StandsFor any_rules room.new.object.book (joins serial seat ∷ h)) }
     ensures same { room.new.object.book.room ≡ room.old.object.book.room }
-    ensures since { (more : Calls) × Since D.is_told D.seen D.may_leave D.moment D.left_since D.faults room.old room.new more }
+    ensures since { (more : Calls) × Since D.is_told D.seen D.may_leave D.moment D.left_since D.faults room.old room.new more × OnOk result (more ≡ joins serial seat ∷ []) }
 {
     match player(alloc, serial, seat) {
         Ok(call) => {

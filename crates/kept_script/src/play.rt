@@ -1,16 +1,14 @@
 //! The steps of a script over a room that keeps its changes.
 
-ghost use Rattle.std.specs.Prelude.{◌≡◌, ◌<◌, OnOk};
+ghost use Rattle.std.specs.Prelude.{◌≡◌, ◌<◌};
 ghost use Rattle.any_game.specs.GameKind.{GameKind};
 ghost use Rattle.hall_history.specs.Hall.{Hall};
 ghost use Rattle.hall_history.specs.Script.{Opens, Says, Takes, Detaches};
 ghost use Rattle.hall_history.specs.Tapes.{hall_tape};
-ghost use Rattle.line_runner.specs.Play.{Does};
 ghost use Rattle.session_hall.specs.Held.{StandsForHall};
-ghost use Rattle.world_script.specs.ScriptDoing.{script_doing};
 ghost use Rattle.world_script.specs.StepIs.{HasPass, step_is};
-ghost use Rattle.kept_script.specs.Journal.{Calls, Since};
 ghost use Rattle.kept_script.specs.KeptPlay.{ended_unless, hall_of};
+ghost use Rattle.kept_script.specs.Moving.{MovesByStep};
 
 use crate::hall::KeptHall;
 use game_sheet::NoMemory;
@@ -28,8 +26,7 @@ fn do_step<D: Disk + Drop>(
     requires pass { HasPass step }
     requires first { hall.old.room.object.room ≡ 0 }
     requires stands { (h : Hall GameKind) × StandsForHall hall_tape (hall_of hall.old) h }
-    ensures done { (h : Hall GameKind) → StandsForHall hall_tape (hall_of hall.old) h → OnOk result (Does script_doing h (step_is step.entry) (hall_of hall.new) text.old.items text.new.items) }
-    ensures since { (more : Calls) × Since D.is_told D.seen D.may_leave D.moment D.left_since D.faults hall.old.room hall.new.room more }
+    ensures done { MovesByStep D.is_told D.seen D.may_leave D.moment D.left_since D.faults hall.old hall.new (step_is step.entry) text.old.items text.new.items result }
 {
     match step {
         Step::Nothing => Ok(()),
@@ -53,8 +50,7 @@ fn open<D: Disk + Drop>(
 ) -> Result<(), NoMemory>
     requires first { hall.old.room.object.room ≡ 0 }
     requires stands { (h : Hall GameKind) × StandsForHall hall_tape (hall_of hall.old) h }
-    ensures done { (h : Hall GameKind) → StandsForHall hall_tape (hall_of hall.old) h → OnOk result (Does script_doing h (Opens game.now seats) (hall_of hall.new) text.old.items text.new.items) }
-    ensures since { (more : Calls) × Since D.is_told D.seen D.may_leave D.moment D.left_since D.faults hall.old.room hall.new.room more }
+    ensures done { MovesByStep D.is_told D.seen D.may_leave D.moment D.left_since D.faults hall.old hall.new (Opens game.now seats) text.old.items text.new.items result }
 {
     match hall.open(game, seats) {
         Ok(made) => put_opened(text, made),
@@ -72,8 +68,7 @@ fn say<D: Disk + Drop>(
     requires there { pass < 32 }
     requires first { hall.old.room.object.room ≡ 0 }
     requires stands { (h : Hall GameKind) × StandsForHall hall_tape (hall_of hall.old) h }
-    ensures done { (h : Hall GameKind) → StandsForHall hall_tape (hall_of hall.old) h → OnOk result (Does script_doing h (Says pass line.now) (hall_of hall.new) text.old.items text.new.items) }
-    ensures since { (more : Calls) × Since D.is_told D.seen D.may_leave D.moment D.left_since D.faults hall.old.room hall.new.room more }
+    ensures done { MovesByStep D.is_told D.seen D.may_leave D.moment D.left_since D.faults hall.old hall.new (Says pass line.now) text.old.items text.new.items result }
 {
     let said = hall.on_line(pass, line);
     let put = put_lines(text, pass, &said.line);
@@ -90,8 +85,7 @@ fn take<D: Disk + Drop>(
     requires there { pass < 32 }
     requires first { hall.old.room.object.room ≡ 0 }
     requires stands { (h : Hall GameKind) × StandsForHall hall_tape (hall_of hall.old) h }
-    ensures done { (h : Hall GameKind) → StandsForHall hall_tape (hall_of hall.old) h → OnOk result (Does script_doing h (Takes pass) (hall_of hall.new) text.old.items text.new.items) }
-    ensures since { (more : Calls) × Since D.is_told D.seen D.may_leave D.moment D.left_since D.faults hall.old.room hall.new.room more }
+    ensures done { MovesByStep D.is_told D.seen D.may_leave D.moment D.left_since D.faults hall.old hall.new (Takes pass) text.old.items text.new.items result }
 {
     let reply = hall.take(pass);
     let put = put_reply(text, pass, &reply);
@@ -108,8 +102,7 @@ fn detach<D: Disk + Drop>(
     requires there { pass < 32 }
     requires first { hall.old.room.object.room ≡ 0 }
     requires stands { (h : Hall GameKind) × StandsForHall hall_tape (hall_of hall.old) h }
-    ensures done { (h : Hall GameKind) → StandsForHall hall_tape (hall_of hall.old) h → OnOk result (Does script_doing h (Detaches pass) (hall_of hall.new) text.old.items text.new.items) }
-    ensures since { (more : Calls) × Since D.is_told D.seen D.may_leave D.moment D.left_since D.faults hall.old.room hall.new.room more }
+    ensures done { MovesByStep D.is_told D.seen D.may_leave D.moment D.left_since D.faults hall.old hall.new (Detaches pass) text.old.items text.new.items result }
 {
     let reply = hall.detach(pass);
     let put = put_reply(text, pass, &reply);

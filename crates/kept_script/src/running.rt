@@ -29,7 +29,7 @@ use std::mem;
 /// A line is printed only where each of its changes was kept. `StoreFault` comes where the disk failed, `LongJournal` where the file has, or
 /// with a further record would have, more than 268,435,456 bytes, and `BadRecord` where it is damaged, with the place of the gate; every other
 /// end comes as that of a script. Where source and sink tell what they hold, `ran` says what was printed. Where the disk goes by the model too,
-/// `keeps` says what the file then has, and that whenever a crash came, it has a first part of the records of the changes that were made.
+/// `keeps` says that the file then has the records of the history that the transcript's room has, and whenever a crash came, a first part of them.
 pub fn run_kept<S: Source, K: Sink, D: Disk + Drop>(
     alloc: Global,
     source: &mut S,

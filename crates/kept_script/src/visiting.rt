@@ -3,9 +3,10 @@
 ghost use Rattle.std.specs.Prelude.{◌≡◌, None, IsSome};
 ghost use Rattle.room_history.specs.declared.call.RoomCall.TheVariants as call;
 ghost use Rattle.session_driver.specs.Freeing.{Frees};
-ghost use Rattle.session_driver.specs.Hearing.{Hears, draws, side};
-ghost use Rattle.kept_script.specs.Journal.{Calls, Since};
-ghost use Rattle.kept_script.specs.OneRoom.{IsFirst, books_of, calls_book};
+ghost use Rattle.session_driver.specs.Hearing.{draws, side};
+ghost use Rattle.kept_script.specs.Growing.{freeing_calls};
+ghost use Rattle.kept_script.specs.Journal.{Since};
+ghost use Rattle.kept_script.specs.OneRoom.{HearsKept, IsFirst, books_of, calls_book};
 
 use crate::room::KeptRoom;
 use any_game::AnyGame;
@@ -57,8 +58,7 @@ fn hear_there<D: Disk + Drop>(
     requires written { core.old.said ≡ None }
     requires live { IsSome tape.old.source }
     ensures same { rooms.new.room.ghost_name ≡ rooms.old.room.ghost_name }
-    ensures hears { Hears calls_book line.now (side (books_of rooms.old.room.now) core.old) (draws tape.old seed.old) (side (books_of rooms.new.room.now) core.new) (draws tape.new seed.new) result }
-    ensures since { (more : Calls) × Since D.is_told D.seen D.may_leave D.moment D.left_since D.faults rooms.old.room.now rooms.new.room.now more }
+    ensures hears { HearsKept D.is_told D.seen D.may_leave D.moment D.left_since D.faults rooms.old.room.now rooms.new.room.now line.now core.old (draws tape.old seed.old) core.new (draws tape.new seed.new) result }
 {
     hear(alloc, rooms, core, tape, seed, line)
 }
@@ -77,8 +77,7 @@ pub fn hear_in<D: Disk + Drop>(
     requires closed { core.old.request ≡ None }
     requires written { core.old.said ≡ None }
     requires live { IsSome tape.old.source }
-    ensures hears { Hears calls_book line.now (side (books_of room.old) core.old) (draws tape.old seed.old) (side (books_of room.new) core.new) (draws tape.new seed.new) result }
-    ensures since { (more : Calls) × Since D.is_told D.seen D.may_leave D.moment D.left_since D.faults room.old room.new more }
+    ensures hears { HearsKept D.is_told D.seen D.may_leave D.moment D.left_since D.faults room.old room.new line.now core.old (draws tape.old seed.old) core.new (draws tape.new seed.new) result }
 {
     let mut rooms = OneRoom { room };
     hear_there(alloc, &mut rooms, core, tape, seed, line)
@@ -93,7 +92,7 @@ fn take_there<D: Disk + Drop>(
     requires rooms { core.old.rooms ≡ 1 }
     ensures same { rooms.new.room.ghost_name ≡ rooms.old.room.ghost_name }
     ensures takes { Frees calls_book call.Take (side (books_of rooms.old.room.now) core.old) result (side (books_of rooms.new.room.now) core.new) }
-    ensures since { (more : Calls) × Since D.is_told D.seen D.may_leave D.moment D.left_since D.faults rooms.old.room.now rooms.new.room.now more }
+    ensures since { Since D.is_told D.seen D.may_leave D.moment D.left_since D.faults rooms.old.room.now rooms.new.room.now (freeing_calls core.old.pass call.Take core.old.at) }
 {
     take(rooms, core)
 }
@@ -103,7 +102,7 @@ pub fn take_in<D: Disk + Drop>(room: &mut KeptRoom<D>, core: &mut SessionCore) -
     requires first { IsFirst room.old }
     requires rooms { core.old.rooms ≡ 1 }
     ensures takes { Frees calls_book call.Take (side (books_of room.old) core.old) result (side (books_of room.new) core.new) }
-    ensures since { (more : Calls) × Since D.is_told D.seen D.may_leave D.moment D.left_since D.faults room.old room.new more }
+    ensures since { Since D.is_told D.seen D.may_leave D.moment D.left_since D.faults room.old room.new (freeing_calls core.old.pass call.Take core.old.at) }
 {
     let mut rooms = OneRoom { room };
     take_there(&mut rooms, core)
@@ -118,7 +117,7 @@ fn detach_there<D: Disk + Drop>(
     requires rooms { core.old.rooms ≡ 1 }
     ensures same { rooms.new.room.ghost_name ≡ rooms.old.room.ghost_name }
     ensures detaches { Frees calls_book call.Detach (side (books_of rooms.old.room.now) core.old) result (side (books_of rooms.new.room.now) core.new) }
-    ensures since { (more : Calls) × Since D.is_told D.seen D.may_leave D.moment D.left_since D.faults rooms.old.room.now rooms.new.room.now more }
+    ensures since { Since D.is_told D.seen D.may_leave D.moment D.left_since D.faults rooms.old.room.now rooms.new.room.now (freeing_calls core.old.pass call.Detach core.old.at) }
 {
     detach(rooms, core)
 }
@@ -131,7 +130,7 @@ pub fn detach_in<D: Disk + Drop>(
     requires first { IsFirst room.old }
     requires rooms { core.old.rooms ≡ 1 }
     ensures detaches { Frees calls_book call.Detach (side (books_of room.old) core.old) result (side (books_of room.new) core.new) }
-    ensures since { (more : Calls) × Since D.is_told D.seen D.may_leave D.moment D.left_since D.faults room.old room.new more }
+    ensures since { Since D.is_told D.seen D.may_leave D.moment D.left_since D.faults room.old room.new (freeing_calls core.old.pass call.Detach core.old.at) }
 {
     let mut rooms = OneRoom { room };
     detach_there(&mut rooms, core)

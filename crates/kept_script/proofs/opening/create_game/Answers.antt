@@ -4,7 +4,7 @@ use Rattle.match_master.specs.Held.{is_starved}
 use Rattle.room_history.specs.declared.call.RoomCall.TheVariants.{Create}
 use Rattle.room_object.specs.Entry.{entry}
 use Rattle.session_hall.specs.Opens.{CreatesIn}
-use Rattle.kept_script.proofs.Trying.{created_so, same_room}
+use Rattle.kept_script.proofs.Trying.{created_so, created_unless, same_room}
 use Rattle.kept_script.proofs.opening.create_game.Goals as goal
 
 pub returns-clause-created : goal.returns-clause-created
@@ -21,4 +21,8 @@ returns-clause-same g c =
     c.requires.serves.0 c.requires.serves.1 c.ask-reply.ensures.since
 
 pub returns-clause-since : goal.returns-clause-since
-returns-clause-since g c = (entry own_pass (Create c.args.game c.args.seats c.args.seed) (is_starved c.ask-reply.result) ∷ [], c.ask-reply.ensures.since)
+returns-clause-since g c = (
+  entry own_pass (Create c.args.game c.args.seats c.args.seed) (is_starved c.ask-reply.result) ∷ [],
+  c.ask-reply.ensures.since,
+  created_unless c.args.game c.args.seats c.args.seed c.ask-reply.result c.told-tried.result c.told-tried.ensures,
+)

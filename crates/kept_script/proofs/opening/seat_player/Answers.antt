@@ -1,9 +1,10 @@
 use Rattle.std.proofs.Common.{[], ◌∷◌}
+use Rattle.std.proofs.lemmas.Result.{on_ok_weaker}
 use Rattle.hall_history.specs.Opening.{own_pass}
 use Rattle.match_master.specs.Held.{is_starved}
 use Rattle.room_object.specs.Entry.{entry}
 use Rattle.kept_script.proofs.Journals.{since_none}
-use Rattle.kept_script.proofs.Trying.{same_room, seated_unless}
+use Rattle.kept_script.proofs.Trying.{joined_one, same_room, seated_unless}
 use Rattle.kept_script.proofs.opening.seat_player.Goals as goal
 
 pub returns-in-Ok-clause-seated : goal.returns-in-Ok-clause-seated
@@ -19,9 +20,13 @@ returns-in-Ok-clause-same g c =
     c.requires.serves.0 c.requires.serves.1 c.ask-reply.ensures.since
 
 pub returns-in-Ok-clause-since : goal.returns-in-Ok-clause-since
-returns-in-Ok-clause-since g c = (entry own_pass c.in-Ok.call (is_starved c.ask-reply.result) ∷ [], c.ask-reply.ensures.since)
+returns-in-Ok-clause-since g c = (
+  entry own_pass c.in-Ok.call (is_starved c.ask-reply.result) ∷ [],
+  c.ask-reply.ensures.since,
+  on_ok_weaker c.served-served.result (joined_one c.args.serial c.args.seat c.in-Ok.call c.ask-reply.result c.in-Ok.ensures) c.served-served.ensures,
+)
 
 pub returns-in-Err-clause-since : goal.returns-in-Err-clause-since
 returns-in-Err-clause-since g c =
     let d = g.D.Disk in
-    ([], since_none d.is_told d.seen d.may_leave d.moment d.left_since d.faults g.met.D.Disk.only_now c.args.room.now)
+    ([], since_none d.is_told d.seen d.may_leave d.moment d.left_since d.faults g.met.D.Disk.only_now c.args.room.now, tt)

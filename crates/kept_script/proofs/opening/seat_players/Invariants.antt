@@ -1,4 +1,4 @@
-use Rattle.std.proofs.Common.{◌≡◌}
+use Rattle.std.proofs.Common.{◌≡◌, []}
 use Rattle.any_game.specs.AnyRules.{any_rules}
 use Rattle.any_game.specs.GameKind.{GameKind}
 use Rattle.hall_history.specs.Rooms.{History}
@@ -12,5 +12,5 @@ abbrev pub invariant-loop-seat : goal.invariant-loop-seat
 invariant-loop-seat g l = record {
   same : l.room.object.book.room ≡ l.initial.room.object.book.room;
   so_far : (h : History GameKind) → StandsFor any_rules l.initial.room.object.book h → StandsFor any_rules l.room.object.book (seated_in l.serial l.seat h);
-  since : (more : Calls) × Since g.D.Disk.is_told g.D.Disk.seen g.D.Disk.may_leave g.D.Disk.moment g.D.Disk.left_since g.D.Disk.faults l.initial.room l.room more;
+  since : (more : Calls) × Since g.D.Disk.is_told g.D.Disk.seen g.D.Disk.may_leave g.D.Disk.moment g.D.Disk.left_since g.D.Disk.faults l.initial.room l.room more × (more ≡ seated_in l.serial l.seat []);
 }

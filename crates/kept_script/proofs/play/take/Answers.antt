@@ -1,12 +1,18 @@
-use Rattle.hall_history.specs.Script.{Takes}
-use Rattle.world_script.specs.Printing.{reply_text}
-use Rattle.world_script.proofs.StepLaws.{took, does_by}
+use Rattle.std.proofs.lemmas.Result.{on_ok_weaker}
+use Rattle.world_script.proofs.StepLaws.{took}
 use Rattle.kept_script.specs.KeptPlay.{hall_of}
 use Rattle.kept_script.proofs.play.take.Goals as goal
 
-pub returns-clause-done : goal.returns-clause-done
-returns-clause-done g c = λ h s.
-    let hall = hall_of c.take-reply.new.self in
-    does_by c.put_reply-put.result h (Takes c.args.pass) hall c.args.text.now.items c.put_reply-put.new.text.items (reply_text c.args.pass c.take-reply.result)
-    (took h hall c.args.text.now.items c.put_reply-put.new.text.items c.args.pass c.take-reply.result (c.take-reply.ensures.freed h s))
-    c.put_reply-put.ensures
+pub returns : goal.returns
+returns g c =
+    let m = c.take-reply.ensures.freed in
+    record {
+      more = m.more;
+      since = m.since;
+      comes = λ h s.
+          let hall = hall_of c.take-reply.new.self in
+          let freed = m.comes h s in
+          on_ok_weaker c.put_reply-put.result
+          (λ e. (took h hall c.args.text.now.items c.put_reply-put.new.text.items c.args.pass c.take-reply.result freed.0 e, freed.1))
+          c.put_reply-put.ensures;
+    }

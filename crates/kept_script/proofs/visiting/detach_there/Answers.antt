@@ -1,3 +1,4 @@
+use Rattle.std.proofs.Common.{refl}
 use Rattle.room_history.specs.declared.call.RoomCall.TheVariants as call
 use Rattle.session_driver.proofs.Along.{frees_by}
 use Rattle.session_driver.specs.Hearing.{side}
@@ -19,4 +20,4 @@ returns-clause-same g c =
 pub returns-clause-since : goal.returns-clause-since
 returns-clause-since g c =
     let d = g.D.Disk in
-    since_frees d.is_told d.seen d.may_leave d.moment d.left_since d.faults g.met.D.Disk.only_now call.Detach (side c.args.rooms.now c.args.core.now) c.detach.result (side c.detach.new.rooms c.detach.new.core) c.detach.ensures.detaches
+    since_frees d.is_told d.seen d.may_leave d.moment d.left_since d.faults g.met.D.Disk.only_now call.Detach refl (side c.args.rooms.now c.args.core.now) c.detach.result (side c.detach.new.rooms c.detach.new.core) c.detach.ensures.detaches

@@ -1,8 +1,15 @@
-use Rattle.std.proofs.Common.{refl}
+use Rattle.std.proofs.Common.{ap, refl, subst}
+use Rattle.any_game.specs.GameKind.{GameKind}
+use Rattle.game_hall.specs.Core.{Core}
 use Rattle.hall_history.specs.Tapes.{hall_tape}
 use Rattle.room_history.specs.declared.call.RoomCall.TheVariants as call
-use Rattle.session_hall.proofs.Halls.{freed_by_driver, own_rooms}
+use Rattle.session_driver.specs.Hearing.{side}
+use Rattle.session_hall.proofs.Halls.{freed_by_driver, own_core, own_room, own_rooms}
+use Rattle.kept_script.specs.Growing.{freeing_calls}
+use Rattle.kept_script.specs.Journal.{Since}
 use Rattle.kept_script.specs.OneRoom.{books_of}
+use Rattle.kept_script.proofs.Growing.{freed_grows}
+use Rattle.kept_script.proofs.Moving.{has_one}
 use Rattle.kept_script.proofs.OneCall.{first_room}
 use Rattle.kept_script.proofs.hall.KeptHall.detach.Goals as goal
 
@@ -15,8 +22,18 @@ detach_in-requires g c =
       rooms = own_rooms _ _ h s c.args.pass c.requires.there c.index_mut.result.now c.index_mut.ensures.value;
     }
 
-pub returns-clause-freed : goal.returns-clause-freed
-returns-clause-freed g c = λ h s.
-    let d = c.detach_in.new in
-    freed_by_driver hall_tape _ h s c.args.pass c.requires.there call.Detach refl c.index_mut.result.now c.index_mut.ensures.value
-    c.detach_in.result (books_of d.room) d.core c.detach_in.ensures.detaches
+pub returns : goal.returns
+returns g c =
+    let d = g.D.Disk in
+    let n = c.detach_in.new in
+    let core = c.index_mut.result.now in
+    record {
+      more = freeing_calls c.args.pass call.Detach core.at;
+      since = subst (λ p. Since d.is_told d.seen d.may_leave d.moment d.left_since d.faults c.args.self.now.room n.room (freeing_calls p call.Detach core.at))
+          (ap (λ (x : Core GameKind). x.pass) (own_core hall_tape _ c.requires.stands.0 c.requires.stands.1 c.args.pass c.requires.there core c.index_mut.ensures.value)) c.detach_in.ensures.since;
+      comes = λ h s. (
+        freed_by_driver hall_tape _ h s c.args.pass c.requires.there call.Detach refl core c.index_mut.ensures.value c.detach_in.result (books_of n.room) n.core c.detach_in.ensures.detaches,
+        freed_grows h (has_one c.args.self.now h s) c.args.pass call.Detach (side (books_of c.args.self.now.room) core) c.detach_in.result (side (books_of n.room) n.core) refl
+            (own_room hall_tape _ h s c.args.pass c.requires.there core c.index_mut.ensures.value) c.detach_in.ensures.detaches,
+      );
+    }

@@ -21,7 +21,7 @@ returns-in-Some g c = λ s k.
     let d = g.D.Disk in
     subst (λ told. RunsLine kept_play (kept_doing d.is_told d.seen d.may_leave d.moment d.left_since d.faults) s c.args.line.now c.do_step-done.new.hall c.args.text.now.items c.do_step-done.new.text.items told) (sym c.ended.ensures)
     (kept_line d.is_told d.seen d.may_leave d.moment d.left_since d.faults c.do_step-done.result c.is_some.result c.args.self.now c.do_step-done.new.hall c.args.line.now c.args.text.now.items c.do_step-done.new.text.items (step_is c.in-Some.step)
-    (sym c.step_of.ensures.value ∙ ap (option_map step_is) c.in-Some.is) c.do_step-done.ensures.done c.do_step-done.ensures.since c.is_some.ensures s k)
+    (sym c.step_of.ensures.value ∙ ap (option_map step_is) c.in-Some.is) c.do_step-done.ensures.done c.is_some.ensures s k)
 
 pub returns-in-None : goal.returns-in-None
 returns-in-None g c =
