@@ -13,9 +13,11 @@ returns-in-Nothing g c =
     let text = c.args.text.now.items in
     let hall = hall_of c.args.hall.now in
     record {
-      more = [];
-      since = since_none d.is_told d.seen d.may_leave d.moment d.left_since d.faults g.met.D.Disk.only_now c.args.hall.now.room;
-      comes = λ h s. subst (λ step. StepGrows h (step_is step) hall text text []) (sym c.in-Nothing.is) (nothing_grows h hall text text (has_one c.args.hall.now h s) s refl);
+      done = record {
+        more = [];
+        since = since_none d.is_told d.seen d.may_leave d.moment d.left_since d.faults g.met.D.Disk.only_now c.args.hall.now.room;
+        comes = λ h s. subst (λ step. StepGrows h (step_is step) hall text text []) (sym c.in-Nothing.is) (nothing_grows h hall text text (has_one c.args.hall.now h s) s refl);
+      };
     }
 
 pub returns-in-Seeds : goal.returns-in-Seeds
@@ -24,10 +26,12 @@ returns-in-Seeds g c =
     let text = c.args.text.now.items in
     let hall = hall_of c.set_seed.new.self in
     record {
-      more = [];
-      since = subst (λ r. Since d.is_told d.seen d.may_leave d.moment d.left_since d.faults c.args.hall.now.room r []) (sym c.set_seed.ensures.same)
-          (since_none d.is_told d.seen d.may_leave d.moment d.left_since d.faults g.met.D.Disk.only_now c.args.hall.now.room);
-      comes = λ h s.
-          subst (λ step. StepGrows h (step_is step) hall text text []) (sym c.in-Seeds.is)
-          (seed_grows h hall text text (has_one c.args.hall.now h s) c.in-Seeds.seed (c.set_seed.ensures.set h s) refl);
+      done = record {
+        more = [];
+        since = subst (λ r. Since d.is_told d.seen d.may_leave d.moment d.left_since d.faults c.args.hall.now.room r []) (sym c.set_seed.ensures.same)
+            (since_none d.is_told d.seen d.may_leave d.moment d.left_since d.faults g.met.D.Disk.only_now c.args.hall.now.room);
+        comes = λ h s.
+            subst (λ step. StepGrows h (step_is step) hall text text []) (sym c.in-Seeds.is)
+            (seed_grows h hall text text (has_one c.args.hall.now h s) c.in-Seeds.seed (c.set_seed.ensures.set h s) refl);
+      };
     }

@@ -30,12 +30,14 @@ returns g c =
     let k = c.hear_in-tally.ensures.hears in
     let core = c.index_mut-core.result.now in
     record {
-      more = line_calls c.args.pass k.hears.runs.makes.all;
-      since = subst (λ p. Since d.is_told d.seen d.may_leave d.moment d.left_since d.faults c.args.self.now.room n.room (line_calls p k.hears.runs.makes.all))
-          (ap (λ (x : Core GameKind). x.pass) (own_core hall_tape _ c.requires.stands.0 c.requires.stands.1 c.args.pass c.requires.there core c.index_mut-core.ensures.value)) k.since;
-      comes = λ h s.
-          line_moves c.args.self.now.room n.room c.args.line.now core (draws c.args.self.now.tape c.args.self.now.seed) n.core (draws n.tape n.seed) c.hear_in-tally.result k.hears h (has_one c.args.self.now h s)
-          c.args.pass _ c.written.result c.is_again.result
-          (line_driven hall_tape _ h s c.args.pass c.requires.there c.args.line.now core c.index_mut-core.ensures.value
-          n.core (books_of n.room) (draws n.tape n.seed) c.hear_in-tally.result k.hears c.written.new.self c.written.ensures.plain c.written.result c.written.ensures.line c.is_again.result c.is_again.ensures);
+      heard = record {
+        more = line_calls c.args.pass k.hears.runs.makes.all;
+        since = subst (λ p. Since d.is_told d.seen d.may_leave d.moment d.left_since d.faults c.args.self.now.room n.room (line_calls p k.hears.runs.makes.all))
+            (ap (λ (x : Core GameKind). x.pass) (own_core hall_tape _ c.requires.stands.0 c.requires.stands.1 c.args.pass c.requires.there core c.index_mut-core.ensures.value)) k.since;
+        comes = λ h s.
+            line_moves c.args.self.now.room n.room c.args.line.now core (draws c.args.self.now.tape c.args.self.now.seed) n.core (draws n.tape n.seed) c.hear_in-tally.result k.hears h (has_one c.args.self.now h s)
+            c.args.pass _ c.written.result c.is_again.result
+            (line_driven hall_tape _ h s c.args.pass c.requires.there c.args.line.now core c.index_mut-core.ensures.value
+            n.core (books_of n.room) (draws n.tape n.seed) c.hear_in-tally.result k.hears c.written.new.self c.written.ensures.plain c.written.result c.written.ensures.line c.is_again.result c.is_again.ensures);
+      };
     }

@@ -28,12 +28,14 @@ returns g c =
     let n = c.take_in.new in
     let core = c.index_mut.result.now in
     record {
-      more = freeing_calls c.args.pass call.Take core.at;
-      since = subst (λ p. Since d.is_told d.seen d.may_leave d.moment d.left_since d.faults c.args.self.now.room n.room (freeing_calls p call.Take core.at))
-          (ap (λ (x : Core GameKind). x.pass) (own_core hall_tape _ c.requires.stands.0 c.requires.stands.1 c.args.pass c.requires.there core c.index_mut.ensures.value)) c.take_in.ensures.since;
-      comes = λ h s. (
-        freed_by_driver hall_tape _ h s c.args.pass c.requires.there call.Take refl core c.index_mut.ensures.value c.take_in.result (books_of n.room) n.core c.take_in.ensures.takes,
-        freed_grows h (has_one c.args.self.now h s) c.args.pass call.Take (side (books_of c.args.self.now.room) core) c.take_in.result (side (books_of n.room) n.core) refl
-            (own_room hall_tape _ h s c.args.pass c.requires.there core c.index_mut.ensures.value) c.take_in.ensures.takes,
-      );
+      freed = record {
+        more = freeing_calls c.args.pass call.Take core.at;
+        since = subst (λ p. Since d.is_told d.seen d.may_leave d.moment d.left_since d.faults c.args.self.now.room n.room (freeing_calls p call.Take core.at))
+            (ap (λ (x : Core GameKind). x.pass) (own_core hall_tape _ c.requires.stands.0 c.requires.stands.1 c.args.pass c.requires.there core c.index_mut.ensures.value)) c.take_in.ensures.since;
+        comes = λ h s. (
+          freed_by_driver hall_tape _ h s c.args.pass c.requires.there call.Take refl core c.index_mut.ensures.value c.take_in.result (books_of n.room) n.core c.take_in.ensures.takes,
+          freed_grows h (has_one c.args.self.now h s) c.args.pass call.Take (side (books_of c.args.self.now.room) core) c.take_in.result (side (books_of n.room) n.core) refl
+              (own_room hall_tape _ h s c.args.pass c.requires.there core c.index_mut.ensures.value) c.take_in.ensures.takes,
+        );
+      };
     }
