@@ -1,6 +1,6 @@
 -- What the end of a serving says, under other names for the same door, and how many bots' links were given before it.
-use Rattle.std.proofs.Common.{◌≡◌, ◌≤◌, ◌<◌, ◌-◌, ◌+◌, ℕ, zero, suc, List, [], Bool, inr, Option, None, Some, arith, refl, subst, sym}
-use Rattle.std.specs.Prelude.{IsSome, option_map}
+use Rattle.std.proofs.Common.{◌≡◌, ◌<◌, ◌-◌, ◌+◌, ℕ, zero, suc, List, [], Bool, inr, Option, None, Some, arith, refl, subst, sym}
+use Rattle.std.specs.Prelude.{IsSome}
 use Rattle.any_game.specs.GameKind.{GameKind}
 use Rattle.any_game.specs.declared.any_g.AnyG.{AnyG}
 use Rattle.board_links.specs.Pieces.{told_bytes}
@@ -63,16 +63,3 @@ serves_plain asked how books f l s a n old new held after none e r =
           (subst (λ t. EndsBy how asked.sessions f (held_with t l) s a n old new) (sym none) e);
       reports = λ tells. reports_same asked.rooms n (0 + n) books how (told_bytes held) after same (r tells);
     }
-
--- and where bots were
-pub serves_seated : (asked : ServeWords) (table : GameKind × ℕ) (how : ServeEnd) (books : List (Book GameKind AnyG)) (f : ℕ) (l : Option ℕ) (s : Bool) (a n old new : ℕ) (held after : Option (List ℕ))
-    → asked.bots ≡ Some table → ServesSeats how asked.rooms asked.sessions table.1 books f (option_map (λ k. k + table.1) l) s a n old new held after
-    → Serves asked (exit_of how) books f l s a n old new held after
-serves_seated asked table how books f l s a n old new held after some served = record {
-  how = how;
-  bots = served.bots;
-  gave = subst (λ t. GaveBots (seats_asked t) served.bots n) (sym some) served.gave;
-  exits = refl;
-  ended = subst (λ t. EndsBy how asked.sessions f (held_with t l) s a (served.bots + n) old new) (sym some) served.ended;
-  reports = served.reports;
-}

@@ -1,8 +1,11 @@
 //! Runs a script over one room whose changes are kept in a file.
 
 ghost use Rattle.std.specs.Prelude.{◌≡◌, ◌≤◌, ◌⊎◌, ℕ, List, IsSome, None, Some, option_map, true, false};
+ghost use Rattle.board_links.specs.Faults.{HasRisen};
 ghost use Rattle.board_links.specs.Pieces.{told_bytes};
-ghost use Rattle.kept_script.specs.Ending.{IsUnopened, RunsOpened};
+ghost use Rattle.kept_script.specs.Ending.{IsKeptComplete, IsUnopened, KeptRaises, RunsOpened};
+ghost use Rattle.kept_script.specs.KeptPlay.{kept_play};
+ghost use Rattle.line_runner.specs.Running.{AreInForm};
 ghost use Rattle.line_runner.specs.declared.exit.Exit.TheVariants.{Usage};
 ghost use Rattle.board_commands.specs.KeptWords.{kept_path, path_by};
 
@@ -19,7 +22,8 @@ const MOST_PATH: usize = 4_096;
 /// back.
 ///
 /// `Usage` comes where the words are not these, and then nothing was read, written or kept. Where source and sink tell what they hold, `ran` says
-/// what was printed; where the disk goes by the model too, `keeps` says what the file then has, and what it had whenever a crash came.
+/// what was printed, and `completes`, that a script in form without a fault is run to its end, or the file ended it, or there was no memory;
+/// where the disk goes by the model too, `keeps` says what the file then has, and what it had whenever a crash came.
 pub fn kept<S: Source, K: Sink, D: Disk + Drop>(
     alloc: Global,
     words: &[String],
@@ -33,6 +37,9 @@ pub fn kept<S: Source, K: Sink, D: Disk + Drop>(
     ensures untouched_source { kept_path words.now ≡ None → source.new ≡ source.old }
     ensures untouched_sink { kept_path words.now ≡ None → sink.new ≡ sink.old }
     ensures untouched_disk { kept_path words.now ≡ None → result.1 ≡ disk }
+    ensures raises { (path : List ℕ) → kept_path words.now ≡ Some path → KeptRaises result.0 (S.faults source.old) (S.faults source.new) (K.faults sink.old) (K.faults sink.new) }
+    ensures completes { (path : List ℕ) → kept_path words.now ≡ Some path → IsSome (S.left source.old) → IsSome (K.held sink.old) → AreInForm (kept_play {D = D}) (told_bytes (S.left source.old))
+        → (HasRisen (S.faults source.old) (S.faults source.new) → ⊥) → (HasRisen (K.faults sink.old) (K.faults sink.new) → ⊥) → IsKeptComplete result.0 }
     ensures ran { (path : List ℕ) → kept_path words.now ≡ Some path → IsSome (S.left source.old) → IsSome (K.held sink.old)
         → IsUnopened D.is_told D.seen D.faults disk result.1 result.0
         ⊎ RunsOpened D.is_told D.seen D.may_leave D.moment D.left_since D.faults disk false (told_bytes (S.left source.old)) (told_bytes (S.left source.new)) (told_bytes (K.held sink.old)) (K.held sink.new) result.0 result.1 }

@@ -1,6 +1,6 @@
 -- The record of a create.
-use Rattle.std.proofs.Common.{◌≡◌, ℕ, List, [], ◌∷◌, ◌++◌, Bool, Option, Some, None, refl, sym, ap, ◌∙◌, subst}
-use Rattle.std.specs.Prelude.{Vec, option_map}
+use Rattle.std.proofs.Common.{◌≡◌, ℕ, List, Some, None, refl, sym, ap, ◌∙◌}
+use Rattle.std.specs.Prelude.{Vec}
 use Rattle.std.specs.declared.alloc.Global.{Global}
 use Rattle.any_game.specs.AnyRules.{any_rules}
 use Rattle.any_game.specs.GameKind.{GameKind}
@@ -10,8 +10,7 @@ use Rattle.record_file.specs.Records.{framed}
 use Rattle.room_changes.specs.ChangesOf.{change_asked, is_accepted}
 use Rattle.room_changes.specs.declared.change.Change.{Change}
 use Rattle.room_changes.specs.declared.change.Change.TheVariants as change
-use Rattle.room_history.specs.Room.{reply, viewer_of}
-use Rattle.room_history.specs.declared.call.RoomCall.{RoomCall}
+use Rattle.room_history.specs.Room.{reply}
 use Rattle.room_history.specs.declared.call.RoomCall.TheVariants.{Create}
 use Rattle.room_journal.specs.Kept.{room_payload, room_records}
 use Rattle.room_journal.proofs.Adding.{adds_some}

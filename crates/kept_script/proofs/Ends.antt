@@ -1,21 +1,124 @@
 -- How a run ends, by that of its lines and by why the room has stopped.
-use Rattle.std.proofs.Common.{◌≡◌, ℕ, List, Option, Some, None, refl, sym, ap, ◌∙◌, subst}
-use Rattle.line_runner.specs.Running.{Ends, Leaves}
+use Rattle.std.proofs.Common.{◌≡◌, ◌⊎◌, ◌≤◌, inl, inr, ℕ, Bool, true, false, List, ◌∷◌, [], Option, Some, None, refl, sym, ap, ◌∙◌, subst}
+use Rattle.board_links.specs.Faults.{HasRisen}
+use Rattle.hall_history.specs.Mark.{Mark}
+use Rattle.hall_history.specs.Script.{Step}
+use Rattle.line_runner.specs.Play.{after_steps, steps_of}
+use Rattle.line_runner.specs.Running.{Ends, ExitRaises, IsComplete, Leaves}
 use Rattle.line_runner.specs.ScriptLines.{script}
 use Rattle.line_runner.specs.declared.exit.Exit.{Exit}
 use Rattle.line_runner.specs.declared.exit.Exit.TheVariants.{Done, Usage, ReadFault, WriteFault, BadLine, TooLong, TooMany, NoMemory, DoorFault, LinkFault, LinkEnded, LinkLong, BadRecord, LongJournal, StoreFault}
 use Rattle.object_journal.specs.declared.performing.Stop.{Stop}
 use Rattle.object_journal.specs.declared.performing.Stop.TheVariants as stop
-use Rattle.kept_script.specs.Ending.{HasRun, as_run, exit_after, exit_by}
-use Rattle.kept_script.specs.KeptDoing.{kept_doing}
-use Rattle.kept_script.specs.KeptPlay.{KeptState, kept_play}
+use Rattle.object_journal.specs.declared.replaying.OpenNo.{OpenNo}
+use Rattle.object_journal.specs.declared.replaying.OpenNo.TheVariants as open_no
+use Rattle.kept_script.specs.Ending.{HasRun, IsKeptComplete, KeptRaises, as_run, exit_after, exit_by, exit_of}
+use Rattle.kept_script.specs.Journal.{Goes, StopRaises}
+use Rattle.kept_script.specs.KeptDoing.{IsLeft, kept_doing}
+use Rattle.kept_script.specs.KeptPlay.{KeptState, kept_does, kept_play}
 use Rattle.kept_script.specs.declared.hall.KeptHall.{KeptHall}
+use Rattle.kept_script.proofs.Journals.{raises_from}
 
 stopped_run : (stopped : Option Stop) → as_run (exit_by stopped) ≡ NoMemory
 stopped_run None = refl
 stopped_run (Some stop.NoMemory) = refl
 stopped_run (Some (stop.Full place)) = refl
 stopped_run (Some (stop.NotKept place)) = refl
+
+-- ---- faults of the source and of the sink
+
+module _ (stopped : Option Stop) (a b c d : ℕ) where
+  raised_run : (run : Exit) → ExitRaises run a b c d → as_run (exit_after run stopped) ≡ run
+  raised_run Done r = refl
+  raised_run Usage r = absurd r
+  raised_run ReadFault r = refl
+  raised_run WriteFault r = refl
+  raised_run (BadLine line) r = refl
+  raised_run (TooLong line) r = refl
+  raised_run TooMany r = refl
+  raised_run NoMemory r = stopped_run stopped
+  raised_run DoorFault r = absurd r
+  raised_run LinkFault r = absurd r
+  raised_run LinkEnded r = absurd r
+  raised_run LinkLong r = absurd r
+  raised_run (BadRecord place) r = absurd r
+  raised_run LongJournal r = absurd r
+  raised_run StoreFault r = absurd r
+
+  pub run_raises : (run exit : Exit) → exit ≡ exit_after run stopped → ExitRaises run a b c d → ExitRaises (as_run exit) a b c d
+  run_raises run exit is r = subst (λ (x : Exit). ExitRaises x a b c d) (sym (ap as_run is ∙ raised_run run r)) r
+
+  pub run_completes : (run exit : Exit) → exit ≡ exit_after run stopped → ExitRaises run a b c d → IsComplete run → IsComplete (as_run exit)
+  run_completes run exit is r done = subst IsComplete (sym (ap as_run is ∙ raised_run run r)) done
+
+module _ (a b c d : ℕ) where
+  pub kept_raises : (exit : Exit) → ExitRaises (as_run exit) a b c d → KeptRaises exit a b c d
+  kept_raises Done r = r
+  kept_raises Usage r = r
+  kept_raises ReadFault r = r
+  kept_raises WriteFault r = r
+  kept_raises (BadLine line) r = r
+  kept_raises (TooLong line) r = r
+  kept_raises TooMany r = r
+  kept_raises NoMemory r = r
+  kept_raises DoorFault r = r
+  kept_raises LinkFault r = r
+  kept_raises LinkEnded r = r
+  kept_raises LinkLong r = r
+  kept_raises (BadRecord place) r = absurd r
+  kept_raises LongJournal r = r
+  kept_raises StoreFault r = r
+
+pub kept_completes : (exit : Exit) → IsComplete (as_run exit) → IsKeptComplete exit
+kept_completes Done r = r
+kept_completes Usage r = r
+kept_completes ReadFault r = r
+kept_completes WriteFault r = r
+kept_completes (BadLine line) r = r
+kept_completes (TooLong line) r = r
+kept_completes TooMany r = r
+kept_completes NoMemory r = r
+kept_completes DoorFault r = r
+kept_completes LinkFault r = r
+kept_completes LinkEnded r = r
+kept_completes LinkLong r = r
+kept_completes (BadRecord place) r = tt
+kept_completes LongJournal r = r
+kept_completes StoreFault r = r
+
+-- where the file wasn't opened
+pub unopened_raises : (why : OpenNo) (exit : Exit) → exit ≡ exit_of why → (source sink : ℕ) → KeptRaises exit source source sink sink
+unopened_raises why exit is source sink = subst (λ (x : Exit). KeptRaises x source source sink sink) (sym is) (by why)
+  where
+    by : (n : OpenNo) → KeptRaises (exit_of n) source source sink sink
+    by open_no.DiskFault = (refl, refl)
+    by open_no.Long = (refl, refl)
+    by (open_no.Damaged place) = (refl, refl)
+    by open_no.NoMemory = (refl, refl)
+
+pub unopened_completes : (why : OpenNo) (exit : Exit) → exit ≡ exit_of why → IsKeptComplete exit
+unopened_completes why exit is = subst IsKeptComplete (sym is) (by why)
+  where
+    by : (n : OpenNo) → IsKeptComplete (exit_of n)
+    by open_no.DiskFault = tt
+    by open_no.Long = tt
+    by (open_no.Damaged place) = tt
+    by open_no.NoMemory = tt
+
+-- ---- a fault of the disk
+
+abbrev is_store : Exit → Bool
+is_store StoreFault = true
+is_store exit = false
+
+no_true : false ≡ true → ⊥
+no_true e = cc
+
+store_by : (why : Option Stop) → exit_by why ≡ StoreFault → (place : ℕ) × (why ≡ Some (stop.NotKept place))
+store_by None e = absurd (no_true (ap is_store e))
+store_by (Some stop.NoMemory) e = absurd (no_true (ap is_store e))
+store_by (Some (stop.Full place)) e = absurd (no_true (ap is_store e))
+store_by (Some (stop.NotKept place)) e = (place, refl)
 
 module _ {D : Type 0} (s : KeptState D) (bytes left before : List ℕ) (after : Option (List ℕ)) (stopped : Option Stop) where
   run_is : (run : Exit) → Ends kept_play s bytes left before after run → as_run (exit_after run stopped) ≡ run
@@ -35,6 +138,50 @@ module _ {D : Type 0} (s : KeptState D) (bytes left before : List ℕ) (after : 
   run_is LongJournal e = absurd e
   run_is StoreFault e = absurd e
 
+  store_stop : (run : Exit) → Ends kept_play s bytes left before after run → exit_after run stopped ≡ StoreFault → (place : ℕ) × (stopped ≡ Some (stop.NotKept place))
+  store_stop Done e x = absurd (no_true (ap is_store x))
+  store_stop Usage e x = absurd (no_true (ap is_store x))
+  store_stop ReadFault e x = absurd (no_true (ap is_store x))
+  store_stop WriteFault e x = absurd (no_true (ap is_store x))
+  store_stop (BadLine line) e x = absurd (no_true (ap is_store x))
+  store_stop (TooLong line) e x = absurd (no_true (ap is_store x))
+  store_stop TooMany e x = absurd (no_true (ap is_store x))
+  store_stop NoMemory e x = store_by stopped x
+  store_stop DoorFault e x = absurd (no_true (ap is_store x))
+  store_stop LinkFault e x = absurd (no_true (ap is_store x))
+  store_stop LinkEnded e x = absurd (no_true (ap is_store x))
+  store_stop LinkLong e x = absurd (no_true (ap is_store x))
+  store_stop (BadRecord place) e x = absurd (no_true (ap is_store x))
+  store_stop LongJournal e x = absurd e
+  store_stop StoreFault e x = absurd e
+
+module _ {D : Type 0} (is_told : D → Type 0) (seen : D → List ℕ) (may_leave : D → List ℕ → Type 0) (moment : D → ℕ) (left_since : D → ℕ → List ℕ → Type 0) (faults : D → ℕ) where
+  -- no line changes the disk from before
+  same_start : (marks : List Mark) (steps : List Step) (s : KeptState D) → (after_steps (kept_doing is_told seen may_leave moment left_since faults) marks steps s).start ≡ s.start
+  unfolding kept_doing
+  same_start [] steps s = refl
+  same_start (mark ∷ marks) [] s = refl
+  same_start (mark ∷ marks) (step ∷ steps) s = same_start marks steps (kept_does mark step s).0
+
+  module _ (s t : KeptState D) (same : t.start ≡ s.start) (hall : KeptHall D) (place : ℕ) (stopped : hall.room.stopped ≡ Some (stop.NotKept place)) where
+    left_raised : IsLeft is_told seen may_leave moment left_since faults hall t → HasRisen (faults s.start) (faults hall.room.file.disk)
+    left_raised f =
+        let old : ℕ = faults f.before.room.file.disk in
+        let new : ℕ = faults hall.room.file.disk in
+        let none : Goes is_told seen may_leave moment left_since faults None f.before.room hall.room =
+        subst (λ (o : Option Stop). Goes is_told seen may_leave moment left_since faults o f.before.room hall.room) f.was.whole f.since.goes in
+        let rose : StopRaises (Some (stop.NotKept place)) old new = subst (λ (o : Option Stop). StopRaises o old new) stopped none in
+        raises_from (Some (stop.NotKept place)) (faults s.start) old new (subst (λ (d : D). faults d ≤ old) same f.was.journal.never_falls) rose
+
+    raised_by : (kept_doing is_told seen may_leave moment left_since faults).Stands hall t ⊎ ((kept_doing is_told seen may_leave moment left_since faults).Fails hall t)
+        → HasRisen (faults s.start) (faults hall.room.file.disk)
+    unfolding kept_doing
+    raised_by (inl k) = absurd (not_none (sym stopped ∙ k.whole))
+      where
+        not_none : Some (stop.NotKept place) ≡ None → ⊥
+        not_none e = cc
+    raised_by (inr f) = left_raised f
+
 module _ {D : Type 0} (is_told : D → Type 0) (seen : D → List ℕ) (may_leave : D → List ℕ → Type 0) (moment : D → ℕ) (left_since : D → ℕ → List ℕ → Type 0) (faults : D → ℕ)
     (s : KeptState D) (bytes left before : List ℕ) (after : Option (List ℕ)) (run : Exit) (hall : KeptHall D) where
   pub has_run : (stopped : Option Stop) (exit : Exit) (disk : D) → exit ≡ exit_after run stopped → disk ≡ hall.room.file.disk → stopped ≡ hall.room.stopped
@@ -48,4 +195,16 @@ module _ {D : Type 0} (is_told : D → Type 0) (seen : D → List ℕ) (may_leav
         handed = handed;
         leaves = subst (λ (x : Exit). Leaves kept_play (kept_doing is_told seen may_leave moment left_since faults) s (script bytes) hall before after x) (sym same) leaves;
         stops = is ∙ ap (λ (x : Exit). exit_after x stopped) (sym same) ∙ ap (λ (o : Option Stop). exit_after (as_run exit) o) why;
+        store = λ e. store (store_stop s bytes left before after stopped run ends (sym is ∙ e));
       }
+    where
+      either : {A B C : Type 0} → A ⊎ (B × C) → A ⊎ C
+      either (inl k) = inl k
+      either (inr f) = inr f.1
+
+      store : ((place : ℕ) × (stopped ≡ Some (stop.NotKept place))) → HasRisen (faults s.start) (faults disk)
+      store (place, e) =
+          let steps = steps_of (kept_play {D = D}).form leaves.done in
+          subst (λ (d : D). HasRisen (faults s.start) (faults d)) (sym handed)
+          (raised_by is_told seen may_leave moment left_since faults s (after_steps (kept_doing is_told seen may_leave moment left_since faults) leaves.marks steps s)
+          (same_start is_told seen may_leave moment left_since faults leaves.marks steps s) hall place (sym why ∙ e) (either leaves.stands))

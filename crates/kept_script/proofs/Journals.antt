@@ -1,10 +1,9 @@
 -- What calls make of a room's journal, one after another.
-use Rattle.std.proofs.Common.{◌≡◌, ◌⊎◌, ◌≤◌, inl, inr, ℕ, Bool, true, false, List, [], ◌∷◌, ◌++◌, Option, Some, None, option_map, IsSome, refl, sym, ap, ◌∙◌, subst, arith, append-nil, append_assoc}
-use Rattle.std.specs.Prelude.{min, ◌+◌}
+use Rattle.std.proofs.Common.{◌≡◌, ◌≤◌, inl, inr, ℕ, Bool, true, false, List, [], ◌∷◌, ◌++◌, Option, Some, None, option_map, IsSome, refl, sym, ap, ◌∙◌, subst, arith, append-nil, append_assoc}
+use Rattle.std.specs.Prelude.{◌+◌}
 use Rattle.any_game.specs.AnyRules.{any_rules}
 use Rattle.any_game.specs.GameKind.{GameKind}
 use Rattle.any_game.specs.declared.any_g.AnyG.{AnyG}
-use Rattle.board_links.specs.Faults.{HasRisen, last_count}
 use Rattle.match_master.specs.Held.{Held, StandsFor, running_of}
 use Rattle.object_journal.specs.Keeping.{HasEither, IsKeeping}
 use Rattle.object_journal.specs.Stopping.{HasCause}
@@ -14,14 +13,13 @@ use Rattle.record_file.specs.Records.{EndsAfter, HasRecords, IsSettled}
 use Rattle.record_file.specs.declared.append.RecordFile.{RecordFile}
 use Rattle.record_file.proofs.Composing.{and_then, weaker}
 use Rattle.record_file.proofs.Moments.{started}
-use Rattle.room_changes.specs.ChangesOf.{change_asked, change_made, changes_of}
-use Rattle.room_disk.specs.Disk.{LeavesOnly, Only}
+use Rattle.room_changes.specs.ChangesOf.{changes_of}
+use Rattle.room_disk.specs.Disk.{LeavesOnly}
 use Rattle.room_history.specs.Others.{KeepsAll}
-use Rattle.room_history.specs.Room.{reply, room_of, viewer_of}
+use Rattle.room_history.specs.Room.{reply, room_of}
 use Rattle.room_history.specs.declared.call.RoomCall.{RoomCall}
 use Rattle.room_history.specs.declared.reply.RoomReply.TheVariants as answer
 use Rattle.room_history.proofs.Others.{want_keeps_all}
-use Rattle.room_journal.specs.Coming.{StandsIn}
 use Rattle.room_journal.specs.Kept.{room_records, texts}
 use Rattle.room_journal.specs.declared.room_book.RoomBook.{RoomBook}
 use Rattle.room_object.specs.Entry.{Entry, entry}
@@ -59,7 +57,7 @@ cause_raises (Some stop.NoMemory) end old new c = c
 cause_raises (Some (stop.Full place)) end old new c = c.1
 cause_raises (Some (stop.NotKept place)) end old new c = c.1
 
-raises_from : (why : Option Stop) (old mid new : ℕ) → old ≤ mid → StopRaises why mid new → StopRaises why old new
+pub raises_from : (why : Option Stop) (old mid new : ℕ) → old ≤ mid → StopRaises why mid new → StopRaises why old new
 raises_from None old mid new le r = omega (arith, le, r)
 raises_from (Some stop.NoMemory) old mid new le r = omega (arith, le, r)
 raises_from (Some (stop.Full place)) old mid new le r = omega (arith, le, r)

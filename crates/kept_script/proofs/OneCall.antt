@@ -1,21 +1,20 @@
 -- A call in the one room is a call in a list of one book.
-use Rattle.std.proofs.Common.{◌≡◌, ◌≤◌, ◌<◌, ℕ, zero, suc, true, List, [], ◌∷◌, length, slice_index_or, slice_set, refl, sym, ap, ◌∙◌, subst, arith}
+use Rattle.std.proofs.Common.{◌≡◌, ◌≤◌, ◌<◌, ℕ, zero, suc, true, List, [], ◌∷◌, length, refl, sym, ap, ◌∙◌, subst, arith}
 use Rattle.any_game.specs.AnyRules.{any_rules}
 use Rattle.any_game.specs.GameKind.{GameKind}
-use Rattle.any_game.specs.declared.any_g.AnyG.{AnyG}
 use Rattle.game_hall.specs.Kept.{IsNamed}
 use Rattle.game_hall.proofs.Replies.{named_by}
 use Rattle.hall_history.specs.Hall.{Hall}
 use Rattle.hall_history.specs.Rooms.{history_of}
 use Rattle.hall_history.specs.Tapes.{hall_tape}
-use Rattle.match_master.specs.Held.{Held, StandsFor, is_starved, may_starve}
+use Rattle.match_master.specs.Held.{StandsFor, is_starved, may_starve}
 use Rattle.room_history.specs.Room.{reply}
 use Rattle.room_history.specs.declared.call.RoomCall.{RoomCall}
 use Rattle.room_history.specs.declared.reply.RoomReply.{RoomReply}
 use Rattle.room_object.specs.Entry.{entry}
 use Rattle.room_journal.specs.declared.room_book.RoomBook.{RoomBook}
 use Rattle.session_driver.specs.Calls.{did}
-use Rattle.session_hall.specs.Held.{AreBooks, IsBook, StandsForHall}
+use Rattle.session_hall.specs.Held.{IsBook, StandsForHall}
 use Rattle.kept_script.specs.Journal.{Calls, Since, stands_in}
 use Rattle.kept_script.specs.KeptPlay.{hall_of}
 use Rattle.kept_script.specs.OneRoom.{IsFirst, books_of, calls_book}

@@ -4,9 +4,9 @@ use Rattle.any_game.specs.AnyRules.{any_rules, named}
 use Rattle.any_game.specs.GameKind.{GameKind}
 use Rattle.any_game.specs.declared.any_g.AnyG.{AnyG}
 use Rattle.game_sheet.specs.MatchName.{Name}
-use Rattle.hall_history.specs.Opening.{joins, own_entry, own_pass, seat_key, seat_name}
+use Rattle.hall_history.specs.Opening.{joins, own_pass, seat_key, seat_name}
 use Rattle.hall_history.specs.Rooms.{History, Rooms}
-use Rattle.match_master.specs.Held.{Held, StandsFor, is_starved, may_starve}
+use Rattle.match_master.specs.Held.{Held, StandsFor, is_starved}
 use Rattle.room_history.specs.Room.{reply}
 use Rattle.room_history.specs.declared.call.RoomCall.{RoomCall}
 use Rattle.room_history.specs.declared.call.RoomCall.TheVariants.{Create, Join}
@@ -20,7 +20,6 @@ use Rattle.session_hall.specs.declared.opening.Tried.TheVariants as hall_tried
 use Rattle.session_hall.proofs.RoomByRoom.{OpensFrom, busy_next, made_ends, opens_first, opens_full, refused_ends, serial_there}
 use Rattle.kept_script.specs.Journal.{Calls, Since, stands_in}
 use Rattle.kept_script.specs.Growing.{AreOpening, creating_calls}
-use Rattle.kept_script.specs.OneRoom.{books_of}
 use Rattle.kept_script.specs.Tries.{UnlessStarved, tried_as}
 use Rattle.kept_script.specs.declared.opening.Tried.{Tried as KeptTried}
 use Rattle.kept_script.specs.declared.opening.Tried.TheVariants as kept_tried
@@ -45,13 +44,6 @@ module _ (game : GameKind) (seats : ℕ) (seed : List ℕ) (told : RoomReply) wh
   created_unless (kept_tried.Made serial) e = created_one (not_starved told (hall_tried.Made serial) e (λ n. cc))
   created_unless kept_tried.Refused e = created_one (not_starved told hall_tried.Refused e (λ n. cc))
   created_unless kept_tried.Starved e = tt
-
--- where another thing follows from it
-pub unless_weaker : (r : KeptTried) (P Q : Type 0) → (P → Q) → UnlessStarved r P → UnlessStarved r Q
-unless_weaker kept_tried.Busy P Q f p = f p
-unless_weaker (kept_tried.Made serial) P Q f p = f p
-unless_weaker kept_tried.Refused P Q f p = f p
-unless_weaker kept_tried.Starved P Q f p = p
 
 pub joined_one : (serial seat : ℕ) (call : RoomCall GameKind) (told : RoomReply) → call ≡ Join serial seat (seat_name seat) (seat_key seat) → is_starved told ≡ false
     → entry own_pass call (is_starved told) ∷ [] ≡ joins serial seat ∷ []

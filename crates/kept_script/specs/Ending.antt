@@ -1,7 +1,7 @@
 -- How a run over a kept room ends, by the lines' run and by why the room has stopped; and what is left of the disk.
 use Rattle.std.specs.Prelude.{◌≡◌, ℕ, Bool, true, List, [], Option, Some, None}
-use Rattle.line_runner.specs.Play.{Play}
-use Rattle.line_runner.specs.Running.{Ends, ExitRaises, Leaves}
+use Rattle.board_links.specs.Faults.{HasRisen}
+use Rattle.line_runner.specs.Running.{Ends, ExitRaises, IsComplete, Leaves}
 use Rattle.line_runner.specs.ScriptLines.{script}
 use Rattle.line_runner.specs.declared.exit.Exit.{Exit}
 use Rattle.line_runner.specs.declared.exit.Exit.TheVariants.{NoMemory, BadRecord, LongJournal, StoreFault}
@@ -44,6 +44,16 @@ as_run LongJournal = NoMemory
 as_run StoreFault = NoMemory
 as_run exit = exit
 
+-- a count of the source or of the sink rises only at a fault of the lines' run; where the file wasn't opened nothing was read or printed
+abbrev pub KeptRaises : Exit → ℕ → ℕ → ℕ → ℕ → Type 0
+KeptRaises (BadRecord place) source_old source_new sink_old sink_new = (source_new ≡ source_old) × (sink_new ≡ sink_old)
+KeptRaises exit source_old source_new sink_old sink_new = ExitRaises (as_run exit) source_old source_new sink_old sink_new
+
+-- the lines' run came to its end, or the file ended it, or there was no memory
+abbrev pub IsKeptComplete : Exit → Type 0
+IsKeptComplete (BadRecord place) = Unit {0}
+IsKeptComplete exit = IsComplete (as_run exit)
+
 -- the file wasn't opened, and nothing was read or printed; or there was no memory to begin
 pub record IsUnopened {D : Type 0} (is_told : D → Type 0) (seen : D → List ℕ) (faults : D → ℕ) (start disk : D) (exit : Exit) : Type 0 where
   pub no : OpenNo
@@ -69,6 +79,7 @@ module _ {D : Type 0} (is_told : D → Type 0) (seen : D → List ℕ) (may_leav
     pub handed : disk ≡ hall.room.file.disk
     pub leaves : Leaves kept_play (kept_doing is_told seen may_leave moment left_since faults) s (script bytes) hall before after (as_run exit)
     pub stops : exit ≡ exit_after (as_run exit) hall.room.stopped
+    pub store : exit ≡ StoreFault → HasRisen (faults s.start) (faults disk)
 
   -- the file was opened, its records were made again by these calls, and the lines were run from there on
   pub record RunsOpened (start : D) (told : Bool) (bytes left before : List ℕ) (after : Option (List ℕ)) (exit : Exit) (disk : D) : Type 0 where

@@ -1,15 +1,17 @@
 //! Runs a script over one room whose changes are kept in the file of a disk.
 
 ghost use Rattle.std.specs.Prelude.{◌≡◌, ◌≤◌, ◌⊎◌, None, IfErr, IfOk, IsSome, true, false};
+ghost use Rattle.board_links.specs.Faults.{HasRisen};
 ghost use Rattle.board_links.specs.Pieces.{told_bytes};
 ghost use Rattle.hall_history.specs.Hall.{new_hall};
+ghost use Rattle.line_runner.specs.Running.{AreInForm, ExitRaises, IsComplete};
 ghost use Rattle.object_journal.specs.Opening.{IsRefused};
 ghost use Rattle.room_journal.specs.Kept.{may_follow};
 ghost use Rattle.session_hall.specs.Held.{AreCores};
-ghost use Rattle.kept_script.specs.Ending.{HasRun, IsOpenedRoom, IsUnopened, RunsOpened, exit_after, exit_by, exit_of};
+ghost use Rattle.kept_script.specs.Ending.{HasRun, IsKeptComplete, IsOpenedRoom, IsUnopened, KeptRaises, RunsOpened, as_run, exit_after, exit_by, exit_of};
 ghost use Rattle.kept_script.specs.Journal.{Calls};
 ghost use Rattle.kept_script.specs.KeptDoing.{IsKept};
-ghost use Rattle.kept_script.specs.KeptPlay.{KeptState};
+ghost use Rattle.kept_script.specs.KeptPlay.{KeptState, kept_play};
 
 use crate::hall::{KeptHall, all_cores};
 use crate::room::KeptRoom;
@@ -28,8 +30,10 @@ use std::mem;
 ///
 /// A line is printed only where each of its changes was kept. `StoreFault` comes where the disk failed, `LongJournal` where the file has, or
 /// with a further record would have, more than 268,435,456 bytes, and `BadRecord` where it is damaged, with the place of the gate; every other
-/// end comes as that of a script. Where source and sink tell what they hold, `ran` says what was printed. Where the disk goes by the model too,
-/// `keeps` says that the file then has the records of the history that the transcript's room has, and whenever a crash came, a first part of them.
+/// end comes as that of a script. Where source and sink tell what they hold, `ran` says what was printed, and that the disk's count of faults
+/// rose where `StoreFault` came; `completes`, that a script in form without a fault is run to its end, or the file ended it, or there was no
+/// memory. Where the disk goes by the model too, `keeps` says that the file then has the records of the history that the transcript's room has,
+/// and whenever a crash came, a first part of them.
 pub fn run_kept<S: Source, K: Sink, D: Disk + Drop>(
     alloc: Global,
     source: &mut S,
@@ -38,6 +42,9 @@ pub fn run_kept<S: Source, K: Sink, D: Disk + Drop>(
 ) -> (Exit, D)
     ensures source_never_falls { S.faults source.old ≤ S.faults source.new }
     ensures sink_never_falls { K.faults sink.old ≤ K.faults sink.new }
+    ensures raises { KeptRaises result.0 (S.faults source.old) (S.faults source.new) (K.faults sink.old) (K.faults sink.new) }
+    ensures completes { IsSome (S.left source.old) → IsSome (K.held sink.old) → AreInForm (kept_play {D = D}) (told_bytes (S.left source.old))
+        → (HasRisen (S.faults source.old) (S.faults source.new) → ⊥) → (HasRisen (K.faults sink.old) (K.faults sink.new) → ⊥) → IsKeptComplete result.0 }
     ensures ran { IsSome (S.left source.old) → IsSome (K.held sink.old)
         → IsUnopened D.is_told D.seen D.faults disk result.1 result.0
         ⊎ RunsOpened D.is_told D.seen D.may_leave D.moment D.left_since D.faults disk false (told_bytes (S.left source.old)) (told_bytes (S.left source.new)) (told_bytes (K.held sink.old)) (K.held sink.new) result.0 result.1 }
@@ -62,6 +69,9 @@ fn run_with<S: Source, K: Sink, D: Disk + Drop>(
     requires { AreCores cores.items (new_hall 1) }
     ensures source_never_falls { S.faults source.old ≤ S.faults source.new }
     ensures sink_never_falls { K.faults sink.old ≤ K.faults sink.new }
+    ensures raises { KeptRaises result.0 (S.faults source.old) (S.faults source.new) (K.faults sink.old) (K.faults sink.new) }
+    ensures completes { IsSome (S.left source.old) → IsSome (K.held sink.old) → AreInForm (kept_play {D = D}) (told_bytes (S.left source.old))
+        → (HasRisen (S.faults source.old) (S.faults source.new) → ⊥) → (HasRisen (K.faults sink.old) (K.faults sink.new) → ⊥) → IsKeptComplete result.0 }
     ensures ran { IsSome (S.left source.old) → IsSome (K.held sink.old)
         → IsUnopened D.is_told D.seen D.faults disk result.1 result.0
         ⊎ RunsOpened D.is_told D.seen D.may_leave D.moment D.left_since D.faults disk false (told_bytes (S.left source.old)) (told_bytes (S.left source.new)) (told_bytes (K.held sink.old)) (K.held sink.new) result.0 result.1 }
@@ -121,6 +131,9 @@ fn run_hall<S: Source, K: Sink, D: Disk + Drop>(
     requires { (s : KeptState D) × IsKept D.is_told D.seen D.may_leave D.moment D.left_since D.faults hall s }
     ensures source_never_falls { S.faults source.old ≤ S.faults source.new }
     ensures sink_never_falls { K.faults sink.old ≤ K.faults sink.new }
+    ensures raises { ExitRaises (as_run result.0) (S.faults source.old) (S.faults source.new) (K.faults sink.old) (K.faults sink.new) }
+    ensures completes { IsSome (S.left source.old) → IsSome (K.held sink.old) → AreInForm (kept_play {D = D}) (told_bytes (S.left source.old))
+        → (HasRisen (S.faults source.old) (S.faults source.new) → ⊥) → (HasRisen (K.faults sink.old) (K.faults sink.new) → ⊥) → IsComplete (as_run result.0) }
     ensures ran { (s : KeptState D) → IsKept D.is_told D.seen D.may_leave D.moment D.left_since D.faults hall s → IsSome (S.left source.old) → IsSome (K.held sink.old)
         → HasRun D.is_told D.seen D.may_leave D.moment D.left_since D.faults s (told_bytes (S.left source.old)) (told_bytes (S.left source.new)) (told_bytes (K.held sink.old)) (K.held sink.new) result.0 result.1 }
 {

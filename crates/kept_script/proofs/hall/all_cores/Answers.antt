@@ -1,5 +1,5 @@
 use Rattle.std.proofs.Common.{◌+◌, subst, sym}
-use Rattle.session_hall.proofs.Beginning.{CoresTo, all_there, no_cores, push_core}
+use Rattle.session_hall.proofs.Beginning.{CoresTo, no_cores, push_core}
 use Rattle.kept_script.proofs.hall.all_cores.Goals as goal
 
 pub loop-pass-init : goal.loop-pass-init

@@ -1,5 +1,6 @@
 use Rattle.std.proofs.Common.{inl, inr, true, false}
 use Rattle.kept_script.specs.KeptPlay.{opened_state}
+use Rattle.kept_script.proofs.Ends.{kept_completes, kept_raises, unopened_completes, unopened_raises}
 use Rattle.kept_script.proofs.Opened.{kept_hall}
 use Rattle.kept_script.proofs.running.run_with.Goals as goal
 
@@ -42,3 +43,15 @@ returns-in-Err-clause-ran g c l k = inl (record { no = c.in-Err.refused.0; is = 
 
 pub returns-in-Err-clause-keeps : goal.returns-in-Err-clause-keeps
 returns-in-Err-clause-keeps g c known l k = inl (record { no = c.in-Err.refused.0; is = c.exit_of.ensures; refused = c.in-Err.ensures.refused })
+
+pub returns-in-Ok-clause-raises : goal.returns-in-Ok-clause-raises
+returns-in-Ok-clause-raises g c = kept_raises _ _ _ _ c.run_hall.result.0 c.run_hall.ensures.raises
+
+pub returns-in-Ok-clause-completes : goal.returns-in-Ok-clause-completes
+returns-in-Ok-clause-completes g c l k f s t = kept_completes c.run_hall.result.0 (c.run_hall.ensures.completes l k f s t)
+
+pub returns-in-Err-clause-raises : goal.returns-in-Err-clause-raises
+returns-in-Err-clause-raises g c = unopened_raises c.in-Err.refused.0 c.exit_of.result c.exit_of.ensures _ _
+
+pub returns-in-Err-clause-completes : goal.returns-in-Err-clause-completes
+returns-in-Err-clause-completes g c l k f s t = unopened_completes c.in-Err.refused.0 c.exit_of.result c.exit_of.ensures
