@@ -56,9 +56,13 @@ play: program page
 
 # The same at once, for an hour, by a program that is built without a proof; the page then guesses nothing ahead.
 try:
-	@echo "Building without proofs, which takes some minutes; then play at http://$(LISTEN)/"
-	@cd crates/board_server && rt try --seconds 3600 -- serve --listen $(LISTEN) --ws --page $(CURDIR)/page --links $(PLAY_LINKS) \
-		--bots $(BOTS) --seats $(SEATS) --pace $(PACE)
+	@echo "Building without proofs, which takes some minutes."
+	@port=$$(printf '%04X' $(lastword $(subst :, ,$(LISTEN)))); \
+	(until grep -q ":$$port 00000000:0000 0A" /proc/net/tcp; do sleep 1; done; echo "Play at http://$(LISTEN)/") & \
+	waits=$$!; cd crates/board_server; \
+	rt try --seconds 3600 -- serve --listen $(LISTEN) --ws --page $(CURDIR)/page --links $(PLAY_LINKS) \
+		--bots $(BOTS) --seats $(SEATS) --pace $(PACE); \
+	status=$$?; kill $$waits 2>/dev/null; exit $$status
 
 # Plays on the page in headless Chromium, against the program, or against SARPUNTXE_PROGRAM or SARPUNTXE_SERVER. It wants node and chromium.
 page-test: $(if $(SARPUNTXE_PROGRAM)$(SARPUNTXE_SERVER),,program) page
