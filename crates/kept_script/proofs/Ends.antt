@@ -1,5 +1,5 @@
 -- How a run ends, by that of its lines and by why the room has stopped.
-use Rattle.std.proofs.Common.{◌≡◌, ◌⊎◌, ◌≤◌, inl, inr, ℕ, Bool, true, false, List, ◌∷◌, [], Option, Some, None, refl, sym, ap, ◌∙◌, subst}
+use Rattle.std.proofs.Common.{◌≡◌, ◌⊎◌, ◌≤◌, inl, inr, ℕ, Bool, true, false, List, ◌∷◌, [], ◌++◌, Option, Some, None, refl, sym, ap, ◌∙◌, subst}
 use Rattle.board_links.specs.Faults.{HasRisen}
 use Rattle.hall_history.specs.Mark.{Mark}
 use Rattle.hall_history.specs.Script.{Step}
@@ -12,12 +12,12 @@ use Rattle.object_journal.specs.declared.performing.Stop.{Stop}
 use Rattle.object_journal.specs.declared.performing.Stop.TheVariants as stop
 use Rattle.object_journal.specs.declared.replaying.OpenNo.{OpenNo}
 use Rattle.object_journal.specs.declared.replaying.OpenNo.TheVariants as open_no
-use Rattle.kept_script.specs.Ending.{HasRun, IsKeptComplete, KeptRaises, as_run, exit_after, exit_by, exit_of}
-use Rattle.kept_script.specs.Journal.{Goes, StopRaises}
+use Rattle.kept_script.specs.Ending.{HasRun, IsFull, IsKeptComplete, KeptRaises, as_run, exit_after, exit_by, exit_of}
+use Rattle.kept_script.specs.Journal.{Calls, FillsFile, Goes, StopRaises}
 use Rattle.kept_script.specs.KeptDoing.{IsLeft, kept_doing}
 use Rattle.kept_script.specs.KeptPlay.{KeptState, kept_does, kept_play}
 use Rattle.kept_script.specs.declared.hall.KeptHall.{KeptHall}
-use Rattle.kept_script.proofs.Journals.{raises_from}
+use Rattle.kept_script.proofs.Journals.{raises_from, some_is_none}
 
 stopped_run : (stopped : Option Stop) → as_run (exit_by stopped) ≡ NoMemory
 stopped_run None = refl
@@ -105,11 +105,33 @@ unopened_completes why exit is = subst IsKeptComplete (sym is) (by why)
     by (open_no.Damaged place) = tt
     by open_no.NoMemory = tt
 
--- ---- a fault of the disk
+-- ---- a fault of the disk, and a full file
+
+-- an end is that of the lines' run, or it comes by why the room has stopped
+either_stop : (stopped : Option Stop) (run exit : Exit) → exit_after run stopped ≡ exit → (run ≡ exit) ⊎ (exit_by stopped ≡ exit)
+either_stop stopped Done exit is = inl is
+either_stop stopped Usage exit is = inl is
+either_stop stopped ReadFault exit is = inl is
+either_stop stopped WriteFault exit is = inl is
+either_stop stopped (BadLine line) exit is = inl is
+either_stop stopped (TooLong line) exit is = inl is
+either_stop stopped TooMany exit is = inl is
+either_stop stopped NoMemory exit is = inr is
+either_stop stopped DoorFault exit is = inl is
+either_stop stopped LinkFault exit is = inl is
+either_stop stopped LinkEnded exit is = inl is
+either_stop stopped LinkLong exit is = inl is
+either_stop stopped (BadRecord place) exit is = inl is
+either_stop stopped LongJournal exit is = inl is
+either_stop stopped StoreFault exit is = inl is
 
 abbrev is_store : Exit → Bool
 is_store StoreFault = true
 is_store exit = false
+
+abbrev is_long : Exit → Bool
+is_long LongJournal = true
+is_long exit = false
 
 no_true : false ≡ true → ⊥
 no_true e = cc
@@ -119,6 +141,12 @@ store_by None e = absurd (no_true (ap is_store e))
 store_by (Some stop.NoMemory) e = absurd (no_true (ap is_store e))
 store_by (Some (stop.Full place)) e = absurd (no_true (ap is_store e))
 store_by (Some (stop.NotKept place)) e = (place, refl)
+
+full_by : (why : Option Stop) → exit_by why ≡ LongJournal → (place : ℕ) × (why ≡ Some (stop.Full place))
+full_by None e = absurd (no_true (ap is_long e))
+full_by (Some stop.NoMemory) e = absurd (no_true (ap is_long e))
+full_by (Some (stop.Full place)) e = (place, refl)
+full_by (Some (stop.NotKept place)) e = absurd (no_true (ap is_long e))
 
 module _ {D : Type 0} (s : KeptState D) (bytes left before : List ℕ) (after : Option (List ℕ)) (stopped : Option Stop) where
   run_is : (run : Exit) → Ends kept_play s bytes left before after run → as_run (exit_after run stopped) ≡ run
@@ -139,21 +167,18 @@ module _ {D : Type 0} (s : KeptState D) (bytes left before : List ℕ) (after : 
   run_is StoreFault e = absurd e
 
   store_stop : (run : Exit) → Ends kept_play s bytes left before after run → exit_after run stopped ≡ StoreFault → (place : ℕ) × (stopped ≡ Some (stop.NotKept place))
-  store_stop Done e x = absurd (no_true (ap is_store x))
-  store_stop Usage e x = absurd (no_true (ap is_store x))
-  store_stop ReadFault e x = absurd (no_true (ap is_store x))
-  store_stop WriteFault e x = absurd (no_true (ap is_store x))
-  store_stop (BadLine line) e x = absurd (no_true (ap is_store x))
-  store_stop (TooLong line) e x = absurd (no_true (ap is_store x))
-  store_stop TooMany e x = absurd (no_true (ap is_store x))
-  store_stop NoMemory e x = store_by stopped x
-  store_stop DoorFault e x = absurd (no_true (ap is_store x))
-  store_stop LinkFault e x = absurd (no_true (ap is_store x))
-  store_stop LinkEnded e x = absurd (no_true (ap is_store x))
-  store_stop LinkLong e x = absurd (no_true (ap is_store x))
-  store_stop (BadRecord place) e x = absurd (no_true (ap is_store x))
-  store_stop LongJournal e x = absurd e
-  store_stop StoreFault e x = absurd e
+  store_stop run e x = by (either_stop stopped run StoreFault x)
+    where
+      by : (run ≡ StoreFault) ⊎ (exit_by stopped ≡ StoreFault) → (place : ℕ) × (stopped ≡ Some (stop.NotKept place))
+      by (inl is) = absurd (subst (λ (r : Exit). Ends kept_play s bytes left before after r) is e)
+      by (inr is) = store_by stopped is
+
+  full_stop : (run : Exit) → Ends kept_play s bytes left before after run → exit_after run stopped ≡ LongJournal → (place : ℕ) × (stopped ≡ Some (stop.Full place))
+  full_stop run e x = by (either_stop stopped run LongJournal x)
+    where
+      by : (run ≡ LongJournal) ⊎ (exit_by stopped ≡ LongJournal) → (place : ℕ) × (stopped ≡ Some (stop.Full place))
+      by (inl is) = absurd (subst (λ (r : Exit). Ends kept_play s bytes left before after r) is e)
+      by (inr is) = full_by stopped is
 
 module _ {D : Type 0} (is_told : D → Type 0) (seen : D → List ℕ) (may_leave : D → List ℕ → Type 0) (moment : D → ℕ) (left_since : D → ℕ → List ℕ → Type 0) (faults : D → ℕ) where
   -- no line changes the disk from before
@@ -162,6 +187,13 @@ module _ {D : Type 0} (is_told : D → Type 0) (seen : D → List ℕ) (may_leav
   same_start [] steps s = refl
   same_start (mark ∷ marks) [] s = refl
   same_start (mark ∷ marks) (step ∷ steps) s = same_start marks steps (kept_does mark step s).0
+
+  -- and none what is known of it
+  same_told : (marks : List Mark) (steps : List Step) (s : KeptState D) → (after_steps (kept_doing is_told seen may_leave moment left_since faults) marks steps s).told ≡ s.told
+  unfolding kept_doing
+  same_told [] steps s = refl
+  same_told (mark ∷ marks) [] s = refl
+  same_told (mark ∷ marks) (step ∷ steps) s = same_told marks steps (kept_does mark step s).0
 
   module _ (s t : KeptState D) (same : t.start ≡ s.start) (hall : KeptHall D) (place : ℕ) (stopped : hall.room.stopped ≡ Some (stop.NotKept place)) where
     left_raised : IsLeft is_told seen may_leave moment left_since faults hall t → HasRisen (faults s.start) (faults hall.room.file.disk)
@@ -176,35 +208,64 @@ module _ {D : Type 0} (is_told : D → Type 0) (seen : D → List ℕ) (may_leav
     raised_by : (kept_doing is_told seen may_leave moment left_since faults).Stands hall t ⊎ ((kept_doing is_told seen may_leave moment left_since faults).Fails hall t)
         → HasRisen (faults s.start) (faults hall.room.file.disk)
     unfolding kept_doing
-    raised_by (inl k) = absurd (not_none (sym stopped ∙ k.whole))
-      where
-        not_none : Some (stop.NotKept place) ≡ None → ⊥
-        not_none e = cc
+    raised_by (inl k) = absurd (some_is_none (stop.NotKept place) (sym stopped ∙ k.whole))
     raised_by (inr f) = left_raised f
+
+  module _ (t : KeptState D) (known : t.told ≡ true) (hall : KeptHall D) (place : ℕ) (stopped : hall.room.stopped ≡ Some (stop.Full place)) where
+    left_full : IsLeft is_told seen may_leave moment left_since faults hall t → IsFull hall t
+    left_full f =
+        let history : Calls = f.was.made ++ t.first in
+        record {
+          history = history;
+          is = f.was.is;
+          more = f.more;
+          stands = f.since.stands history f.was.journal.stands;
+          fills = subst (λ (r : ℕ). FillsFile r history f.more) f.was.numbered (f.since.full history f.was.whole (f.was.journal.keeps known) place stopped);
+        }
+
+    filled_by : (kept_doing is_told seen may_leave moment left_since faults).Stands hall t ⊎ ((kept_doing is_told seen may_leave moment left_since faults).Fails hall t) → IsFull hall t
+    unfolding kept_doing
+    filled_by (inl k) = absurd (some_is_none (stop.Full place) (sym stopped ∙ k.whole))
+    filled_by (inr f) = left_full f
 
 module _ {D : Type 0} (is_told : D → Type 0) (seen : D → List ℕ) (may_leave : D → List ℕ → Type 0) (moment : D → ℕ) (left_since : D → ℕ → List ℕ → Type 0) (faults : D → ℕ)
     (s : KeptState D) (bytes left before : List ℕ) (after : Option (List ℕ)) (run : Exit) (hall : KeptHall D) where
   pub has_run : (stopped : Option Stop) (exit : Exit) (disk : D) → exit ≡ exit_after run stopped → disk ≡ hall.room.file.disk → stopped ≡ hall.room.stopped
       → Ends kept_play s bytes left before after run → Leaves kept_play (kept_doing is_told seen may_leave moment left_since faults) s (script bytes) hall before after run
       → HasRun is_told seen may_leave moment left_since faults s bytes left before after exit disk
-  has_run stopped exit disk is handed why ends leaves =
-      let same : as_run exit ≡ run = ap as_run is ∙ run_is s bytes left before after stopped run ends in
-      record {
-        ends = subst (λ (x : Exit). Ends kept_play s bytes left before after x) (sym same) ends;
-        hall = hall;
-        handed = handed;
-        leaves = subst (λ (x : Exit). Leaves kept_play (kept_doing is_told seen may_leave moment left_since faults) s (script bytes) hall before after x) (sym same) leaves;
-        stops = is ∙ ap (λ (x : Exit). exit_after x stopped) (sym same) ∙ ap (λ (o : Option Stop). exit_after (as_run exit) o) why;
-        store = λ e. store (store_stop s bytes left before after stopped run ends (sym is ∙ e));
-      }
+  has_run stopped exit disk is handed why ends leaves = record {
+    ends = subst (λ (x : Exit). Ends kept_play s bytes left before after x) (sym same) ends;
+    hall = hall;
+    handed = handed;
+    leaves = left_so;
+    stops = is ∙ ap (λ (x : Exit). exit_after x stopped) (sym same) ∙ ap (λ (o : Option Stop). exit_after (as_run exit) o) why;
+    store = λ e. store (store_stop s bytes left before after stopped run ends (sym is ∙ e));
+    full = λ known e. full known (full_stop s bytes left before after stopped run ends (sym is ∙ e));
+  }
     where
+      same : as_run exit ≡ run
+      same = ap as_run is ∙ run_is s bytes left before after stopped run ends
+
+      left_so : Leaves kept_play (kept_doing is_told seen may_leave moment left_since faults) s (script bytes) hall before after (as_run exit)
+      left_so = subst (λ (x : Exit). Leaves kept_play (kept_doing is_told seen may_leave moment left_since faults) s (script bytes) hall before after x) (sym same) leaves
+
+      steps : List Step
+      steps = steps_of (kept_play {D = D}).form left_so.done
+
+      then : KeptState D
+      then = after_steps (kept_doing is_told seen may_leave moment left_since faults) left_so.marks steps s
+
       either : {A B C : Type 0} → A ⊎ (B × C) → A ⊎ C
       either (inl k) = inl k
       either (inr f) = inr f.1
 
       store : ((place : ℕ) × (stopped ≡ Some (stop.NotKept place))) → HasRisen (faults s.start) (faults disk)
       store (place, e) =
-          let steps = steps_of (kept_play {D = D}).form leaves.done in
           subst (λ (d : D). HasRisen (faults s.start) (faults d)) (sym handed)
-          (raised_by is_told seen may_leave moment left_since faults s (after_steps (kept_doing is_told seen may_leave moment left_since faults) leaves.marks steps s)
-          (same_start is_told seen may_leave moment left_since faults leaves.marks steps s) hall place (sym why ∙ e) (either leaves.stands))
+          (raised_by is_told seen may_leave moment left_since faults s then (same_start is_told seen may_leave moment left_since faults left_so.marks steps s) hall place (sym why ∙ e)
+          (either left_so.stands))
+
+      full : s.told ≡ true → ((place : ℕ) × (stopped ≡ Some (stop.Full place))) → IsFull hall then
+      full known (place, e) =
+          filled_by is_told seen may_leave moment left_since faults then (same_told is_told seen may_leave moment left_since faults left_so.marks steps s ∙ known) hall place (sym why ∙ e)
+          (either left_so.stands)

@@ -5,7 +5,7 @@ use Rattle.any_game.specs.AnyRules.{any_rules}
 use Rattle.any_game.specs.GameKind.{GameKind}
 use Rattle.any_game.specs.declared.any_g.AnyG.{AnyG}
 use Rattle.match_master.specs.Held.{Held, StandsFor, running_of}
-use Rattle.object_journal.specs.Keeping.{HasEither, IsKeeping}
+use Rattle.object_journal.specs.Keeping.{HasEither, IsKeeping, IsPast}
 use Rattle.object_journal.specs.Stopping.{HasCause}
 use Rattle.object_journal.specs.declared.performing.Stop.{Stop}
 use Rattle.object_journal.specs.declared.performing.Stop.TheVariants as stop
@@ -20,10 +20,10 @@ use Rattle.room_history.specs.Room.{reply, room_of}
 use Rattle.room_history.specs.declared.call.RoomCall.{RoomCall}
 use Rattle.room_history.specs.declared.reply.RoomReply.TheVariants as answer
 use Rattle.room_history.proofs.Others.{want_keeps_all}
-use Rattle.room_journal.specs.Kept.{room_records, texts}
+use Rattle.room_journal.specs.Kept.{room_payload, room_records, texts}
 use Rattle.room_journal.specs.declared.room_book.RoomBook.{RoomBook}
 use Rattle.room_object.specs.Entry.{Entry, entry}
-use Rattle.kept_script.specs.Journal.{Calls, Goes, HasPart, IsJournal, Keeps, Since, StopRaises, stands_in}
+use Rattle.kept_script.specs.Journal.{AllFit, Calls, FillsFile, Goes, HasPart, IsJournal, IsOver, Keeps, Since, StopRaises, stands_in}
 use Rattle.kept_script.specs.declared.room.KeptRoom.{KeptRoom}
 
 -- ---- first parts of the records of calls
@@ -48,6 +48,24 @@ module _ (records : Calls → List (List ℕ)) (first : Calls) where
       → HasPart records first (entry pass call starved ∷ []) file
   one_part pass call starved file (inl before) = inr before
   one_part pass call starved file (inr after) = inl (inr after)
+
+-- ---- whether records fit
+
+module _ (room : ℕ) (first made : Calls) where
+  all_fit : (more : Calls) → AllFit room (made ++ first) more → AllFit room first made → AllFit room first (more ++ made)
+  all_fit [] after before = before
+  all_fit (e ∷ more) (fits, after) before =
+      (λ fed over. fits fed (subst (λ (l : Calls). IsOver room l e) (append_assoc more made first) over), all_fit more after before)
+
+  fills_after : (more : Calls) → AllFit room first made → FillsFile room (made ++ first) more → FillsFile room first (more ++ made)
+  fills_after [] before f = absurd f
+  fills_after (e ∷ more) before (inl (over, after)) =
+      inl (subst (λ (l : Calls). IsOver room l e) (sym (append_assoc more made first)) over, all_fit more after before)
+  fills_after (e ∷ more) before (inr f) = inr (fills_after more before f)
+
+  fills_before : (more : Calls) → FillsFile room first made → FillsFile room first (more ++ made)
+  fills_before [] f = f
+  fills_before (e ∷ more) f = inr (fills_before more f)
 
 -- ---- why a room stops
 
@@ -79,10 +97,16 @@ some_none (Some why) live e = is_none e
     is_none : Some why ≡ None → ⊥
     is_none f = cc
 
-some_is_none : (why : Stop) → Some why ≡ None → ⊥
+pub some_is_none : (why : Stop) → Some why ≡ None → ⊥
 some_is_none why e = cc
 
+memory_is_full : (place : ℕ) → Some stop.NoMemory ≡ Some (stop.Full place) → ⊥
+memory_is_full place e = cc
+
 -- ---- want of memory
+
+true_is_false : true ≡ false → ⊥
+true_is_false e = cc
 
 -- a book stands for its calls with one more for which there was no memory
 wanted : (held : Held GameKind AnyG) (h : Calls) → StandsFor any_rules held h → (pass : ℕ) (call : RoomCall GameKind) → StandsFor any_rules held (entry pass call true ∷ h)
@@ -136,6 +160,8 @@ module _ {D : Type 0} (is_told : D → Type 0) (seen : D → List ℕ) (may_leav
     kept = λ n h k. absurd (some_none old.stopped stopped (sym same ∙ n));
     crash = λ h n k. absurd (some_none old.stopped stopped n);
     goes = by old.stopped refl;
+    fits = λ h n k. absurd (some_none old.stopped stopped (sym same ∙ n));
+    full = λ h n k place f. absurd (some_none old.stopped stopped n);
   }
     where
       by : (why : Option Stop) → old.stopped ≡ why → Went why old new
@@ -143,14 +169,16 @@ module _ {D : Type 0} (is_told : D → Type 0) (seen : D → List ℕ) (may_leav
       by (Some why) n = (same ∙ n, file)
 
   -- a call whose record was kept, or at which the room stopped
-  pub since_performed : (old new : KeptRoom D) (pass : ℕ) (call : RoomCall GameKind) (starved : Bool) (end : ℕ) → old.stopped ≡ None → new.object.room ≡ old.object.room
+  pub since_performed : (old new : KeptRoom D) (pass : ℕ) (call : RoomCall GameKind) (starved : Bool) → old.stopped ≡ None → new.object.room ≡ old.object.room
       → ((h : Calls) → stands_in old.object h → stands_in new.object (entry pass call starved ∷ h))
       → (new.stopped ≡ None → (h : Calls) → Holds old h
       → IsKeeping stands_in (room_records old.object.room) is_told seen may_leave new.object new.file.disk new.file.end (entry pass call starved ∷ h))
-      → HasCause new.stopped end (faults old.file.disk) (faults new.file.disk)
+      → HasCause new.stopped old.file.end (faults old.file.disk) (faults new.file.disk)
+      → ((h : Calls) (place : ℕ) → stands_in old.object h → new.stopped ≡ Some (stop.Full place) → IsPast old.file.end (room_payload old.object.room h pass call))
+      → ((h : Calls) → stands_in old.object h → new.stopped ≡ None → IsPast old.file.end (room_payload old.object.room h pass call) → ⊥)
       → ((h : Calls) → Holds old h → Leaves old.file.disk new.file.disk (HasEither (room_records old.object.room h) (room_records old.object.room (entry pass call false ∷ h))))
       → Was old new (entry pass call starved ∷ [])
-  since_performed old new pass call starved end none room stands kept cause crash = record {
+  since_performed old new pass call starved none room stands kept cause full fits crash = record {
     same_room = room;
     stands = stands;
     whole = λ n. none;
@@ -160,7 +188,9 @@ module _ {D : Type 0} (is_told : D → Type 0) (seen : D → List ℕ) (may_leav
         let records : Calls → List (List ℕ) = room_records old.object.room in
         weaker moment left_since old.file.disk new.file.disk (HasEither (records h) (records (entry pass call false ∷ h))) (HasPart records h (entry pass call starved ∷ []))
         (one_part records h pass call starved) (crash h k);
-    goes = subst (λ (why : Option Stop). Went why old new) (sym none) (cause_raises new.stopped end (faults old.file.disk) (faults new.file.disk) cause);
+    goes = subst (λ (why : Option Stop). Went why old new) (sym none) (cause_raises new.stopped old.file.end (faults old.file.disk) (faults new.file.disk) cause);
+    fits = λ h n k. (λ fed over. fits h k.stands n (subst (λ (end : ℕ). IsPast end (room_payload old.object.room h pass call)) (sym k.settled.place) over), tt);
+    full = λ h n k place f. inl (subst (λ (end : ℕ). IsPast end (room_payload old.object.room h pass call)) k.settled.place (full h place k.stands f), tt);
   }
 
   module _ (only_now : (disk : D) (c : List ℕ) → is_told disk → left_since disk (moment disk) c → may_leave disk c) where
@@ -180,6 +210,8 @@ module _ {D : Type 0} (is_told : D → Type 0) (seen : D → List ℕ) (may_leav
       kept = λ n h k. k;
       crash = λ h n k. at_rest r h k;
       goes = idle r r.stopped refl;
+      fits = λ h n k. tt;
+      full = λ h n k place f. absurd (some_is_none (stop.Full place) (sym f ∙ n));
     }
 
     -- a call for which there was no memory, and which changed nothing
@@ -196,6 +228,8 @@ module _ {D : Type 0} (is_told : D → Type 0) (seen : D → List ℕ) (may_leav
           let records : Calls → List (List ℕ) = room_records r.object.room in
           weaker moment left_since r.file.disk r.file.disk (λ c. HasRecords c (records h)) (HasPart records h (entry pass call true ∷ [])) (λ c has. inr has) (at_rest r h k);
       goes = idle r r.stopped refl;
+      fits = λ h n k. (λ fed. absurd (true_is_false fed), tt);
+      full = λ h n k place f. absurd (some_is_none (stop.Full place) (sym f ∙ n));
     }
 
     -- a call that was made in memory alone, since there was no memory for its record
@@ -213,6 +247,8 @@ module _ {D : Type 0} (is_told : D → Type 0) (seen : D → List ℕ) (may_leav
       goes = subst (λ (why : Option Stop). Went why old new) (sym none)
           (subst (λ (why : Option Stop). StopRaises why (faults old.file.disk) (faults new.file.disk)) (sym stopped)
           (stays_by (faults old.file.disk) (faults new.file.disk) (ap (λ (f : RecordFile D). faults f.disk) file)));
+      fits = λ h n k. absurd (some_is_none stop.NoMemory (sym stopped ∙ n));
+      full = λ h n k place f. absurd (memory_is_full place (sym stopped ∙ f));
     }
 
   -- ---- calls after calls
@@ -250,6 +286,22 @@ module _ {D : Type 0} (is_told : D → Type 0) (seen : D → List ℕ) (may_leav
         let same : (new.stopped ≡ Some why) × (new.file ≡ mid.file) = subst (λ (o : Option Stop). Went o mid new) r.0 two.goes in
         (same.0, same.1 ∙ r.1)
 
+    fits_by : (h : Calls) → new.stopped ≡ None → Holds old h → AllFit old.object.room h (more ++ made)
+    fits_by h n k =
+        let whole : mid.stopped ≡ None = two.whole n in
+        all_fit old.object.room h made more
+        (subst (λ (r : ℕ). AllFit r (made ++ h) more) one.same_room (two.fits (made ++ h) n (one.kept whole h k)))
+        (one.fits h whole k)
+
+    full_by : (why : Option Stop) → mid.stopped ≡ why → (h : Calls) → old.stopped ≡ None → Holds old h → (place : ℕ) → new.stopped ≡ Some (stop.Full place)
+        → FillsFile old.object.room h (more ++ made)
+    full_by None e h n k place f =
+        fills_after old.object.room h made more (one.fits h e k)
+        (subst (λ (r : ℕ). FillsFile r (made ++ h) more) one.same_room (two.full (made ++ h) e (one.kept e h k) place f))
+    full_by (Some why) e h n k place f =
+        let same : (new.stopped ≡ Some why) × (new.file ≡ mid.file) = subst (λ (o : Option Stop). Went o mid new) e two.goes in
+        fills_before old.object.room h made more (one.full h n k place (e ∙ sym same.0 ∙ f))
+
     pub since_more : Was old new (more ++ made)
     since_more = record {
       same_room = two.same_room ∙ one.same_room;
@@ -258,6 +310,8 @@ module _ {D : Type 0} (is_told : D → Type 0) (seen : D → List ℕ) (may_leav
       kept = λ n h k. subst (λ (l : Calls). Holds new l) (sym (append_assoc more made h)) (two.kept n (made ++ h) (one.kept (two.whole n) h k));
       crash = λ h n k. crash_by mid.stopped refl h n k;
       goes = goes_by old.stopped refl one.goes;
+      fits = fits_by;
+      full = λ h n k place f. full_by mid.stopped refl h n k place f;
     }
 
   -- ---- since the file was opened
@@ -273,6 +327,8 @@ module _ {D : Type 0} (is_told : D → Type 0) (seen : D → List ℕ) (may_leav
           (weaker moment left_since start old.file.disk (HasPart (room_records 0) first made) (HasPart (room_records 0) first (more ++ made)) (more_part (room_records 0) first made more) (j.crash told only))
           (weaker moment left_since old.file.disk new.file.disk (HasPart (room_records 0) (made ++ first) more) (HasPart (room_records 0) first (more ++ made)) (over_part (room_records 0) first made more)
           (subst (λ (r : ℕ). Leaves old.file.disk new.file.disk (HasPart (room_records r) (made ++ first) more)) numbered (since.crash (made ++ first) was (j.keeps told))));
+      fits = λ told.
+          all_fit 0 first made more (subst (λ (r : ℕ). AllFit r (made ++ first) more) numbered (since.fits (made ++ first) is (j.keeps told))) (j.fits told);
       never_falls = higher (faults start) (faults old.file.disk) (faults new.file.disk) j.never_falls
           (subst (λ (o : Option Stop). StopRaises o (faults old.file.disk) (faults new.file.disk)) is (subst (λ (o : Option Stop). Went o old new) was since.goes));
     }

@@ -91,6 +91,7 @@ module _ {D : Type 0} (is_told : D → Type 0) (seen : D → List ℕ) (may_leav
           stands = subst (λ (b : RoomBook). stands_in b h) (sym is_object) o.stands;
           keeps = λ e. absurd (false_true e);
           crash = λ e. absurd (false_true e);
+          fits = λ e. tt;
           never_falls = higher;
         };
         had = λ e. absurd (false_true e);
@@ -118,6 +119,7 @@ module _ {D : Type 0} (is_told : D → Type 0) (seen : D → List ℕ) (may_leav
             stands = subst (λ (b : RoomBook). stands_in b h) (sym is_object) o.keeping.stands;
             keeps = λ e. keeps;
             crash = λ e only. subst (λ (d : D). LeavesOnly moment left_since start d (λ c. HasRecords c (room_records 0 h))) (sym is_disk) (crash only (room_records 0 h) o.had);
+            fits = λ e. tt;
             never_falls = higher;
           };
           had = λ e. o.had;

@@ -1,6 +1,7 @@
 -- How a run over a kept room ends, by the lines' run and by why the room has stopped; and what is left of the disk.
-use Rattle.std.specs.Prelude.{◌≡◌, ℕ, Bool, true, List, [], Option, Some, None}
+use Rattle.std.specs.Prelude.{◌≡◌, ℕ, Bool, true, List, [], ◌∷◌, ◌++◌, Option, Some, None}
 use Rattle.board_links.specs.Faults.{HasRisen}
+use Rattle.line_runner.specs.Play.{after_steps, steps_of}
 use Rattle.line_runner.specs.Running.{Ends, ExitRaises, IsComplete, Leaves}
 use Rattle.line_runner.specs.ScriptLines.{script}
 use Rattle.line_runner.specs.declared.exit.Exit.{Exit}
@@ -14,7 +15,7 @@ use Rattle.record_file.specs.Damage.{AllFollow}
 use Rattle.record_file.specs.Records.{HasRecords}
 use Rattle.room_journal.specs.Coming.{ReadsBack}
 use Rattle.room_journal.specs.Kept.{may_follow, room_records}
-use Rattle.kept_script.specs.Journal.{Calls, IsJournal, stands_in}
+use Rattle.kept_script.specs.Journal.{Calls, FillsFile, IsJournal, stands_in}
 use Rattle.kept_script.specs.KeptDoing.{kept_doing}
 use Rattle.kept_script.specs.KeptPlay.{KeptState, kept_play, opened_state}
 use Rattle.kept_script.specs.declared.hall.KeptHall.{KeptHall}
@@ -60,6 +61,14 @@ pub record IsUnopened {D : Type 0} (is_told : D → Type 0) (seen : D → List �
   pub is : exit ≡ exit_of no
   pub refused : IsRefused (may_follow 0) is_told seen faults start disk no
 
+-- calls came after those of a state's room, and the record of one of them doesn't fit
+pub record IsFull {D : Type 0} (hall : KeptHall D) (s : KeptState D) : Type 0 where
+  pub history : Calls
+  pub is : s.hall.rooms ≡ history ∷ []
+  pub more : Calls
+  pub stands : stands_in hall.room.object (more ++ history)
+  pub fills : FillsFile 0 history more
+
 module _ {D : Type 0} (is_told : D → Type 0) (seen : D → List ℕ) (may_leave : D → List ℕ → Type 0) (moment : D → ℕ) (left_since : D → ℕ → List ℕ → Type 0) (faults : D → ℕ) where
   -- the room was opened from the file of a disk by these calls, which the file's records make
   pub record IsOpenedRoom (start : D) (first : Calls) (told : Bool) (r : KeptRoom D) : Type 0 where
@@ -72,7 +81,7 @@ module _ {D : Type 0} (is_told : D → Type 0) (seen : D → List ℕ) (may_leav
     pub follow : AllFollow (may_follow 0) [] (room_records 0 first)
 
   -- Lines were run from a state on. Some first lines were done and printed, and what ran them stands for the state after them, with each of their
-  -- changes kept, or was left so by the next line.
+  -- changes kept, or was left so by the next line. It ends for a full file only where a record doesn't fit.
   pub record HasRun (s : KeptState D) (bytes left before : List ℕ) (after : Option (List ℕ)) (exit : Exit) (disk : D) : Type 0 where
     pub ends : Ends kept_play s bytes left before after (as_run exit)
     pub hall : KeptHall D
@@ -80,6 +89,8 @@ module _ {D : Type 0} (is_told : D → Type 0) (seen : D → List ℕ) (may_leav
     pub leaves : Leaves kept_play (kept_doing is_told seen may_leave moment left_since faults) s (script bytes) hall before after (as_run exit)
     pub stops : exit ≡ exit_after (as_run exit) hall.room.stopped
     pub store : exit ≡ StoreFault → HasRisen (faults s.start) (faults disk)
+    pub full : s.told ≡ true → exit ≡ LongJournal
+        → IsFull hall (after_steps (kept_doing is_told seen may_leave moment left_since faults) leaves.marks (steps_of (kept_play {D = D}).form leaves.done) s)
 
   -- the file was opened, its records were made again by these calls, and the lines were run from there on
   pub record RunsOpened (start : D) (told : Bool) (bytes left before : List ℕ) (after : Option (List ℕ)) (exit : Exit) (disk : D) : Type 0 where

@@ -19,7 +19,8 @@ use room_history::{RoomCall, RoomReply};
 use room_object::Object;
 
 impl<D: Disk + Drop> KeptRoom<D> {
-    /// Makes a call of a pass, and keeps its change where it is accepted. Where that isn't done, the room stops.
+    /// Makes a call of a pass, and keeps its change where it is accepted. Where that isn't done, the room stops; for a full file only where the
+    /// record wouldn't fit.
     ///
     /// A call whose act is in no form of the wire is answered as if there were no memory, and changes nothing.
     pub fn ask(&mut self, pass: u32, call: RoomCall<AnyGame>) -> RoomReply

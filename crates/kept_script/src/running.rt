@@ -33,7 +33,8 @@ use std::mem;
 /// end comes as that of a script. Where source and sink tell what they hold, `ran` says what was printed, and that the disk's count of faults
 /// rose where `StoreFault` came; `completes`, that a script in form without a fault is run to its end, or the file ended it, or there was no
 /// memory. Where the disk goes by the model too, `keeps` says that the file then has the records of the history that the transcript's room has,
-/// and whenever a crash came, a first part of them.
+/// and whenever a crash came, a first part of them; and that `LongJournal`, once the file was opened, comes only where the record of a call
+/// that came after those of the printed lines doesn't fit.
 pub fn run_kept<S: Source, K: Sink, D: Disk + Drop>(
     alloc: Global,
     source: &mut S,

@@ -13,8 +13,9 @@ perform_with-reply-requires-clause-adds g c = λ h s.
 pub returns-in-Ok-clause-since : goal.returns-in-Ok-clause-since
 returns-in-Ok-clause-since g c =
     let d = g.D.Disk in
-    since_performed d.is_told d.seen d.may_leave d.moment d.left_since d.faults c.args.self.now _ c.args.pass (Create c.args.game c.args.seats c.args.seed) (is_starved c.perform_with-reply.result.0) c.args.self.now.file.end
-    c.requires.whole c.perform_with-reply.ensures.number c.perform_with-reply.ensures.stands c.perform_with-reply.ensures.kept c.perform_with-reply.ensures.cause c.perform_with-reply.ensures.crash
+    since_performed d.is_told d.seen d.may_leave d.moment d.left_since d.faults c.args.self.now _ c.args.pass (Create c.args.game c.args.seats c.args.seed) (is_starved c.perform_with-reply.result.0)
+    c.requires.whole c.perform_with-reply.ensures.number c.perform_with-reply.ensures.stands c.perform_with-reply.ensures.kept c.perform_with-reply.ensures.cause c.perform_with-reply.ensures.full c.perform_with-reply.ensures.fits
+    c.perform_with-reply.ensures.crash
 
 pub returns-in-Err-clause-since : goal.returns-in-Err-clause-since
 returns-in-Err-clause-since g c =
