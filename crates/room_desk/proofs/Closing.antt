@@ -69,18 +69,26 @@ module _ {C : Type 0} where
       (λ t. let more = own_there xs e t in either_way (eqb x.pass e.pass) x (of_pass e.pass xs) more) has
 
   -- each pass that is dealt is of the desk
-  dealt_desk : (d : DeskId) (n : ℕ) (p : Held C) → Has (dealt {C = C} d n) p → p.desk ≡ d
-  dealt_desk d zero p has = absurd has
-  dealt_desk d (suc n) p has = ⊎_elim (dealt_desk d n p) (λ t. ⊎_elim (λ is. sym (ap (λ (q : Held C). q.desk) is)) (λ f. absurd f) t) (has_either (dealt d n) (held d n [] ∷ []) p has)
+  dealt_desk : (seen : List (Entry C)) (d : DeskId) (n : ℕ) (p : Held C) → Has (dealt seen d n) p → p.desk ≡ d
+  dealt_desk seen d zero p has = absurd has
+  dealt_desk seen d (suc n) p has =
+      ⊎_elim (dealt_desk seen d n p) (λ t. ⊎_elim (λ is. sym (ap (λ (q : Held C). q.desk) is)) (λ f. absurd f) t)
+      (has_either (dealt seen d n) (held d n seen seen ∷ []) p has)
 
-  pub all_dealt : (d : DeskId) (n : ℕ) (l : List (Held C)) → l ≡ dealt d n → All (λ (p : Held C). p.desk ≡ d) l
-  all_dealt d n l is = subst (λ (m : List (Held C)). All (λ (p : Held C). p.desk ≡ d) m) (sym is) (all_has (λ (p : Held C). p.desk ≡ d) (dealt d n) (dealt_desk d n))
+  pub all_dealt : (seen : List (Entry C)) (d : DeskId) (n : ℕ) (l : List (Held C)) → l ≡ dealt seen d n → All (λ (p : Held C). p.desk ≡ d) l
+  all_dealt seen d n l is =
+      subst (λ (m : List (Held C)). All (λ (p : Held C). p.desk ≡ d) m) (sym is) (all_has (λ (p : Held C). p.desk ≡ d) (dealt seen d n) (dealt_desk seen d n))
 
   pub unites : (passes : List (Held C)) (h : List (Entry C)) → United (map past_of passes) h → Unites passes h
   unites passes h u = record {
+    past = u.before;
+    later = u.later;
+    split = u.split;
+    before = all_has (λ (p : Held C). p.before ≡ u.before) passes (λ p has. (u.each (past_of p) (map_has past_of passes p has)).3);
+    since = all_has (λ (p : Held C). Begins p.seen u.before) passes (λ p has. (u.each (past_of p) (map_has past_of passes p has)).2);
     begins = all_has (λ (p : Held C). Begins h p.seen) passes (λ p has. (u.each (past_of p) (map_has past_of passes p has)).0);
     own = all_has (λ (p : Held C). of_pass p.number h ≡ of_pass p.number p.seen) passes (λ p has. (u.each (past_of p) (map_has past_of passes p has)).1);
-    no_others = all_has (λ (e : Entry C). Any (λ (p : Held C). p.number ≡ e.pass) passes) h (λ e has.
+    no_others = all_has (λ (e : Entry C). Any (λ (p : Held C). p.number ≡ e.pass) passes) u.later (λ e has.
         let x = u.no_others e has in
         let p = has_map past_of passes x.0 x.1 in
         any_has (λ (p : Held C). p.number ≡ e.pass) passes p.0 p.1 (ap (λ (y : Past C). y.number) p.2 ∙ x.2));
@@ -95,9 +103,9 @@ module _ {C O : Type 0} (number : O → ℕ) (stands_for : O → List (Entry C) 
 
   -- and each entry's pass
   there_too : (count : ℕ) (s : State (Option O) (View C)) (id : ℕ) (v : View C) (g : Turns number stands_for count s) → get_elem? s.views id ≡ some v → count ≤ length v.pasts
-      → (e : Entry C) → Has g.log e → (x : Past C) × Has v.pasts x × (x.number ≡ e.pass)
+      → (e : Entry C) → Has g.later e → (x : Past C) × Has v.pasts x × (x.number ≡ e.pass)
   there_too count s id v g at all e has = ⊎_elim
-      (λ none_. let some_own = own_there g.log e has in let zero_own : length (of_pass e.pass g.log) ≡ 0 = ap length none_ in absurd (omega arith))
+      (λ none_. let some_own = own_there g.later e has in let zero_own : length (of_pass e.pass g.later) ≡ 0 = ap length none_ in absurd (omega arith))
       (λ h. let same = only_seat count s id (g.seat_of e.pass) v h.0 g at all h.1 (has_some h.0.pasts h.2.0 h.2.1) in
       (h.2.0, subst (λ (u : View C). Has u.pasts h.2.0) same h.2.1, h.2.2))
       (g.known e.pass)
@@ -122,7 +130,10 @@ module _ {C O : Type 0} (number : O → ℕ) (stands_for : O → List (Entry C) 
           g.log,
           home.3,
           record {
-            each = λ x has. let f = (g.fits id v at).own x has in (f.1, f.2);
+            before = g.past;
+            later = g.later;
+            split = g.split;
+            each = λ x has. let f = (g.fits id v at).own x has in (f.1, f.2, f.3, f.4);
             no_others = λ e has. there_too count s id v g at all e has;
           },
         ),

@@ -14,8 +14,8 @@ module _ {C O : Type 0} (number : O → ℕ) (stands_for : O → List (Entry C) 
   -- a seat that has noted the number is one of an open desk
   pub opened : (count : ℕ) (s : State (Option O) (View C)) (id n : ℕ) (v : View C) → Desked number stands_for count s → get_elem? s.views id ≡ some v → v.object ≡ Some n → Turns number stands_for count s
   opened count s id n v rule at named =
-      let closed : (b : Bool) → s.views ≡ view None (fresh 0 count) None b ∷ [] → ⊥ =
-      λ b is. let same = only_one s.views (view None (fresh 0 count) None b) v id is at in absurd (cc (ap (λ (u : View C). u.object) same, named)) in
+      let closed : (b : Bool) → s.views ≡ view None (fresh [] 0 count) None b ∷ [] → ⊥ =
+      λ b is. let same = only_one s.views (view None (fresh [] 0 count) None b) v id is at in absurd (cc (ap (λ (u : View C). u.object) same, named)) in
       ⊎_elim (⊎_elim (λ u. absurd (closed false u.1)) (λ u. absurd (closed true u.1))) (λ t. t) rule
 
   -- a seat with passes, without a ticket, takes the next one
@@ -32,9 +32,9 @@ module _ {C O : Type 0} (number : O → ℕ) (stands_for : O → List (Entry C) 
       let first : get_or s.words 0 0 ≡ g.drawn % 2 ^ 64 = ap (λ (ws : List ℕ). get_or ws 0 0) g.words in
       let next : (get_or s.words 0 0 + 1) % 2 ^ 64 ≡ (g.drawn + 1) % 2 ^ 64 = ap (λ k. (k + 1) % 2 ^ 64) first ∙ mod-add-mod g.drawn (2 ^ 64) 1 in
       let views' = set s.views id w in
-      let others : (j : ℕ) (u : View C) → j ≢ id → get_elem? s.views j ≡ some u → Fits g.name g.log (g.drawn + 1) g.seat_of j u =
+      let others : (j : ℕ) (u : View C) → j ≢ id → get_elem? s.views j ≡ some u → Fits g.name g.past g.log g.turns (g.drawn + 1) g.seat_of j u =
       λ j u ne e. let f = g.fits j u e in record { named = f.named; own = f.own; ticket = λ t is. ((f.ticket t is).0, let lt = (f.ticket t is).1 in omega arith); owned = f.owned; turn = f.turn } in
-      let mine : Fits g.name g.log (g.drawn + 1) g.seat_of id w = record {
+      let mine : Fits g.name g.past g.log g.turns (g.drawn + 1) g.seat_of id w = record {
         named = fit.named;
         own = fit.own;
         ticket = λ t is. let eq : g.drawn ≡ t = cc (is) in let sum = g.tickets in (omega arith, omega arith);
@@ -43,14 +43,18 @@ module _ {C O : Type 0} (number : O → ℕ) (stands_for : O → List (Entry C) 
       } in
       let after : Turns number stands_for count (stepped s 0 ((get_or s.words 0 0 + 1) % 2 ^ 64) id m.1 w keeps) = record {
         name = g.name;
+        past = g.past;
+        later = g.later;
         log = g.log;
+        split = g.split;
+        turns = g.turns;
         drawn = g.drawn + 1;
         seat_of = g.seat_of;
-        words = ap (λ (ws : List ℕ). set ws 0 ((get_or s.words 0 0 + 1) % 2 ^ 64)) g.words ∙ ap (λ k. k ∷ (length g.log % 2 ^ 64) ∷ []) next;
+        words = ap (λ (ws : List ℕ). set ws 0 ((get_or s.words 0 0 + 1) % 2 ^ 64)) g.words ∙ ap (λ k. k ∷ (g.turns % 2 ^ 64) ∷ []) next;
         pasts = let sum = g.pasts in omega arith;
         small = g.small;
         tickets = let sum = g.tickets in omega arith;
-        fits = each_set (Fits g.name g.log (g.drawn + 1) g.seat_of) s.views id w mine others;
+        fits = each_set (Fits g.name g.past g.log g.turns (g.drawn + 1) g.seat_of) s.views id w mine others;
         apart = apart_set s.views id w g.apart (λ j u t ne e is mine_is. let eq : g.drawn ≡ t = cc (mine_is) in let lt = ((g.fits j u e).ticket t is).1 in omega arith);
         known = λ p. ⊎_elim inl (λ h. inr (holder_set s.views id (g.seat_of p) v w p at (λ x. x) h)) (g.known p);
         slot = ⊎_elim

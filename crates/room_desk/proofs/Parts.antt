@@ -16,9 +16,9 @@ use Rattle.room_desk.proofs.Draw.{opened}
 
 module _ {C O : Type 0} (number : O → ℕ) (stands_for : O → List (Entry C) → Type 0) where
   -- the first pass of a seat gets a seat of its own
-  pub splits : (count id n p : ℕ) (h : List (Entry C)) (more : List (Past C)) (v : View C) → v.object ≡ Some n → v.ticket ≡ None → v.turn ≡ false → v.pasts ≡ past p h ∷ more
+  pub splits : (count id n p : ℕ) (before h : List (Entry C)) (more : List (Past C)) (v : View C) → v.object ≡ Some n → v.ticket ≡ None → v.turn ≡ false → v.pasts ≡ past p before h ∷ more
       → ((x : Past C) → Has more x → x.number ≢ p) → Splits (Desked number stands_for count) id v (left_of v) (right_of v)
-  splits count id n p h more v named idle still first others s rule at =
+  splits count id n p before h more v named idle still first others s rule at =
       let g = opened number stands_for count s id n v rule at named in
       let fit = g.fits id v at in
       let left = left_of v in
@@ -27,8 +27,8 @@ module _ {C O : Type 0} (number : O → ℕ) (stands_for : O → List (Entry C) 
       let new = length views' in
       let size : new ≡ length s.views = length-set s.views id left in
       let known_left : left.pasts ≡ more = ap other_pasts first in
-      let known_right : right.pasts ≡ past p h ∷ [] = ap first_past first in
-      let p_own = fit.own (past p h) (subst (λ (l : List (Past C)). Has l (past p h)) (sym first) (inl refl)) in
+      let known_right : right.pasts ≡ past p before h ∷ [] = ap first_past first in
+      let p_own = fit.own (past p before h) (subst (λ (l : List (Past C)). Has l (past p before h)) (sym first) (inl refl)) in
       let place : ℕ → ℕ = λ q. cond (q == p) new (g.seat_of q) in
       let place_p : (q : ℕ) → q ≡ p → place q ≡ new = λ q is. ap (λ b. cond b new (g.seat_of q)) (eq-eqb q p is) in
       let place_else : (q : ℕ) → q ≢ p → place q ≡ g.seat_of q = λ q not. ap (λ b. cond b new (g.seat_of q)) (ne_eqb q p not) in
@@ -40,47 +40,53 @@ module _ {C O : Type 0} (number : O → ℕ) (stands_for : O → List (Entry C) 
       let sums' = total_snoc pasts_of views' right in
       let outs = total_set tickets_of s.views id v left at in
       let outs' = total_snoc tickets_of views' right in
-      let lefts : Fits g.name g.log g.drawn place id left = record {
+      let lefts : Fits g.name g.past g.log g.turns g.drawn place id left = record {
         named = λ some_past. fit.named (omega arith);
         own = λ x has. let there = subst (λ (l : List (Past C)). Has l x) known_left has in
-            let f = fit.own x (subst (λ (l : List (Past C)). Has l x) (sym first) (inr there)) in (place_else x.number (others x there) ∙ f.0, f.1, f.2);
+            let f = fit.own x (subst (λ (l : List (Past C)). Has l x) (sym first) (inr there)) in
+            (place_else x.number (others x there) ∙ f.0, f.1, f.2, f.3, f.4);
         ticket = fit.ticket;
         owned = omega arith;
         turn = λ is. absurd (cc (sym is ∙ still));
       } in
-      let elses : (j : ℕ) (u : View C) → j ≢ id → get_elem? s.views j ≡ some u → Fits g.name g.log g.drawn place j u =
+      let elses : (j : ℕ) (u : View C) → j ≢ id → get_elem? s.views j ≡ some u → Fits g.name g.past g.log g.turns g.drawn place j u =
       λ j u ne e. let f = g.fits j u e in record {
         named = f.named;
-        own = λ x has. let f' = f.own x has in (place_else x.number (λ is. ne (sym f'.0 ∙ (ap g.seat_of is ∙ p_own.0))) ∙ f'.0, f'.1, f'.2);
+        own = λ x has. let f' = f.own x has in (place_else x.number (λ is. ne (sym f'.0 ∙ (ap g.seat_of is ∙ p_own.0))) ∙ f'.0, f'.1, f'.2, f'.3, f'.4);
         ticket = f.ticket;
         owned = f.owned;
         turn = f.turn;
       } in
-      let rights : Fits g.name g.log g.drawn place new right = record {
+      let rights : Fits g.name g.past g.log g.turns g.drawn place new right = record {
         named = λ some_past. fit.named (omega arith);
-        own = λ x has. ⊎_elim (λ is. subst (λ (y : Past C). (place y.number ≡ new) × Begins g.log y.seen × (of_pass y.number g.log ≡ of_pass y.number y.seen)) is (place_p p refl, p_own.1, p_own.2)) (λ f. absurd f)
+        own = λ x has. ⊎_elim (λ is. subst (λ (y : Past C). (place y.number ≡ new) × Begins g.log y.seen × (of_pass y.number g.log ≡ of_pass y.number y.seen) × Begins y.seen g.past × (y.before ≡ g.past)) is
+            (place_p p refl, p_own.1, p_own.2, p_own.3, p_own.4)) (λ f. absurd f)
             (subst (λ (l : List (Past C)). Has l x) known_right has);
         ticket = λ t is. absurd (cc (is));
         owned = omega arith;
         turn = λ is. absurd (cc (is));
       } in
-      let known : (q : ℕ) → (of_pass q g.log ≡ []) ⊎ Holder (views' ++ right ∷ []) (place q) q =
+      let known : (q : ℕ) → (of_pass q g.later ≡ []) ⊎ Holder (views' ++ right ∷ []) (place q) q =
       λ q. dite (ℕ_discrete q p)
-      (λ is. inr (right, subst (λ k. get_elem? (views' ++ right ∷ []) k ≡ some right) (sym (place_p q is)) (at_last views' right new refl), (past p h, subst (λ (l : List (Past C)). Has l (past p h)) (sym known_right) (inl refl), sym is)))
+      (λ is. inr (right, subst (λ k. get_elem? (views' ++ right ∷ []) k ≡ some right) (sym (place_p q is)) (at_last views' right new refl), (past p before h, subst (λ (l : List (Past C)). Has l (past p before h)) (sym known_right) (inl refl), sym is)))
       (λ not. ⊎_elim inl (λ k.
       let moved = holder_set s.views id (g.seat_of q) v left q at
       (λ x. (x.0, subst (λ (l : List (Past C)). Has l x.0) (sym known_left) (⊎_elim (λ e. absurd (not (sym x.2 ∙ sym (ap (λ (y : Past C). y.number) e)))) (λ e. e) (subst (λ (l : List (Past C)). Has l x.0) first x.1)), x.2)) k in
       inr (moved.0, subst (λ k. get_elem? (views' ++ right ∷ []) k ≡ some moved.0) (sym (place_else q not)) (at_longer views' (right ∷ []) (g.seat_of q) moved.0 moved.1), moved.2)) (g.known q)) in
       inr (record {
         name = g.name;
+        past = g.past;
+        later = g.later;
         log = g.log;
+        split = g.split;
+        turns = g.turns;
         drawn = g.drawn;
         seat_of = place;
         words = g.words;
         pasts = let sum = g.pasts in omega arith;
         small = g.small;
         tickets = let sum = g.tickets in omega arith;
-        fits = each_snoc (Fits g.name g.log g.drawn place) views' right rights (each_set (Fits g.name g.log g.drawn place) s.views id left lefts elses);
+        fits = each_snoc (Fits g.name g.past g.log g.turns g.drawn place) views' right rights (each_set (Fits g.name g.past g.log g.turns g.drawn place) s.views id left lefts elses);
         apart = apart_snoc views' right (apart_set s.views id left g.apart (λ j u t ne e a b. cc (b, idle))) refl;
         known = known;
         slot = ⊎_elim
@@ -110,26 +116,26 @@ module _ {C O : Type 0} (number : O → ℕ) (stands_for : O → List (Entry C) 
       let sums' = total_set pasts_of views' other w spent at_w in
       let outs = total_set tickets_of s.views id v both at in
       let outs' = total_set tickets_of views' other w spent at_w in
-      let boths : Fits g.name g.log g.drawn place id both = record {
+      let boths : Fits g.name g.past g.log g.turns g.drawn place id both = record {
         named = λ _. fit.named some_past;
         own = λ x has. ⊎_elim
-            (λ t. let f = fit_w.own x t in (place_moved x.number f.0, f.1, f.2))
-            (λ t. let f = fit.own x t in (place_kept x.number (λ is. ne (sym is ∙ f.0)) ∙ f.0, f.1, f.2))
+            (λ t. let f = fit_w.own x t in (place_moved x.number f.0, f.1, f.2, f.3, f.4))
+            (λ t. let f = fit.own x t in (place_kept x.number (λ is. ne (sym is ∙ f.0)) ∙ f.0, f.1, f.2, f.3, f.4))
             (has_either w.pasts v.pasts x has);
         ticket = fit.ticket;
         owned = omega arith;
         turn = λ is. absurd (cc (sym is ∙ still));
       } in
-      let elses : (j : ℕ) (u : View C) → j ≢ other → get_elem? views' j ≡ some u → Fits g.name g.log g.drawn place j u =
-      λ j u not e. each_set (λ i (x : View C). i ≢ other → Fits g.name g.log g.drawn place i x) s.views id both (λ _. boths)
+      let elses : (j : ℕ) (u : View C) → j ≢ other → get_elem? views' j ≡ some u → Fits g.name g.past g.log g.turns g.drawn place j u =
+      λ j u not e. each_set (λ i (x : View C). i ≢ other → Fits g.name g.past g.log g.turns g.drawn place i x) s.views id both (λ _. boths)
       (λ i x _ d not_other. let f = g.fits i x d in record {
         named = f.named;
-        own = λ y has. let f' = f.own y has in (place_kept y.number (λ is. not_other (sym f'.0 ∙ is)) ∙ f'.0, f'.1, f'.2);
+        own = λ y has. let f' = f.own y has in (place_kept y.number (λ is. not_other (sym f'.0 ∙ is)) ∙ f'.0, f'.1, f'.2, f'.3, f'.4);
         ticket = f.ticket;
         owned = f.owned;
         turn = f.turn;
       }) j u e not in
-      let spents : Fits g.name g.log g.drawn place other spent = record {
+      let spents : Fits g.name g.past g.log g.turns g.drawn place other spent = record {
         named = λ has. absurd (omega arith);
         own = λ x has. absurd has;
         ticket = λ t is. absurd (cc (is));
@@ -138,7 +144,7 @@ module _ {C O : Type 0} (number : O → ℕ) (stands_for : O → List (Entry C) 
       } in
       let id_not : id ≢ other = λ is. ne (sym is) in
       let both_at : get_elem? (set views' other spent) id ≡ some both = kept_at views' other id spent both id_not (set_here s.views id both (length_at s.views id v at)) in
-      let known : (q : ℕ) → (of_pass q g.log ≡ []) ⊎ Holder (set views' other spent) (place q) q =
+      let known : (q : ℕ) → (of_pass q g.later ≡ []) ⊎ Holder (set views' other spent) (place q) q =
       λ q. ⊎_elim inl (λ h. dite (ℕ_discrete (g.seat_of q) other)
       (λ is.
       let same : h.0 ≡ w = at_once s.views other h.0 w (subst (λ i. get_elem? s.views i ≡ some h.0) is h.1) at_other in
@@ -150,14 +156,18 @@ module _ {C O : Type 0} (number : O → ℕ) (stands_for : O → List (Entry C) 
       inr (moved.0, subst (λ k. get_elem? (set views' other spent) k ≡ some moved.0) (sym (place_kept q not)) (kept_at views' other (g.seat_of q) spent moved.0 not moved.1), moved.2))) (g.known q) in
       inr (record {
         name = g.name;
+        past = g.past;
+        later = g.later;
         log = g.log;
+        split = g.split;
+        turns = g.turns;
         drawn = g.drawn;
         seat_of = place;
         words = g.words;
         pasts = let sum = g.pasts in omega arith;
         small = g.small;
         tickets = let sum = g.tickets in omega arith;
-        fits = each_set (Fits g.name g.log g.drawn place) views' other spent spents elses;
+        fits = each_set (Fits g.name g.past g.log g.turns g.drawn place) views' other spent spents elses;
         apart = apart_set views' other spent (apart_set s.views id both g.apart (λ j u t n e a b. cc (b, idle))) (λ j u t n e a b. cc (b));
         known = known;
         slot = ⊎_elim

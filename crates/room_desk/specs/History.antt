@@ -14,19 +14,20 @@ pub record SetUp : Type 0 where
   pub desk : DeskId
   pub passes : ℕ
 
--- a pass: its desk, its number, and the history that it has seen
+-- a pass: its desk, its number, what its desk's object stood for when the desk was set up, and the history that it has seen
 pub record Held (C : Type 0) : Type 0 where
   pub desk : DeskId
   pub number : ℕ
+  pub before : List (Entry C)
   pub seen : List (Entry C)
 
-abbrev pub held : {C : Type 0} → DeskId → ℕ → List (Entry C) → Held C
-held desk number seen = record { desk = desk; number = number; seen = seen }
+abbrev pub held : {C : Type 0} → DeskId → ℕ → List (Entry C) → List (Entry C) → Held C
+held desk number before seen = record { desk = desk; number = number; before = before; seen = seen }
 
--- the passes of a new desk, numbered from 0, which have seen nothing
-abbrev pub dealt : {C : Type 0} → DeskId → ℕ → List (Held C)
-dealt desk zero = []
-dealt desk (suc n) = dealt desk n ++ held desk n [] ∷ []
+-- the passes of a new desk, numbered from 0: its object stood for this history, which they have all seen
+abbrev pub dealt : {C : Type 0} → List (Entry C) → DeskId → ℕ → List (Held C)
+dealt past desk zero = []
+dealt past desk (suc n) = dealt past desk n ++ held desk n past past ∷ []
 
 module _ {C : Type 0} where
   -- the entries of one pass
@@ -45,8 +46,14 @@ module _ {C : Type 0} where
     pub own : of_pass call.pass after ≡ call ∷ of_pass call.pass seen
     pub answered : replied ≡ reply (between ++ seen) call
 
-  -- the history begins with what each pass had seen, has of each pass the calls that it made, each once, and has no others
+  -- One history, which goes on from what the object stood for when the desk was set up. It begins with what each pass had seen, which goes on from there too;
+  -- it has of each pass the calls that it made, each once, and later than what came before the desk it has no others.
   pub record Unites (passes : List (Held C)) (h : List (Entry C)) : Type 0 where
+    pub past : List (Entry C)
+    pub later : List (Entry C)
+    pub split : h ≡ later ++ past
+    pub before : All (λ p. p.before ≡ past) passes
+    pub since : All (λ p. Begins p.seen past) passes
     pub begins : All (λ p. Begins h p.seen) passes
     pub own : All (λ p. of_pass p.number h ≡ of_pass p.number p.seen) passes
-    pub no_others : All (λ e. Any (λ p. p.number ≡ e.pass) passes) h
+    pub no_others : All (λ e. Any (λ p. p.number ≡ e.pass) passes) later

@@ -3,7 +3,7 @@ use Rattle.std.specs.Prelude.{ℕ, ◌≡◌, ◌%◌, ◌^◌, ◌==◌, true, 
 use Rattle.atomic_table.specs.Table.{Me, Step}
 use Rattle.room_object.specs.Entry.{Entry}
 use Rattle.room_desk.specs.History.{Held, of_pass, Begins}
-use Rattle.room_desk.specs.Turns.{Past, View, Has, past, view, number_in, seen_in}
+use Rattle.room_desk.specs.Turns.{Past, View, Has, past, view, told, number_in, before_in, seen_in}
 
 -- the number that a seat noted
 abbrev pub noted : Option ℕ → ℕ
@@ -35,21 +35,25 @@ module _ {C : Type 0} where
 
   -- what a pass is among the pasts of a seat
   abbrev pub past_of : Held C → Past C
-  past_of p = past p.number p.seen
+  past_of p = past p.number p.before p.seen
 
-  -- the history that these pasts have together
+  -- the history that these pasts have together, which goes on from what came before, as each of them has it
   pub record United (pasts : List (Past C)) (h : List (Entry C)) : Type 0 where
-    pub each : (x : Past C) → Has pasts x → Begins h x.seen × (of_pass x.number h ≡ of_pass x.number x.seen)
-    pub no_others : (e : Entry C) → Has h e → (x : Past C) × Has pasts x × (x.number ≡ e.pass)
+    pub before : List (Entry C)
+    pub later : List (Entry C)
+    pub split : h ≡ later ++ before
+    pub each : (x : Past C) → Has pasts x → Begins h x.seen × (of_pass x.number h ≡ of_pass x.number x.seen) × Begins x.seen before × (x.before ≡ before)
+    pub no_others : (e : Entry C) → Has later e → (x : Past C) × Has pasts x × (x.number ≡ e.pass)
 
 module _ {C O : Type 0} where
   -- the empty slot is taken, to put the object in
   abbrev pub Reaches : Step (Option O) → Me (Option O) (View C) → ℕ → Me (Option O) (View C) → Type 0
   Reaches st m found n = n ≡ (view m.0.object m.0.pasts m.0.ticket true, (0, None) ∷ [])
 
-  -- the slot is given back with the object in it, whose number is noted
-  abbrev pub Opens : (O → ℕ) → Step (Option O) → Me (Option O) (View C) → ℕ → Me (Option O) (View C) → Type 0
-  Opens number st m found n = (o : O) × (m.1 ≡ (0, Some o) ∷ []) × (n ≡ (view (Some (number o)) m.0.pasts None false, []))
+  -- The slot is given back with the object in it, whose number is noted. It stands for a history, which came before and which all passes have seen.
+  abbrev pub Opens : (O → ℕ) → (O → List (Entry C) → Type 0) → Step (Option O) → Me (Option O) (View C) → ℕ → Me (Option O) (View C) → Type 0
+  Opens number stands_for st m found n = (o : O) × (seen : List (Entry C)) × (m.1 ≡ (0, Some o) ∷ []) × stands_for o seen
+      × (n ≡ (view (Some (number o)) (told seen m.0.pasts) None false, []))
 
   -- a ticket is drawn
   abbrev pub Draws : Step (Option O) → Me (Option O) (View C) → ℕ → Me (Option O) (View C) → Type 0
@@ -58,7 +62,7 @@ module _ {C O : Type 0} where
   -- The turn is taken, and the slot with it: other passes' entries came on top of what the pass had seen, and the object stands for the whole history.
   abbrev pub Takes : (O → ℕ) → (O → List (Entry C) → Type 0) → Me (Option O) (View C) → Me (Option O) (View C) → Type 0
   Takes number stands_for m n = (o : O) × (newer : List (Entry C)) × (m.0.object ≡ Some (number o)) × (of_pass (number_in m.0.pasts) newer ≡ []) × stands_for o (newer ++ seen_in m.0.pasts)
-      × (n ≡ (view m.0.object (past (number_in m.0.pasts) (newer ++ seen_in m.0.pasts) ∷ []) m.0.ticket true, (0, Some o) ∷ []))
+      × (n ≡ (view m.0.object (past (number_in m.0.pasts) (before_in m.0.pasts) (newer ++ seen_in m.0.pasts) ∷ []) m.0.ticket true, (0, Some o) ∷ []))
 
   -- the turn is taken where the word is the ticket; else nothing changes
   abbrev pub Tries : (O → ℕ) → (O → List (Entry C) → Type 0) → Step (Option O) → Me (Option O) (View C) → ℕ → Me (Option O) (View C) → Type 0
@@ -66,20 +70,21 @@ module _ {C O : Type 0} where
 
   -- the turn is passed on, and the slot given back: what was said is seen on top of the history
   abbrev pub Passes : List (Entry C) → Step (Option O) → Me (Option O) (View C) → ℕ → Me (Option O) (View C) → Type 0
-  Passes said st m found n = n ≡ (view m.0.object (past (number_in m.0.pasts) (said ++ seen_in m.0.pasts) ∷ []) None false, [])
+  Passes said st m found n = n ≡ (view m.0.object (past (number_in m.0.pasts) (before_in m.0.pasts) (said ++ seen_in m.0.pasts) ∷ []) None false, [])
 
   -- a seat between two calls of the pass of this number: without ticket, turn or slot
   abbrev pub Rests : ℕ → Me (Option O) (View C) → Type 0
-  Rests number m = m ≡ (view (Some (noted m.0.object)) (past number (seen_in m.0.pasts) ∷ []) None false, [])
+  Rests number m = m ≡ (view (Some (noted m.0.object)) (past number (before_in m.0.pasts) (seen_in m.0.pasts) ∷ []) None false, [])
 
   -- a seat of one pass, with this ticket
   abbrev pub Waits : ℕ → Me (Option O) (View C) → Type 0
-  Waits ticket m = (t : ℕ) × (ticket ≡ t % 2 ^ 64) × (m ≡ (view (Some (noted m.0.object)) (past (number_in m.0.pasts) (seen_in m.0.pasts) ∷ []) (Some t) false, []))
+  Waits ticket m = (t : ℕ) × (ticket ≡ t % 2 ^ 64)
+      × (m ≡ (view (Some (noted m.0.object)) (past (number_in m.0.pasts) (before_in m.0.pasts) (seen_in m.0.pasts) ∷ []) (Some t) false, []))
 
   -- The pass that had seen this much of the history has the turn, and its object was taken out: other passes' entries came on top, and the object stands for the whole history.
-  abbrev pub Entered : (O → ℕ) → (O → List (Entry C) → Type 0) → ℕ → ℕ → List (Entry C) → O → Me (Option O) (View C) → Type 0
-  Entered number stands_for name pass seen o m = (newer : List (Entry C)) × (number o ≡ name) × (of_pass pass newer ≡ []) × stands_for o (newer ++ seen)
-      × ((t : ℕ) × (m ≡ (view (Some name) (past pass (newer ++ seen) ∷ []) (Some t) true, (0, None) ∷ [])))
+  abbrev pub Entered : (O → ℕ) → (O → List (Entry C) → Type 0) → ℕ → ℕ → List (Entry C) → List (Entry C) → O → Me (Option O) (View C) → Type 0
+  Entered number stands_for name pass before seen o m = (newer : List (Entry C)) × (number o ≡ name) × (of_pass pass newer ≡ []) × stands_for o (newer ++ seen)
+      × ((t : ℕ) × (m ≡ (view (Some name) (past pass before (newer ++ seen) ∷ []) (Some t) true, (0, None) ∷ [])))
 
   -- the object to be put back stands for the whole history with this entry on top, which is to be told
   abbrev pub Tells : (O → ℕ) → (O → List (Entry C) → Type 0) → O → Entry C → Me (Option O) (View C) → Type 0

@@ -1,5 +1,5 @@
 -- What a desk's table keeps between any two steps: one history, the tickets that are out, and who may add to the history.
-use Rattle.std.specs.Prelude.{ℕ, zero, suc, ◌≡◌, ◌+◌, ◌%◌, ◌^◌, ◌<◌, ◌≤◌, ◌⊎◌, Bool, true, false, List, [], ◌∷◌, length, Option, Some, None}
+use Rattle.std.specs.Prelude.{ℕ, zero, suc, ◌≡◌, ◌+◌, ◌%◌, ◌^◌, ◌<◌, ◌≤◌, ◌⊎◌, Bool, true, false, List, [], ◌∷◌, ◌++◌, length, Option, Some, None}
 use mathlib.Core.Option.{some, none}
 use mathlib.Core.Option as maybe
 use lib.ListN.{get_elem?}
@@ -8,9 +8,10 @@ use Rattle.room_object.specs.Entry.{Entry}
 use Rattle.room_desk.specs.History.{of_pass, Begins}
 use Rattle.room_desk.specs.declared.desk.TheConstants.{MOST_PASSES}
 
--- the number of a pass, and the history that was seen under it
+-- the number of a pass; what came before the desk was open, once it is; and the history that was seen under the number
 pub record Past (C : Type 0) : Type 0 where
   pub number : ℕ
+  pub before : List (Entry C)
   pub seen : List (Entry C)
 
 -- What a seat knows: the number of the object, once the desk is open; the pasts of the passes that it stands for;
@@ -35,20 +36,25 @@ how_many None = 0
 how_many (Some ticket) = 1
 
 module _ {C : Type 0} where
-  abbrev pub past : ℕ → List (Entry C) → Past C
-  past number seen = record { number = number; seen = seen }
+  abbrev pub past : ℕ → List (Entry C) → List (Entry C) → Past C
+  past number before seen = record { number = number; before = before; seen = seen }
 
   abbrev pub view : Option ℕ → List (Past C) → Option ℕ → Bool → View C
   view object pasts ticket turn = record { object = object; pasts = pasts; ticket = ticket; turn = turn }
 
-  -- n passes that have seen nothing, numbered from k
-  abbrev pub fresh : ℕ → ℕ → List (Past C)
-  fresh k zero = []
-  fresh k (suc n) = past k [] ∷ fresh (k + 1) n
+  -- n passes, numbered from k: this history came before, and they have seen it
+  abbrev pub fresh : List (Entry C) → ℕ → ℕ → List (Past C)
+  fresh seen k zero = []
+  fresh seen k (suc n) = past k seen seen ∷ fresh seen (k + 1) n
 
   -- the first seat, before the desk is open
   abbrev pub untold : ℕ → View C
-  untold count = view None (fresh 0 count) None false
+  untold count = view None (fresh [] 0 count) None false
+
+  -- the same passes, told what came before, which they have all seen now
+  abbrev pub told : List (Entry C) → List (Past C) → List (Past C)
+  told seen [] = []
+  told seen (x ∷ xs) = past x.number seen seen ∷ told seen xs
 
   abbrev pub pasts_of : View C → ℕ
   pasts_of v = length v.pasts
@@ -56,23 +62,29 @@ module _ {C : Type 0} where
   abbrev pub tickets_of : View C → ℕ
   tickets_of v = how_many v.ticket
 
-  -- of a seat that stands for one pass: its number, and what was seen under it
+  -- of a seat that stands for one pass: its number, what came before, and what was seen under the number
   abbrev pub number_in : List (Past C) → ℕ
   number_in [] = 0
   number_in (x ∷ xs) = x.number
+
+  abbrev pub before_in : List (Past C) → List (Entry C)
+  before_in [] = []
+  before_in (x ∷ xs) = x.before
 
   abbrev pub seen_in : List (Past C) → List (Entry C)
   seen_in [] = []
   seen_in (x ∷ xs) = x.seen
 
-  -- The seat j fits the history. The object's number is noted; each of its passes is at this seat alone, has seen a beginning of the history, and all of the pass's
-  -- entries are in what it has seen; a ticket is one that is out; and who holds the turn has the ticket that is next, and has seen the whole history.
-  pub record Fits (name : ℕ) (log : List (Entry C)) (drawn : ℕ) (seat_of : ℕ → ℕ) (j : ℕ) (v : View C) : Type 0 where
+  -- The seat j fits the history. The object's number is noted; each of its passes is at this seat alone, knows what came before the desk was open, and has seen
+  -- a beginning of the history, which has in it all that came before and all of the pass's entries; a ticket is one that is out; and who holds the turn has the
+  -- ticket that is next, and has seen the whole history.
+  pub record Fits (name : ℕ) (before log : List (Entry C)) (turns drawn : ℕ) (seat_of : ℕ → ℕ) (j : ℕ) (v : View C) : Type 0 where
     pub named : 0 < pasts_of v → v.object ≡ Some name
-    pub own : (x : Past C) → Has v.pasts x → (seat_of x.number ≡ j) × Begins log x.seen × (of_pass x.number log ≡ of_pass x.number x.seen)
-    pub ticket : (t : ℕ) → v.ticket ≡ Some t → (length log ≤ t) × (t < drawn)
+    pub own : (x : Past C) → Has v.pasts x
+        → (seat_of x.number ≡ j) × Begins log x.seen × (of_pass x.number log ≡ of_pass x.number x.seen) × Begins x.seen before × (x.before ≡ before)
+    pub ticket : (t : ℕ) → v.ticket ≡ Some t → (turns ≤ t) × (t < drawn)
     pub owned : tickets_of v ≤ pasts_of v
-    pub turn : v.turn ≡ true → (v.ticket ≡ Some (length log)) × (v.pasts ≡ past (number_in v.pasts) log ∷ [])
+    pub turn : v.turn ≡ true → (v.ticket ≡ Some turns) × (v.pasts ≡ past (number_in v.pasts) (before_in v.pasts) log ∷ [])
 
   -- the seat j has the pass number
   abbrev pub Holder : List (View C) → ℕ → ℕ → Type 0
@@ -87,27 +99,33 @@ module _ {C O : Type 0} (number : O → ℕ) (stands_for : O → List (Entry C) 
   abbrev pub IsOut : List (maybe.Option (Option O)) → List (View C) → Type 0
   IsOut homes views = (homes ≡ none ∷ []) × ((j : ℕ) × (v : View C) × (get_elem? views j ≡ some v) × (v.turn ≡ true))
 
-  -- An open desk of so many passes. Word 0 counts the tickets drawn, and word 1 the turns passed on, as many as the history has entries.
+  -- an open desk of so many passes, whose words count the tickets drawn and the turns passed on
   pub record Turns (count : ℕ) (s : State (Option O) (View C)) : Type 0 where
-    -- the object's number, the history so far, how many tickets were drawn, and which seat has which pass
+    -- The object's number; the history so far, which is what came before the desk was open and what came later; how many turns were passed on and how many
+    -- tickets were drawn; and which seat has which pass.
     pub name : ℕ
+    pub past : List (Entry C)
+    pub later : List (Entry C)
     pub log : List (Entry C)
+    pub split : log ≡ later ++ past
+    pub turns : ℕ
     pub drawn : ℕ
     pub seat_of : ℕ → ℕ
-    pub words : s.words ≡ (drawn % 2 ^ 64) ∷ (length log % 2 ^ 64) ∷ []
+    pub words : s.words ≡ (drawn % 2 ^ 64) ∷ (turns % 2 ^ 64) ∷ []
     -- the seats have all passes, and the tickets of the turns to come, each once
     pub pasts : total pasts_of s.views ≡ count
     pub small : count ≤ MOST_PASSES
-    pub tickets : total tickets_of s.views + length log ≡ drawn
-    pub fits : (j : ℕ) (v : View C) → get_elem? s.views j ≡ some v → Fits name log drawn seat_of j v
+    pub tickets : total tickets_of s.views + turns ≡ drawn
+    pub fits : (j : ℕ) (v : View C) → get_elem? s.views j ≡ some v → Fits name past log turns drawn seat_of j v
     pub apart : (i j : ℕ) (v w : View C) (t : ℕ) → get_elem? s.views i ≡ some v → get_elem? s.views j ≡ some w → v.ticket ≡ Some t → w.ticket ≡ Some t → i ≡ j
-    -- a pass that no seat has made no call
-    pub known : (p : ℕ) → (of_pass p log ≡ []) ⊎ Holder s.views (seat_of p) p
+    -- a pass that no seat has made no call since the desk was open
+    pub known : (p : ℕ) → (of_pass p later ≡ []) ⊎ Holder s.views (seat_of p) p
     pub slot : AtHome name log s.homes s.views ⊎ IsOut s.homes s.views
 
   -- a desk whose object isn't in its slot yet: there is one seat, and both words are 0
   abbrev pub Unopened : ℕ → Bool → maybe.Option (Option O) → State (Option O) (View C) → Type 0
-  Unopened count taken home s = (s.words ≡ 0 ∷ 0 ∷ []) × (s.views ≡ view None (fresh 0 count) None taken ∷ []) × (s.homes ≡ home ∷ []) × (0 < count) × (count ≤ MOST_PASSES)
+  Unopened count taken home s =
+      (s.words ≡ 0 ∷ 0 ∷ []) × (s.views ≡ view None (fresh [] 0 count) None taken ∷ []) × (s.homes ≡ home ∷ []) × (0 < count) × (count ≤ MOST_PASSES)
 
   -- the rule: the desk isn't open, its slot being at home or taken to put the object in, or it is open
   abbrev pub Desked : ℕ → State (Option O) (View C) → Type 0

@@ -3,7 +3,7 @@
 ghost use Rattle.std.specs.Prelude.{◌≡◌, ◌+◌, ◌<◌, ◌≤◌, ◌↔◌, ◌++◌, List, [], None, Some, false, length, map, All, IfOk, IfErr, IsErr, vec_len};
 ghost use Rattle.room_object.specs.Entry.{Entry};
 ghost use Rattle.room_desk.specs.History.{dealt, Unites};
-ghost use Rattle.room_desk.specs.Turns.{fresh, view};
+ghost use Rattle.room_desk.specs.Turns.{fresh, seen_in, view};
 ghost use Rattle.room_desk.specs.Plays.{past_of, United};
 
 use crate::pass::Pass;
@@ -55,16 +55,17 @@ pub struct PassesOut<O: Object> {
 }
 
 impl<O: Object> Desk<O> {
-    /// Sets up a desk over an object that has taken no call, with 1 to `MOST_PASSES` passes, numbered from 0. Without memory the object is dropped.
+    /// Sets up a desk over an object, with 1 to `MOST_PASSES` passes, numbered from 0. The desk's history goes on from one that the object stands for, which
+    /// all passes have before them and have seen. Without memory the object is dropped.
     pub fn set_up(
         alloc: Global,
         object: O,
         passes: u32,
     ) -> Result<(Desk<O>, Vec<Pass<O>>), NoMemory>
         requires count { (0 < passes) × (passes ≤ MOST_PASSES) }
-        requires empty { O.stands_for object [] }
+        requires stands { (past : List (Entry O.Call)) × O.stands_for object past }
         ensures desk { IfOk result (λ r. (r.0.passes ≡ passes) × (r.0.desk.object ≡ O.number object)) }
-        ensures passes { IfOk result (λ r. r.1.items ≡ dealt r.0.desk passes) }
+        ensures passes { IfOk result (λ r. (past : List (Entry O.Call)) × O.stands_for object past × (r.1.items ≡ dealt past r.0.desk passes)) }
         ensures own { IfOk result (λ r. All (λ p. p.desk ≡ r.0.desk) r.1.items) }
     {
         let (desk, seat) = Desk::opened(alloc, object, passes)?;
@@ -72,16 +73,18 @@ impl<O: Object> Desk<O> {
         Ok((desk, passes))
     }
 
-    /// A desk with the object in its slot, and the one seat, which stands for all passes.
+    /// A desk with the object in its slot, and the one seat, which stands for all passes. They have seen the history that the object stands for.
     fn opened(
         alloc: Global,
         object: O,
         passes: u32,
     ) -> Result<(Desk<O>, Seat<Option<O>, View<O::Call>>), NoMemory>
         requires count { (0 < passes) × (passes ≤ MOST_PASSES) }
-        requires empty { O.stands_for object [] }
+        requires stands { (past : List (Entry O.Call)) × O.stands_for object past }
         ensures desk { IfOk result (λ r. (r.0.passes ≡ passes) × (r.0.desk.object ≡ O.number object)) }
-        ensures seat { IfOk result (λ r. (r.1.table_id ≡ r.0.desk.table) × (r.1.me ≡ (view (Some (O.number object)) (fresh 0 passes) None false, []))) }
+        ensures table { IfOk result (λ r. r.1.table_id ≡ r.0.desk.table) }
+        ensures stands { IfOk result (λ r. O.stands_for object (seen_in r.1.me.0.pasts)) }
+        ensures seat { IfOk result (λ r. r.1.me ≡ (view (Some (O.number object)) (fresh (seen_in r.1.me.0.pasts) 0 passes) None false, [])) }
     {
         let beginning = Beginning {
             passes,
@@ -95,15 +98,15 @@ impl<O: Object> Desk<O> {
         Ok((Desk { table, passes }, seat))
     }
 
-    /// Splits the passes off the first seat, in order.
+    /// Splits the passes off the first seat, in order. They have seen what the seat has.
     fn deal(
         &self,
         alloc: Global,
         mut seat: Seat<Option<O>, View<O::Call>>,
     ) -> Result<Vec<Pass<O>>, NoMemory>
         requires table { seat.table_id ≡ self.now.desk.table }
-        requires opened { seat.me ≡ (view (Some self.now.desk.object) (fresh 0 self.now.passes) None false, []) }
-        ensures { IfOk result (λ p. p.items ≡ dealt self.now.desk self.now.passes) }
+        requires opened { seat.me ≡ (view (Some self.now.desk.object) (fresh (seen_in seat.me.0.pasts) 0 self.now.passes) None false, []) }
+        ensures { IfOk result (λ p. p.items ≡ dealt (seen_in seat.me.0.pasts) self.now.desk self.now.passes) }
     {
         let mut passes = Vec::with_capacity(alloc, self.passes as usize)?;
         for number in 0..self.passes {
@@ -113,7 +116,8 @@ impl<O: Object> Desk<O> {
         Ok(passes)
     }
 
-    /// Gives the object back, where all passes came back. The object then stands for one history of all calls.
+    /// Gives the object back, where all passes came back. The object then stands for one history, which goes on from what it stood for when the desk was set
+    /// up, by calls of these passes.
     pub fn close(self, mut passes: Vec<Pass<O>>) -> Result<O, PassesOut<O>>
         requires desk { All (λ p. p.desk ≡ self.desk) passes.items }
         ensures out { IsErr result ↔ (vec_len passes < self.passes) }

@@ -8,8 +8,8 @@ use atomic_table::Seat;
 use room_object::Object;
 use std::marker::Model;
 
-/// A pass of a desk. A thread that has it makes calls there, one after another. Contracts see it as its desk, its number, and the history that it has
-/// seen. A pass that is dropped is missing where the desk is closed.
+/// A pass of a desk. A thread that has it makes calls there, one after another. Contracts see it as its desk, its number, what the desk's
+/// object stood for when the desk was set up, and the history that it has seen. A pass that is dropped is missing where the desk is closed.
 pub struct Pass<O: Object> {
     pub(crate) number: u32,
     pub(crate) seat: Seat<Option<O>, View<O::Call>>,
@@ -24,12 +24,13 @@ impl<O: Object> Drop for Pass<O> {
 
 impl<O: Object> Model for Pass<O> {
     ghost use Rattle.room_desk.specs.History.{Held, held};
-    ghost use Rattle.room_desk.specs.Turns.{seen_in};
+    ghost use Rattle.room_desk.specs.Turns.{before_in, seen_in};
     ghost use Rattle.room_desk.specs.Plays.{noted, Rests};
 
     ghost Value = { Held O.Call };
 
-    ghost view = { λ p. held (record { table = p.seat.table_id; object = noted p.seat.me.0.object }) p.number (seen_in p.seat.me.0.pasts) };
+    ghost view = { λ p. held (record { table = p.seat.table_id; object = noted p.seat.me.0.object }) p.number
+        (before_in p.seat.me.0.pasts) (seen_in p.seat.me.0.pasts) };
 
     ghost invariant = { λ p. Rests p.number p.seat.me };
 }
@@ -44,7 +45,7 @@ impl<O: Object> Pass<O> {
 
     pub(crate) fn into_seat(self) -> Seat<Option<O>, View<O::Call>>
         ensures table { result.table_id ≡ self.desk.table }
-        ensures rests { result.me ≡ (view (Some self.desk.object) (past self.number self.seen ∷ []) None false, []) }
+        ensures rests { result.me ≡ (view (Some self.desk.object) (past self.number self.before self.seen ∷ []) None false, []) }
     {
         let Pass { number: _, seat } = self;
         seat

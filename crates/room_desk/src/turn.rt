@@ -8,7 +8,7 @@
 ghost use Rattle.std.specs.Prelude.{◌≡◌, ℕ, ◌∷◌, ◌++◌, ◌%◌, ◌^◌, [], Some, None, true, false};
 ghost use Rattle.room_object.specs.Entry.{entry};
 ghost use Rattle.room_desk.specs.History.{Called, held};
-ghost use Rattle.room_desk.specs.Turns.{past, view, number_in, seen_in};
+ghost use Rattle.room_desk.specs.Turns.{past, view, number_in, before_in, seen_in};
 ghost use Rattle.room_desk.specs.Plays.{noted, Rests, Takes, Waits, Entered, Tells};
 
 use crate::desk::Desk;
@@ -24,7 +24,7 @@ impl<O: Object> Desk<O> {
     /// Makes a call on the object, in this pass's turn. It may wait for other calls on this desk, and takes no memory of its own.
     pub fn call<R: Wait>(&self, rt: &R, pass: &mut Pass<O>, call: O::Call) -> O::Reply
         requires desk { pass.old.desk ≡ self.now.desk }
-        ensures pass { pass.new ≡ held pass.old.desk pass.old.number pass.new.seen }
+        ensures pass { pass.new ≡ held pass.old.desk pass.old.number pass.old.before pass.new.seen }
         ensures called { Called (O.reply pass.old.desk.object) pass.old.seen (entry pass.old.number call (O.is_starved result)) result pass.new.seen }
         ensures fed { O.is_starved result ≡ true → O.may_starve call ≡ true }
     {
@@ -46,6 +46,7 @@ impl<O: Object> Desk<O> {
         ensures table { seat.new.table_id ≡ seat.old.table_id }
         ensures rests { Rests number seat.new.me }
         ensures object { noted seat.new.me.0.object ≡ noted seat.old.me.0.object }
+        ensures before { before_in seat.new.me.0.pasts ≡ before_in seat.old.me.0.pasts }
         ensures called { Called (O.reply (noted seat.old.me.0.object)) (seen_in seat.old.me.0.pasts) (entry number call (O.is_starved result)) result (seen_in seat.new.me.0.pasts) }
         ensures fed { O.is_starved result ≡ true → O.may_starve call ≡ true }
     {
@@ -60,7 +61,8 @@ impl<O: Object> Desk<O> {
         requires table { seat.old.table_id ≡ self.now.desk.table }
         requires rests { Rests number seat.old.me }
         ensures table { seat.new.table_id ≡ seat.old.table_id }
-        ensures entered { Entered O.number O.stands_for (noted seat.old.me.0.object) number (seen_in seat.old.me.0.pasts) result seat.new.me }
+        ensures entered { Entered O.number O.stands_for (noted seat.old.me.0.object) number (before_in seat.old.me.0.pasts) (seen_in seat.old.me.0.pasts)
+            result seat.new.me }
     {
         let ticket = self.draw(seat, number);
         self.wait(rt, seat, ticket);
@@ -72,7 +74,8 @@ impl<O: Object> Desk<O> {
         requires table { seat.old.table_id ≡ self.now.desk.table }
         requires rests { Rests number seat.old.me }
         ensures table { seat.new.table_id ≡ seat.old.table_id }
-        ensures drawn { (t : ℕ) × (result ≡ t % 2 ^ 64) × (seat.new.me ≡ (view (Some (noted seat.old.me.0.object)) (past number (seen_in seat.old.me.0.pasts) ∷ []) (Some t) false, [])) }
+        ensures drawn { (t : ℕ) × (result ≡ t % 2 ^ 64) × (seat.new.me
+            ≡ (view (Some (noted seat.old.me.0.object)) (past number (before_in seat.old.me.0.pasts) (seen_in seat.old.me.0.pasts) ∷ []) (Some t) false, [])) }
     {
         self.table.shared.fetch_add::<Draw>(seat, 0, 1)
     }
@@ -106,7 +109,8 @@ impl<O: Object> Desk<O> {
         requires table { seat.old.table_id ≡ self.now.desk.table }
         requires tells { (c : O.Call) × (J.said ≡ entry number c (O.is_starved reply.now) ∷ []) × Tells O.number O.stands_for object (entry number c (O.is_starved reply.now)) seat.old.me }
         ensures table { seat.new.table_id ≡ seat.old.table_id }
-        ensures told { seat.new.me ≡ (view seat.old.me.0.object (past number (J.said ++ seen_in seat.old.me.0.pasts) ∷ []) None false, []) }
+        ensures told { seat.new.me
+            ≡ (view seat.old.me.0.object (past number (before_in seat.old.me.0.pasts) (J.said ++ seen_in seat.old.me.0.pasts) ∷ []) None false, []) }
     {
         let shared = &self.table.shared;
         drop(shared.exchange(seat, 0, Some(object)));

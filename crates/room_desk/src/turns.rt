@@ -41,7 +41,7 @@ pub struct Open;
 impl<O: Object> Play<Option<O>, View<O::Call>> for Open {
     ghost use Rattle.room_desk.specs.Plays.{Opens};
 
-    ghost then = { Opens O.number };
+    ghost then = { Opens O.number O.stands_for };
 }
 
 /// A ticket is drawn.

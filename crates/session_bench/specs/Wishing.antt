@@ -19,7 +19,7 @@ Seen = Held WishCall
 -- says. Only a call that takes memory is replied that there is none.
 abbrev pub Asks : Seen → WishCall → WishReply → Seen → Type 0
 Asks p asked told after = (seen : List (Entry WishCall)) × Called bench_reply p.seen (entry p.number asked (is_starved told)) told seen
-    × (after ≡ held p.desk p.number seen) × (is_starved told ≡ true → may_starve asked ≡ true)
+    × (after ≡ held p.desk p.number p.before seen) × (is_starved told ≡ true → may_starve asked ≡ true)
 
 abbrev pub is_sat : WishReply → Bool
 is_sat reply.Sat = true

@@ -74,6 +74,29 @@ fn a_desk_is_closed_with_all_its_passes(rt: HostRuntime) -> Result<(), Fail> {
     Ok(())
 }
 
+#[test]
+fn a_desk_goes_on_from_where_another_was_closed(rt: HostRuntime) -> Result<(), Fail> {
+    let (desk, mut passes) = Desk::set_up(rt.alloc(), Counter { calls: 0 }, 1)?;
+    let mut only = passes.pop().ok_or("one pass")?;
+    assert_eq!(rt; desk.call(&rt, &mut only, ()), 1);
+    passes.push(only)?;
+    let Ok(counter) = desk.close(passes) else {
+        panic!(rt; "no pass is missing")
+    };
+    let (desk, mut passes) = Desk::set_up(rt.alloc(), counter, 2)?;
+    let mut second = passes.pop().ok_or("two passes")?;
+    let mut first = passes.pop().ok_or("two passes")?;
+    assert_eq!(rt; desk.call(&rt, &mut second, ()), 2);
+    assert_eq!(rt; desk.call(&rt, &mut first, ()), 3);
+    passes.push(first)?;
+    passes.push(second)?;
+    let Ok(counter) = desk.close(passes) else {
+        panic!(rt; "no pass is missing")
+    };
+    assert_eq!(rt; counter.calls, 3);
+    Ok(())
+}
+
 /// Makes a thousand calls.
 fn count<R: Wait>(rt: &R, desk: &Desk<Counter>, pass: &mut Pass<Counter>)
     requires { pass.old.desk ≡ desk.now.desk }

@@ -3,7 +3,7 @@ use mathlib.Core.Option.{none}
 use Rattle.atomic_table.specs.Table.{Me, Allows, step}
 use Rattle.room_object.specs.Entry.{Entry, entry}
 use Rattle.room_desk.specs.History.{SetUp}
-use Rattle.room_desk.specs.Turns.{View, Desked, view, past, seen_in, number_in}
+use Rattle.room_desk.specs.Turns.{View, Desked, view, past, number_in, before_in, seen_in}
 use Rattle.room_desk.specs.Plays.{Passes}
 use Rattle.room_desk.proofs.Calling.{alone, put_in}
 use Rattle.room_desk.proofs.PassOn.{passes}
@@ -39,5 +39,5 @@ returns-clause-told g c =
     let tells = c.requires.tells.2 in
     let said = g.J.Said.said in
     c.fetch_add-turn.ensures.2
-    ∙ (ap (λ (x : Me (Option g.row.O.Denot) (View g.row.O-Call.Denot)). (view x.0.object (past (number_in x.0.pasts) (said ++ seen_in x.0.pasts) ∷ []) None false, [])) c.exchange.ensures.3
-    ∙ ap (λ number. (view c.args.seat.now.me.0.object (past number (said ++ seen_in c.args.seat.now.me.0.pasts) ∷ []) None false, [])) tells.1)
+    ∙ (ap (λ (x : Me (Option g.row.O.Denot) (View g.row.O-Call.Denot)). (view x.0.object (past (number_in x.0.pasts) (before_in x.0.pasts) (said ++ seen_in x.0.pasts) ∷ []) None false, [])) c.exchange.ensures.3
+    ∙ ap (λ number. (view c.args.seat.now.me.0.object (past number (before_in c.args.seat.now.me.0.pasts) (said ++ seen_in c.args.seat.now.me.0.pasts) ∷ []) None false, [])) tells.1)

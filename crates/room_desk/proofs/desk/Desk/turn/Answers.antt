@@ -1,6 +1,6 @@
 use Rattle.std.proofs.Common.{ap, ◌∙◌, map, ◌≡◌, ◌∷◌, ◌++◌, refl, List, ℕ}
 use Rattle.room_object.specs.Entry.{Entry, entry}
-use Rattle.room_desk.specs.Turns.{seen_in}
+use Rattle.room_desk.specs.Turns.{before_in, seen_in}
 use Rattle.room_desk.proofs.Calling.{tells}
 use Rattle.room_desk.proofs.Histories.{one_more}
 use Rattle.room_desk.proofs.desk.Desk.turn.Goals as goal
@@ -12,7 +12,7 @@ leave-requires-clause-tells g c =
     let history = entered.0 ++ seen_in c.args.seat.now.me.0.pasts in (
       c.args.call,
       ap (λ asked. map (λ call. entry c.args.number call (g.O.Object.is_starved c.apply-reply.result)) asked) c.requires.asked,
-      tells g.O.Object.number g.O.Object.stands_for c.enter-object.new.seat.me _ _ _ _ c.apply-reply.new.self e entered refl c.apply-reply.ensures.number (c.apply-reply.ensures.stands history entered.3),
+      tells g.O.Object.number g.O.Object.stands_for c.enter-object.new.seat.me _ _ _ _ _ c.apply-reply.new.self e entered refl c.apply-reply.ensures.number (c.apply-reply.ensures.stands history entered.3),
     )
 
 pub returns-clause-called : goal.returns-clause-called
@@ -31,3 +31,6 @@ returns-clause-called g c =
       own = ap (λ (l : List (Entry g.row.O-Call.Denot)). Rattle.room_desk.specs.History.of_pass c.args.number l) ends ∙ one_more e entered.0 seen entered.2;
       answered = c.apply-reply.ensures.answered history entered.3 ∙ ap (λ (k : ℕ). g.O.Object.reply k history e) entered.1;
     }
+
+pub returns-clause-before : goal.returns-clause-before
+returns-clause-before g c = ap (λ x. before_in x.0.pasts) c.leave.ensures.told ∙ ap (λ x. before_in x.0.pasts) c.enter-object.ensures.entered.4.1
