@@ -12,12 +12,12 @@ use Rattle.object_journal.specs.declared.performing.Stop.{Stop}
 use Rattle.object_journal.specs.declared.performing.Stop.TheVariants as stop
 use Rattle.object_journal.specs.declared.replaying.OpenNo.{OpenNo}
 use Rattle.object_journal.specs.declared.replaying.OpenNo.TheVariants as open_no
+use Rattle.kept_room.specs.Journal.{Calls, FillsFile, Goes, StopRaises}
+use Rattle.kept_room.proofs.Journals.{raises_from, some_is_none}
 use Rattle.kept_script.specs.Ending.{HasRun, IsFull, IsKeptComplete, KeptRaises, as_run, exit_after, exit_by, exit_of}
-use Rattle.kept_script.specs.Journal.{Calls, FillsFile, Goes, StopRaises}
 use Rattle.kept_script.specs.KeptDoing.{IsLeft, kept_doing}
 use Rattle.kept_script.specs.KeptPlay.{KeptState, kept_does, kept_play}
 use Rattle.kept_script.specs.declared.hall.KeptHall.{KeptHall}
-use Rattle.kept_script.proofs.Journals.{raises_from, some_is_none}
 
 stopped_run : (stopped : Option Stop) → as_run (exit_by stopped) ≡ NoMemory
 stopped_run None = refl

@@ -26,8 +26,8 @@ use Rattle.session_driver.specs.Hearing.{Makes, Side}
 use Rattle.session_hall.specs.Opens.{made_by, opening_in, seated_in}
 use Rattle.session_hall.specs.Requests.{with_calls}
 use Rattle.session_hall.proofs.Running.{Lucks, runs, with_luck}
+use Rattle.kept_room.specs.Journal.{Calls}
 use Rattle.kept_script.specs.Growing.{AreOpening, Grows, IsInFirst, creating_calls, freeing_calls, line_calls, seating_calls}
-use Rattle.kept_script.specs.Journal.{Calls}
 use Rattle.kept_script.specs.OneRoom.{calls_book}
 use Rattle.kept_script.proofs.OneCall.{zero_of}
 

@@ -8,12 +8,12 @@ use Rattle.line_runner.specs.Play.{RunsLine}
 use Rattle.object_journal.specs.declared.performing.Stop.{Stop}
 use Rattle.world_script.specs.Forms.{step_of}
 use Rattle.world_script.specs.ScriptDoing.{script_doing}
-use Rattle.kept_script.specs.Journal.{Calls}
+use Rattle.kept_room.specs.Journal.{Calls}
+use Rattle.kept_room.proofs.Journals.{journal_goes}
 use Rattle.kept_script.specs.KeptDoing.{IsKept, IsLeft, kept_doing}
 use Rattle.kept_script.specs.KeptPlay.{KeptState, ended_unless, hall_of, kept_play}
 use Rattle.kept_script.specs.Moving.{MovesByStep, StepGrows}
 use Rattle.kept_script.specs.declared.hall.KeptHall.{KeptHall}
-use Rattle.kept_script.proofs.Journals.{journal_goes}
 
 none_of : (why : Option Stop) → is_some why ≡ false → why ≡ None
 none_of None e = refl
@@ -50,7 +50,7 @@ module _ {D : Type 0} (is_told : D → Type 0) (seen : D → List ℕ) (may_leav
                   stands = d.0.stands;
                   numbered = m.since.same_room ∙ k.numbered;
                   whole = whole;
-                  journal = journal_goes is_told seen may_leave moment left_since faults s.start s.first k.made s.told old.room new.room m.more k.numbered k.whole whole k.journal m.since;
+                  journal = journal_goes is_told seen may_leave moment left_since faults 0 s.start s.first k.made s.told old.room new.room m.more k.numbered k.whole whole k.journal m.since;
                 };
                 added = d.0.added;
               };

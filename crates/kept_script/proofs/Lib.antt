@@ -1,7 +1,5 @@
-pub mod Creating
 pub mod Ends
 pub mod Growing
-pub mod Journals
 pub mod KeptLines
 pub mod Moving
 pub mod OneCall

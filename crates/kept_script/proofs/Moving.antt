@@ -15,13 +15,13 @@ use Rattle.session_driver.specs.Hearing.{Draws, Hears, side}
 use Rattle.session_driver.specs.declared.tally.Tally.{Tally}
 use Rattle.world_script.specs.ScriptDoing.{script_doing}
 use Rattle.world_script.proofs.StepLaws.{answered_is, did_nothing, seeded}
+use Rattle.kept_room.specs.Journal.{Calls}
+use Rattle.kept_room.specs.declared.room.KeptRoom.{KeptRoom}
 use Rattle.kept_script.specs.Growing.{AreOpening, Grows, line_calls}
-use Rattle.kept_script.specs.Journal.{Calls}
 use Rattle.kept_script.specs.KeptPlay.{hall_of}
 use Rattle.kept_script.specs.Moving.{StepGrows}
 use Rattle.kept_script.specs.OneRoom.{books_of, calls_book}
 use Rattle.kept_script.specs.declared.hall.KeptHall.{KeptHall}
-use Rattle.kept_script.specs.declared.room.KeptRoom.{KeptRoom}
 use Rattle.kept_script.proofs.Growing.{grows_none, line_grows, open_grows}
 
 -- a hall over the one room has one

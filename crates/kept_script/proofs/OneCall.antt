@@ -15,11 +15,11 @@ use Rattle.room_object.specs.Entry.{entry}
 use Rattle.room_journal.specs.declared.room_book.RoomBook.{RoomBook}
 use Rattle.session_driver.specs.Calls.{did}
 use Rattle.session_hall.specs.Held.{IsBook, StandsForHall}
-use Rattle.kept_script.specs.Journal.{Calls, Since, stands_in}
+use Rattle.kept_room.specs.Journal.{Calls, Since, stands_in}
+use Rattle.kept_room.specs.declared.room.KeptRoom.{KeptRoom}
 use Rattle.kept_script.specs.KeptPlay.{hall_of}
 use Rattle.kept_script.specs.OneRoom.{IsFirst, books_of, calls_book}
 use Rattle.kept_script.specs.declared.hall.KeptHall.{KeptHall}
-use Rattle.kept_script.specs.declared.room.KeptRoom.{KeptRoom}
 
 pub zero_of : (room : ℕ) → room < 1 → room ≡ 0
 zero_of zero low = refl

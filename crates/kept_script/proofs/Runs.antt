@@ -15,12 +15,12 @@ use Rattle.session_driver.specs.Hearing.{Draws, Hears, HearsReply, Makes, Side, 
 use Rattle.session_driver.specs.declared.tally.Tally.{Tally}
 use Rattle.session_driver.proofs.Along.{makes_by}
 use Rattle.session_driver.proofs.Steps.{line_keeps, moved_keeps}
+use Rattle.kept_room.specs.Journal.{Calls, Since}
+use Rattle.kept_room.specs.declared.room.KeptRoom.{KeptRoom}
+use Rattle.kept_room.proofs.Journals.{since_more, since_none}
 use Rattle.kept_script.specs.Growing.{freeing_calls, line_calls}
-use Rattle.kept_script.specs.Journal.{Calls, Since}
 use Rattle.kept_script.specs.OneRoom.{CallsOne, HearsKept, books_of, calls_book}
-use Rattle.kept_script.specs.declared.room.KeptRoom.{KeptRoom}
 use Rattle.kept_script.specs.declared.visiting.OneRoom.{OneRoom}
-use Rattle.kept_script.proofs.Journals.{since_more, since_none}
 
 -- ---- a session's pass stays
 

@@ -18,12 +18,12 @@ use Rattle.session_hall.specs.Opens.{CreatesIn, OpensIn, seated_in, tried_by}
 use Rattle.session_hall.specs.declared.opening.Tried.{Tried}
 use Rattle.session_hall.specs.declared.opening.Tried.TheVariants as hall_tried
 use Rattle.session_hall.proofs.RoomByRoom.{OpensFrom, busy_next, made_ends, opens_first, opens_full, refused_ends, serial_there}
-use Rattle.kept_script.specs.Journal.{Calls, Since, stands_in}
+use Rattle.kept_room.specs.Journal.{Calls, Since, stands_in}
+use Rattle.kept_room.specs.declared.room.KeptRoom.{KeptRoom}
 use Rattle.kept_script.specs.Growing.{AreOpening, creating_calls}
 use Rattle.kept_script.specs.Tries.{UnlessStarved, tried_as}
 use Rattle.kept_script.specs.declared.opening.Tried.{Tried as KeptTried}
 use Rattle.kept_script.specs.declared.opening.Tried.TheVariants as kept_tried
-use Rattle.kept_script.specs.declared.room.KeptRoom.{KeptRoom}
 use Rattle.kept_script.proofs.OneCall.{in_room}
 
 -- ---- calls for which there was memory

@@ -15,11 +15,10 @@ use Rattle.record_file.specs.Damage.{AllFollow}
 use Rattle.record_file.specs.Records.{HasRecords}
 use Rattle.room_journal.specs.Coming.{ReadsBack}
 use Rattle.room_journal.specs.Kept.{may_follow, room_records}
-use Rattle.kept_script.specs.Journal.{Calls, FillsFile, IsJournal, stands_in}
+use Rattle.kept_room.specs.Journal.{Calls, FillsFile, stands_in}
 use Rattle.kept_script.specs.KeptDoing.{kept_doing}
 use Rattle.kept_script.specs.KeptPlay.{KeptState, kept_play, opened_state}
 use Rattle.kept_script.specs.declared.hall.KeptHall.{KeptHall}
-use Rattle.kept_script.specs.declared.room.KeptRoom.{KeptRoom}
 
 -- why a file wasn't opened
 abbrev pub exit_of : OpenNo → Exit
@@ -70,16 +69,6 @@ pub record IsFull {D : Type 0} (hall : KeptHall D) (s : KeptState D) : Type 0 wh
   pub fills : FillsFile 0 history more
 
 module _ {D : Type 0} (is_told : D → Type 0) (seen : D → List ℕ) (may_leave : D → List ℕ → Type 0) (moment : D → ℕ) (left_since : D → ℕ → List ℕ → Type 0) (faults : D → ℕ) where
-  -- the room was opened from the file of a disk by these calls, which the file's records make
-  pub record IsOpenedRoom (start : D) (first : Calls) (told : Bool) (r : KeptRoom D) : Type 0 where
-    pub numbered : r.object.room ≡ 0
-    pub whole : r.stopped ≡ None
-    pub stands : stands_in r.object first
-    pub journal : IsJournal is_told seen may_leave moment left_since faults start first [] told r
-    pub had : told ≡ true → HasRecords (seen start) (room_records 0 first)
-    pub reads : ReadsBack 0 first
-    pub follow : AllFollow (may_follow 0) [] (room_records 0 first)
-
   -- Lines were run from a state on. Some first lines were done and printed, and what ran them stands for the state after them, with each of their
   -- changes kept, or was left so by the next line. It ends for a full file only where a record doesn't fit.
   pub record HasRun (s : KeptState D) (bytes left before : List ℕ) (after : Option (List ℕ)) (exit : Exit) (disk : D) : Type 0 where

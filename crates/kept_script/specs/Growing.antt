@@ -11,7 +11,7 @@ use Rattle.room_history.specs.declared.call.RoomCall.TheVariants.{Create}
 use Rattle.room_object.specs.Entry.{entry}
 use Rattle.session_driver.specs.Calls.{Did}
 use Rattle.session_hall.specs.Opens.{seated_in}
-use Rattle.kept_script.specs.Journal.{Calls}
+use Rattle.kept_room.specs.Journal.{Calls}
 
 -- those of a session's line
 abbrev pub line_calls : ℕ → List Did → Calls

@@ -6,7 +6,7 @@ use Rattle.hall_history.specs.Script.{Step}
 use Rattle.hall_history.specs.Tapes.{hall_tape}
 use Rattle.line_runner.specs.Play.{Doing}
 use Rattle.session_hall.specs.Held.{StandsForHall}
-use Rattle.kept_script.specs.Journal.{Calls, IsJournal, Since}
+use Rattle.kept_room.specs.Journal.{Calls, IsJournal, Since}
 use Rattle.kept_script.specs.KeptPlay.{KeptState, hall_of, kept_does}
 use Rattle.kept_script.specs.declared.hall.KeptHall.{KeptHall}
 
@@ -18,7 +18,7 @@ module _ {D : Type 0} (is_told : D → Type 0) (seen : D → List ℕ) (may_leav
     pub stands : StandsForHall hall_tape (hall_of held) s.hall
     pub numbered : held.room.object.room ≡ 0
     pub whole : held.room.stopped ≡ None
-    pub journal : IsJournal is_told seen may_leave moment left_since faults s.start s.first made s.told held.room
+    pub journal : IsJournal is_told seen may_leave moment left_since faults 0 s.start s.first made s.told held.room
 
   -- something stood for the state, and then calls of the next line were made, which printed nothing
   pub record IsLeft (held : KeptHall D) (s : KeptState D) : Type 0 where

@@ -11,7 +11,7 @@ use Rattle.line_runner.specs.declared.interpreter.LineNo.{LineNo}
 use Rattle.line_runner.specs.declared.interpreter.LineNo.TheVariants.{NoMemory}
 use Rattle.session_hall.specs.Held.{HeldHall}
 use Rattle.world_script.specs.Forms.{step_of}
-use Rattle.kept_script.specs.Journal.{Calls}
+use Rattle.kept_room.specs.Journal.{Calls}
 use Rattle.kept_script.specs.declared.hall.KeptHall.{KeptHall}
 
 -- what lines come to: the hall of one room; and what no line changes: the disk before its file was opened, the calls by which its records

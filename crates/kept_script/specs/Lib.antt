@@ -1,6 +1,5 @@
 pub mod Ending
 pub mod Growing
-pub mod Journal
 pub mod KeptDoing
 pub mod KeptLaws
 pub mod KeptPlay

@@ -15,8 +15,8 @@ use Rattle.session_driver.specs.declared.tally.Tally.{Tally}
 use Rattle.session_hall.specs.Answered.{Frees, HearsLine, Opens}
 use Rattle.session_hall.specs.Held.{HeldHall, StandsForHall}
 use Rattle.world_script.specs.ScriptDoing.{script_doing}
+use Rattle.kept_room.specs.Journal.{Calls, Since}
 use Rattle.kept_script.specs.Growing.{Grows}
-use Rattle.kept_script.specs.Journal.{Calls, Since}
 use Rattle.kept_script.specs.KeptPlay.{hall_of}
 use Rattle.kept_script.specs.declared.hall.KeptHall.{KeptHall}
 

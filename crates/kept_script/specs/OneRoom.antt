@@ -10,9 +10,9 @@ use Rattle.session_driver.specs.Calls.{Did}
 use Rattle.session_driver.specs.Hearing.{Draws, Hears, side}
 use Rattle.session_driver.specs.OfBooks.{CallsBook, RoomCalls}
 use Rattle.session_driver.specs.declared.tally.Tally.{Tally}
+use Rattle.kept_room.specs.Journal.{Calls, Since, stands_in}
+use Rattle.kept_room.specs.declared.room.KeptRoom.{KeptRoom}
 use Rattle.kept_script.specs.Growing.{line_calls}
-use Rattle.kept_script.specs.Journal.{Calls, Since, stands_in}
-use Rattle.kept_script.specs.declared.room.KeptRoom.{KeptRoom}
 
 abbrev pub number_of : Held GameKind AnyG → ℕ
 number_of b = b.room

@@ -11,11 +11,11 @@ ghost use Rattle.kept_script.specs.KeptPlay.{hall_of};
 ghost use Rattle.kept_script.specs.Moving.{MovesByFreeing, MovesByLine, MovesByOpen};
 
 use crate::opening::open_match;
-use crate::room::KeptRoom;
 use crate::visiting::{detach_in, hear_in, take_in};
 use dice_words::Tape;
 use game_hall::{SessionCore, match_seed};
 use game_sheet::{MatchName, NoMemory};
+use kept_room::KeptRoom;
 use object_journal::Stop;
 use room_disk::Disk;
 use room_history::RoomReply;

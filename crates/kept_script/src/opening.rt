@@ -9,14 +9,14 @@ ghost use Rattle.match_master.specs.Held.{StandsFor, is_starved};
 ghost use Rattle.room_history.specs.declared.call.RoomCall.TheVariants as call_of;
 ghost use Rattle.session_hall.specs.Held.{AreBooks};
 ghost use Rattle.session_hall.specs.Opens.{CreatesIn, OpensIn, seated_in, tried_by};
+ghost use Rattle.kept_room.specs.Journal.{Calls, Since, stands_in};
 ghost use Rattle.kept_script.specs.Growing.{AreOpening, creating_calls};
-ghost use Rattle.kept_script.specs.Journal.{Calls, Since, stands_in};
 ghost use Rattle.kept_script.specs.OneRoom.{books_of};
 ghost use Rattle.kept_script.specs.Tries.{UnlessStarved, tried_as};
 
-use crate::room::KeptRoom;
 use any_game::{AnyGame, by_name};
 use game_sheet::{Key, MatchName, NoMemory, Seat, Text};
+use kept_room::KeptRoom;
 use room_disk::Disk;
 use room_history::{RoomCall, RoomReply};
 use std::alloc::Global;

@@ -1,29 +1,23 @@
 //! Runs a script over one room whose changes are kept in the file of a disk.
 
-ghost use Rattle.std.specs.Prelude.{◌≡◌, ◌≤◌, ◌⊎◌, None, IfErr, IfOk, IsSome, true, false};
+ghost use Rattle.std.specs.Prelude.{◌≡◌, ◌≤◌, ◌⊎◌, IsSome, true, false};
 ghost use Rattle.board_links.specs.Faults.{HasRisen};
 ghost use Rattle.board_links.specs.Pieces.{told_bytes};
 ghost use Rattle.hall_history.specs.Hall.{new_hall};
 ghost use Rattle.line_runner.specs.Running.{AreInForm, ExitRaises, IsComplete};
-ghost use Rattle.object_journal.specs.Opening.{IsRefused};
-ghost use Rattle.room_journal.specs.Kept.{may_follow};
 ghost use Rattle.session_hall.specs.Held.{AreCores};
-ghost use Rattle.kept_script.specs.Ending.{HasRun, IsKeptComplete, IsOpenedRoom, IsUnopened, KeptRaises, RunsOpened, as_run, exit_after, exit_by, exit_of};
-ghost use Rattle.kept_script.specs.Journal.{Calls};
+ghost use Rattle.kept_script.specs.Ending.{HasRun, IsKeptComplete, IsUnopened, KeptRaises, RunsOpened, as_run, exit_after, exit_by, exit_of};
 ghost use Rattle.kept_script.specs.KeptDoing.{IsKept};
 ghost use Rattle.kept_script.specs.KeptPlay.{KeptState, kept_play};
 
 use crate::hall::{KeptHall, all_cores};
-use crate::room::KeptRoom;
 use board_links::{Sink, Source};
 use game_hall::SessionCore;
+use kept_room::open_room;
 use line_runner::{Exit, run_lines};
 use object_journal::{OpenNo, Stop};
-use record_file::RecordFile;
 use room_disk::Disk;
-use room_journal::{KeptBook, RoomBook, open_book};
 use std::alloc::Global;
-use std::mem;
 
 /// Runs the script of a source over one room, whose accepted changes are kept in the file of a disk, and prints its transcript into a sink. The
 /// file is opened first, and the changes of its records are made again. It hands the disk back.
@@ -80,7 +74,7 @@ fn run_with<S: Source, K: Sink, D: Disk + Drop>(
         → IsUnopened D.is_told D.seen D.faults disk result.1 result.0
         ⊎ RunsOpened D.is_told D.seen D.may_leave D.moment D.left_since D.faults disk true (told_bytes (S.left source.old)) (told_bytes (S.left source.new)) (told_bytes (K.held sink.old)) (K.held sink.new) result.0 result.1 }
 {
-    match open_room(alloc, disk) {
+    match open_room(alloc, 0, disk) {
         Ok(room) => run_hall(alloc, KeptHall::new(alloc, room, cores), source, sink),
         Err(refused) => {
             drop(cores);
@@ -88,38 +82,6 @@ fn run_with<S: Source, K: Sink, D: Disk + Drop>(
             (exit_of(no), disk)
         }
     }
-}
-
-/// Opens the file of the room.
-fn open_room<D: Disk + Drop>(alloc: Global, disk: D) -> Result<KeptRoom<D>, (OpenNo, D)>
-    ensures opened { IfOk result (λ room. (first : Calls) × IsOpenedRoom D.is_told D.seen D.may_leave D.moment D.left_since D.faults disk first false room) }
-    ensures keeps { D.is_told disk → IfOk result (λ room. (first : Calls) × IsOpenedRoom D.is_told D.seen D.may_leave D.moment D.left_since D.faults disk first true room) }
-    ensures refused { IfErr result (λ e. IsRefused (may_follow 0) D.is_told D.seen D.faults disk e.1 e.0) }
-{
-    match RoomBook::new(alloc, 0) {
-        Ok(spare) => match open_book(alloc, 0, disk) {
-            Ok(kept) => Ok(taken(alloc, kept, spare)),
-            Err(refused) => {
-                drop(spare);
-                Err(refused)
-            }
-        },
-        Err(_) => Err((OpenNo::NoMemory, disk)),
-    }
-}
-
-/// The room of a journal that was opened; another room's book takes the place of its own.
-fn taken<D: Disk + Drop>(alloc: Global, kept: KeptBook<D>, spare: RoomBook) -> KeptRoom<D>
-    ensures object { result.object ≡ kept.object }
-    ensures disk { result.file.disk ≡ kept.file.disk }
-    ensures end { result.file.end ≡ kept.file.end }
-    ensures whole { result.stopped ≡ None }
-{
-    let mut kept = kept;
-    let object = mem::replace(&mut kept.object, spare);
-    let end = kept.file.end;
-    let disk = kept.close();
-    KeptRoom::new(alloc, object, RecordFile { disk, end })
 }
 
 /// Runs the script in a hall that stands for some state, and hands the hall's disk back.

@@ -4,14 +4,14 @@ ghost use Rattle.std.specs.Prelude.{◌≡◌, None, IsSome};
 ghost use Rattle.room_history.specs.declared.call.RoomCall.TheVariants as call;
 ghost use Rattle.session_driver.specs.Freeing.{Frees};
 ghost use Rattle.session_driver.specs.Hearing.{draws, side};
+ghost use Rattle.kept_room.specs.Journal.{Since};
 ghost use Rattle.kept_script.specs.Growing.{freeing_calls};
-ghost use Rattle.kept_script.specs.Journal.{Since};
 ghost use Rattle.kept_script.specs.OneRoom.{HearsKept, IsFirst, books_of, calls_book};
 
-use crate::room::KeptRoom;
 use any_game::AnyGame;
 use dice_words::Tape;
 use game_hall::SessionCore;
+use kept_room::KeptRoom;
 use room_disk::Disk;
 use room_history::{RoomCall, RoomReply};
 use session_driver::{Rooms, Tally, detach, hear, take};

@@ -1,17 +1,20 @@
 //! A room's book as an object whose accepted changes are kept.
 
-ghost use Rattle.std.specs.Prelude.{◌≡◌, ◌≤◌, ◌++◌, [], ◌∷◌, IfOk};
+ghost use Rattle.std.specs.Prelude.{◌≡◌, ◌≤◌, ◌++◌, [], ◌∷◌, List, IfOk};
 ghost use Rattle.any_game.specs.AnyRules.{any_rules};
+ghost use Rattle.any_game.specs.GameKind.{GameKind};
 ghost use Rattle.match_master.specs.Held.{is_starved as says_starved, may_starve as can_starve};
 ghost use Rattle.record_file.specs.Records.{framed};
 ghost use Rattle.room_changes.specs.ChangesOf.{is_accepted as says_accepted};
-ghost use Rattle.room_history.specs.Room.{reply as reply_in};
+ghost use Rattle.room_history.specs.Room.{number as number_in, reply as reply_in, serials};
+ghost use Rattle.room_history.specs.declared.call.RoomCall.{RoomCall as Asks};
+ghost use Rattle.room_object.specs.Entry.{Entry};
 ghost use Rattle.room_journal.specs.Coming.{StandsIn};
 ghost use Rattle.room_journal.specs.Kept.{IsInForm, room_payload, room_records};
 
 use any_game::AnyGame;
 use change_text::put_asked_change;
-use game_sheet::{Key, NoMemory};
+use game_sheet::{Key, NoMemory, Number};
 use match_master::Book;
 use object_journal::Recorded;
 use room_history::{RoomCall, RoomReply};
@@ -53,6 +56,20 @@ impl RoomBook {
             book,
             keys: Vec::new(alloc),
         })
+    }
+
+    /// How many matches were made. It takes no memory.
+    pub fn serial(&self) -> u64
+        ensures { (h : List (Entry (Asks GameKind))) → StandsIn self.now.room self.now.book h → result ≡ serials any_rules self.now.room h }
+    {
+        self.book.serial()
+    }
+
+    /// The state number of the match that stands; none where none stands. It takes no memory.
+    pub fn number(&self) -> Option<Number>
+        ensures { (h : List (Entry (Asks GameKind))) → StandsIn self.now.room self.now.book h → result ≡ number_in any_rules self.now.room h }
+    {
+        self.book.number()
     }
 }
 

@@ -1,6 +1,6 @@
 use Rattle.std.proofs.Common.{[], ◌∙◌, ap, sym}
+use Rattle.kept_room.proofs.Journals.{since_none}
 use Rattle.kept_script.specs.Growing.{creating_calls}
-use Rattle.kept_script.proofs.Journals.{since_none}
 use Rattle.kept_script.proofs.opening.create.Goals as goal
 
 pub returns-in-Ok-None-clause-since : goal.returns-in-Ok-None-clause-since

@@ -1,6 +1,6 @@
 use Rattle.std.proofs.Common.{◌++◌, ap}
+use Rattle.kept_room.proofs.Journals.{since_more}
 use Rattle.kept_script.specs.Tries.{tried_as}
-use Rattle.kept_script.proofs.Journals.{since_more}
 use Rattle.kept_script.proofs.Trying.{full_one, has_serial, made_unless, opens_made, opens_none, refused_one, serves_then}
 use Rattle.kept_script.proofs.opening.open_match.Goals as goal
 

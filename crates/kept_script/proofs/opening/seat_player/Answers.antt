@@ -3,7 +3,7 @@ use Rattle.std.proofs.lemmas.Result.{on_ok_weaker}
 use Rattle.hall_history.specs.Opening.{own_pass}
 use Rattle.match_master.specs.Held.{is_starved}
 use Rattle.room_object.specs.Entry.{entry}
-use Rattle.kept_script.proofs.Journals.{since_none}
+use Rattle.kept_room.proofs.Journals.{since_none}
 use Rattle.kept_script.proofs.Trying.{joined_one, same_room, seated_unless}
 use Rattle.kept_script.proofs.opening.seat_player.Goals as goal
 

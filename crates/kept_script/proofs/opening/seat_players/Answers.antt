@@ -3,8 +3,8 @@ use Rattle.any_game.specs.AnyRules.{any_rules}
 use Rattle.hall_history.specs.Opening.{joins}
 use Rattle.match_master.specs.Held.{StandsFor}
 use Rattle.session_hall.specs.Opens.{seated_in}
-use Rattle.kept_script.specs.Journal.{Calls}
-use Rattle.kept_script.proofs.Journals.{since_more, since_none}
+use Rattle.kept_room.specs.Journal.{Calls}
+use Rattle.kept_room.proofs.Journals.{since_more, since_none}
 use Rattle.kept_script.proofs.Trying.{serves_then}
 use Rattle.kept_script.proofs.opening.seat_players.Goals as goal
 

@@ -4,7 +4,7 @@ use Rattle.any_game.specs.GameKind.{GameKind}
 use Rattle.hall_history.specs.Rooms.{History}
 use Rattle.match_master.specs.Held.{StandsFor}
 use Rattle.session_hall.specs.Opens.{seated_in}
-use Rattle.kept_script.specs.Journal.{Calls, Since}
+use Rattle.kept_room.specs.Journal.{Calls, Since}
 use Rattle.kept_script.proofs.opening.seat_players.Given as goal
 
 -- the seats so far have their players

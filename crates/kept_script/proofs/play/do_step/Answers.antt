@@ -1,9 +1,9 @@
 use Rattle.std.proofs.Common.{[], refl, subst, sym}
 use Rattle.world_script.specs.StepIs.{step_is}
-use Rattle.kept_script.specs.Journal.{Since}
+use Rattle.kept_room.specs.Journal.{Since}
+use Rattle.kept_room.proofs.Journals.{since_none}
 use Rattle.kept_script.specs.KeptPlay.{hall_of}
 use Rattle.kept_script.specs.Moving.{StepGrows}
-use Rattle.kept_script.proofs.Journals.{since_none}
 use Rattle.kept_script.proofs.Moving.{has_one, nothing_grows, seed_grows}
 use Rattle.kept_script.proofs.play.do_step.Goals as goal
 

@@ -4,8 +4,8 @@ use Rattle.game_hall.specs.Core.{Core}
 use Rattle.hall_history.specs.Tapes.{hall_tape}
 use Rattle.session_driver.specs.Hearing.{draws}
 use Rattle.session_hall.proofs.Halls.{line_driven, own_core, own_request, own_rooms, own_said}
+use Rattle.kept_room.specs.Journal.{Since}
 use Rattle.kept_script.specs.Growing.{line_calls}
-use Rattle.kept_script.specs.Journal.{Since}
 use Rattle.kept_script.specs.OneRoom.{books_of}
 use Rattle.kept_script.proofs.Moving.{has_one, line_moves}
 use Rattle.kept_script.proofs.OneCall.{first_room}

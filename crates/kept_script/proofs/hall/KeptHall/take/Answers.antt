@@ -5,8 +5,8 @@ use Rattle.hall_history.specs.Tapes.{hall_tape}
 use Rattle.room_history.specs.declared.call.RoomCall.TheVariants as call
 use Rattle.session_driver.specs.Hearing.{side}
 use Rattle.session_hall.proofs.Halls.{freed_by_driver, own_core, own_room, own_rooms}
+use Rattle.kept_room.specs.Journal.{Since}
 use Rattle.kept_script.specs.Growing.{freeing_calls}
-use Rattle.kept_script.specs.Journal.{Since}
 use Rattle.kept_script.specs.OneRoom.{books_of}
 use Rattle.kept_script.proofs.Growing.{freed_grows}
 use Rattle.kept_script.proofs.Moving.{has_one}

@@ -1,0 +1,117 @@
+-- A room that was opened, after Detaches.
+use Rattle.std.proofs.Common.{◌≡◌, ◌≤◌, ◌<◌, ◌==◌, ℕ, ◌+◌, Bool, true, false, if◌then◌else◌, List, [], ◌∷◌, Some, None, refl, sym, ap, ◌∙◌, subst, arith}
+use Rattle.std.proofs.lemmas.Bool.Decides.{nat_tests}
+use Rattle.any_game.specs.AnyRules.{any_rules}
+use Rattle.any_game.specs.GameKind.{GameKind}
+use Rattle.match_master.specs.Held.{may_starve}
+use Rattle.record_file.specs.Damage.{AllFollow}
+use Rattle.record_file.specs.Records.{HasRecords}
+use Rattle.record_file.specs.declared.append.RecordFile.{RecordFile}
+use Rattle.room_changes.specs.declared.change.Change.{Change}
+use Rattle.room_disk.specs.Disk.{LeavesOnly}
+use Rattle.room_history.specs.Presence.{is_attached}
+use Rattle.room_history.specs.declared.call.RoomCall.{RoomCall}
+use Rattle.room_history.specs.declared.call.RoomCall.TheVariants.{Detach}
+use Rattle.room_journal.specs.Kept.{changes_read, may_follow, room_records, texts}
+use Rattle.room_object.specs.Entry.{Entry, entry}
+use Rattle.kept_room.specs.Hosting.{NobodyAfter}
+use Rattle.kept_room.specs.Journal.{Calls, HasPart, Since}
+use Rattle.kept_room.specs.Opened.{IsOpenedRoom}
+use Rattle.kept_room.specs.declared.room.KeptRoom.{KeptRoom}
+use Rattle.kept_room.proofs.Asides.{detached, is_detach_fed, same_changes, same_records}
+
+left_out : (b x : Bool) → x ≡ false → (if b then false else x) ≡ false
+left_out true x e = refl
+left_out false x e = e
+
+itself : (n : ℕ) → (n == n) ≡ true
+itself n = grind (arith, nat_tests)
+
+-- one pass more is detached
+pub one_fewer : (room : ℕ) (h : Calls) (pass : ℕ) → NobodyAfter room pass h → NobodyAfter room (pass + 1) (entry pass Detach false ∷ h)
+one_fewer room h pass nobody q low = detached room h pass q ∙ by (pass == q) refl
+  where
+    by : (b : Bool) → (pass == q) ≡ b → (if b then false else is_attached any_rules room h q) ≡ false
+    by true e = refl
+    by false e = nobody q (below e)
+      where
+        below : (pass == q) ≡ false → q < pass
+        below e = grind (arith, nat_tests, low, e)
+
+same_disk : {D : Type 0} (x y : D) → Some x ≡ Some y → x ≡ y
+same_disk x y e = cc
+
+none_some : {D : Type 0} (x : D) → None ≡ Some x → ⊥
+none_some x e = cc
+
+-- whether it is known of a disk or not
+pub by_told : (P : Bool → Type 0) (Known : Type 0) → P false → (Known → P true) → (told : Bool) → (told ≡ true → Known) → P told
+by_told P Known without known true is = known (is refl)
+by_told P Known without known false is = without
+
+module _ {D : Type 0} (is_told : D → Type 0) (seen : D → List ℕ) (may_leave : D → List ℕ → Type 0) (moment : D → ℕ) (left_since : D → ℕ → List ℕ → Type 0) (faults : D → ℕ) where
+  abbrev Opened : ℕ → D → Calls → Bool → KeptRoom D → Type 0
+  Opened room start first told r = IsOpenedRoom is_told seen may_leave moment left_since faults room start first told r
+
+  -- where it was known that the disk goes by the model, this may be passed over
+  pub opened_untold : (room : ℕ) (start : D) (first : Calls) (told known : Bool) (r : KeptRoom D) → (known ≡ true → told ≡ true) → Opened room start first told r → Opened room start first known r
+  opened_untold room start first told known r by o = record {
+    numbered = o.numbered;
+    whole = o.whole;
+    stands = o.stands;
+    journal = record {
+      stands = o.journal.stands;
+      keeps = λ e. o.journal.keeps (by e);
+      crash = λ e. o.journal.crash (by e);
+      fits = λ e. o.journal.fits (by e);
+      never_falls = o.journal.never_falls;
+    };
+    had = λ e. o.had (by e);
+    reads = o.reads;
+    follow = o.follow;
+  }
+
+  module _ (room : ℕ) (start : D) (first : Calls) (told : Bool) (old new : KeptRoom D) (pass : ℕ) (since : Since is_told seen may_leave moment left_since faults old new (entry pass Detach false ∷ []))
+      (same : new.stopped ≡ old.stopped) (file : new.file ≡ old.file) where
+    pub detach_opened : Opened room start first told old → Opened room start (entry pass Detach false ∷ first) told new
+    detach_opened o = record {
+      numbered = since.same_room ∙ o.numbered;
+      whole = same ∙ o.whole;
+      stands = since.stands first o.stands;
+      journal = record {
+        stands = since.stands first o.stands;
+        keeps = λ e. since.kept (same ∙ o.whole) first (o.journal.keeps e);
+        crash = λ e only.
+            subst (λ (f : RecordFile D). LeavesOnly moment left_since start f.disk (HasPart (room_records room) (entry pass Detach false ∷ first) [])) (sym file)
+            (subst (λ (records : List (List ℕ)). LeavesOnly moment left_since start old.file.disk (λ c. HasRecords c records)) (sym records_stay) (o.journal.crash e only));
+        fits = λ e. tt;
+        never_falls = subst (λ (f : RecordFile D). faults start ≤ faults f.disk) (sym file) o.journal.never_falls;
+      };
+      had = λ e. subst (λ (records : List (List ℕ)). HasRecords (seen start) records) (sym records_stay) (o.had e);
+      reads = subst (λ (cs : List (Change GameKind)). changes_read (texts cs) ≡ Some cs) (sym (same_changes room first pass Detach false refl)) o.reads;
+      follow = subst (λ (records : List (List ℕ)). AllFollow (may_follow room) [] records) (sym records_stay) o.follow;
+    }
+      where
+        records_stay : room_records room (entry pass Detach false ∷ first) ≡ room_records room first
+        records_stay = same_records room first pass Detach false refl
+
+  -- ---- Detaches of one pass after another
+
+  abbrev Empties : ℕ → D → Bool → KeptRoom D → ℕ → Type 0
+  Empties room start told r passes = (after : Calls) × Opened room start after told r × NobodyAfter room passes after
+
+  pub first_emptied : (room : ℕ) (start : D) (first : Calls) (told : Bool) (r : KeptRoom D) → Opened room start first told r → Empties room start told r 0
+  first_emptied room start first told r o = (first, o, λ pass low. absurd (omega (arith, low)))
+
+  pub emptied_more : (room : ℕ) (start : D) (told : Bool) (old new : KeptRoom D) (pass : ℕ) (starved : Bool) → (starved ≡ true → may_starve {X = GameKind} Detach ≡ true)
+      → Since is_told seen may_leave moment left_since faults old new (entry pass Detach starved ∷ []) → new.stopped ≡ old.stopped → new.file ≡ old.file → Empties room start told old pass
+      → Empties room start told new (pass + 1)
+  emptied_more room start told old new pass starved fed since same file (after, o, nobody) =
+      let e : entry pass Detach starved ≡ entry pass Detach false = ap (λ (b : Bool). entry pass Detach b) (is_detach_fed Detach starved refl fed) in (
+        entry pass Detach false ∷ after,
+        detach_opened room start after told old new pass (subst (λ (x : Entry (RoomCall GameKind)). Since is_told seen may_leave moment left_since faults old new (x ∷ [])) e since) same file o,
+        one_fewer room after pass nobody,
+      )
+
+  pub all_fewer : (room : ℕ) (start : D) (told : Bool) (r : KeptRoom D) (most passes : ℕ) → passes ≤ most → Empties room start told r most → Empties room start told r passes
+  all_fewer room start told r most passes low (after, o, nobody) = (after, o, λ pass under. nobody pass (omega (arith, low, under)))

@@ -1,0 +1,6 @@
+pub mod Asides
+pub mod Creating
+pub mod Emptied
+pub mod Hosting
+pub mod Journals
+pub mod Opened

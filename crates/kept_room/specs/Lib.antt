@@ -1,0 +1,4 @@
+pub mod Asides
+pub mod Hosting
+pub mod Journal
+pub mod Opened
