@@ -1,14 +1,12 @@
 -- What the end of a serving says, under other names for the same door, and how many bots' links were given before it.
 use Rattle.std.proofs.Common.{◌≡◌, ◌<◌, ◌-◌, ◌+◌, ℕ, zero, suc, List, [], Bool, inr, Option, None, Some, arith, refl, subst, sym}
-use Rattle.std.specs.Prelude.{IsSome}
-use Rattle.any_game.specs.GameKind.{GameKind}
-use Rattle.any_game.specs.declared.any_g.AnyG.{AnyG}
+use Rattle.std.specs.Prelude.{IfOk, IsSome, Ok, Result}
 use Rattle.board_links.specs.Pieces.{told_bytes}
 use Rattle.command_words.specs.declared.serve.ServeWords.{ServeWords}
 use Rattle.door_serve.specs.Ends.{EndsBy, Reports}
+use Rattle.door_serve.specs.Rooms.{Hosted}
 use Rattle.door_serve.specs.declared.serving.ServeEnd.{ServeEnd}
 use Rattle.door_serve.specs.declared.serving.ServeEnd.TheVariants as end
-use Rattle.match_master.specs.Held.{Held as Book}
 use Rattle.board_commands.specs.Serving.{GaveBots, Serves, ServesSeats, exit_of, held_with, seats_asked}
 
 pub ends_same : (how : ServeEnd) (sessions f f' : ℕ) (l l' : Option ℕ) (s s' : Bool) (a a' n n' old new : ℕ) → f ≡ f' → l ≡ l' → s ≡ s' → a ≡ a' → n ≡ n'
@@ -20,8 +18,9 @@ ends_same how sessions f f' l l' s s' a a' n n' old new ef el es ea en e =
     (subst (λ x. EndsBy how sessions f' x s a n old new) el
     (subst (λ x. EndsBy how sessions x l s a n old new) ef e))))
 
-pub reports_same : (rooms n n' : ℕ) (books : List (Book GameKind AnyG)) (how : ServeEnd) (before : List ℕ) (after : Option (List ℕ)) → n ≡ n' → Reports rooms n books how before after → Reports rooms n' books how before after
-reports_same rooms n n' books how before after e r = subst (λ x. Reports rooms x books how before after) e r
+pub reports_same : {B : Type 0} (known : Hosted B) (many n n' : ℕ) (rooms : List B) (how : ServeEnd) (before : List ℕ) (after : Option (List ℕ)) → n ≡ n' → Reports known many n rooms how before after
+    → Reports known many n' rooms how before after
+reports_same known many n n' rooms how before after e r = subst (λ x. Reports known many x rooms how before after) e r
 
 all_given : (left start seats given : ℕ) → start ≡ seats → (0 < left → given ≡ 0) → 0 < given → start - left ≡ seats
 all_given zero start seats given is first some = omega (arith, is)
@@ -34,25 +33,41 @@ gave_bots left start seats given is first = record { most = omega (arith, is); f
 pub gave_none : (seats given : ℕ) → given ≡ 0 → GaveBots seats 0 given
 gave_none seats given none = record { most = omega arith; first = λ some. absurd (omega (arith, none, some)) }
 
+-- what holds of the value of an Ok
+pub of_ok : {A E : Type 0} (P : A → Type 0) (r : Result A E) (x : A) → r ≡ Ok x → IfOk r P → P x
+of_ok P r x is holds = subst (λ y. IfOk y P) is holds
+
 held_told : (held : Option (List ℕ)) → IsSome held → held ≡ Some (told_bytes held)
 held_told None tells = cc tells
 held_told (Some bytes) tells = refl
 
 -- without memory to begin nothing was served or printed
-pub serves_none : (rooms sessions seats f : ℕ) (l : Option ℕ) (s : Bool) (given old : ℕ) (held : Option (List ℕ)) (books : List (Book GameKind AnyG))
-    → given ≡ 0 → books ≡ [] → ServesSeats end.NoMemory rooms sessions seats books f l s f given old old held held
-serves_none rooms sessions seats f l s given old held books none empty = record {
+pub serves_none : {B : Type 0} (known : Hosted B) (many sessions seats f : ℕ) (l : Option ℕ) (s : Bool) (given old : ℕ) (held : Option (List ℕ)) (rooms : List B)
+    → given ≡ 0 → rooms ≡ [] → ServesSeats known end.NoMemory many sessions seats rooms f l s f given old old held held
+serves_none known many sessions seats f l s given old held rooms none empty = record {
   bots = 0;
   gave = gave_none seats given none;
   ended = (refl, refl);
   reports = λ tells. inr (refl, empty, omega (arith, none), held_told held tells);
 }
 
+-- nor was anything without memory for the rooms
+pub serves_starved : {B : Type 0} (known : Hosted B) (asked : ServeWords) (f : ℕ) (l : Option ℕ) (s : Bool) (given old : ℕ) (held : Option (List ℕ)) (rooms : List B)
+    → given ≡ 0 → rooms ≡ [] → Serves known asked (exit_of end.NoMemory) rooms f l s f given old old held held
+serves_starved known asked f l s given old held rooms none empty = record {
+  how = end.NoMemory;
+  bots = 0;
+  gave = gave_none (seats_asked asked.bots) given none;
+  exits = refl;
+  ended = (refl, refl);
+  reports = λ tells. inr (refl, empty, omega (arith, none), held_told held tells);
+}
+
 -- what `serve` says, from what its serving says, where no bots were asked for
-pub serves_plain : (asked : ServeWords) (how : ServeEnd) (books : List (Book GameKind AnyG)) (f : ℕ) (l : Option ℕ) (s : Bool) (a n old new : ℕ) (held after : Option (List ℕ))
-    → asked.bots ≡ None → EndsBy how asked.sessions f l s a n old new → (IsSome held → Reports asked.rooms n books how (told_bytes held) after)
-    → Serves asked (exit_of how) books f l s a n old new held after
-serves_plain asked how books f l s a n old new held after none e r =
+pub serves_plain : {B : Type 0} (known : Hosted B) (asked : ServeWords) (how : ServeEnd) (rooms : List B) (f : ℕ) (l : Option ℕ) (s : Bool) (a n old new : ℕ) (held after : Option (List ℕ))
+    → asked.bots ≡ None → EndsBy how asked.sessions f l s a n old new → (IsSome held → Reports known asked.rooms n rooms how (told_bytes held) after)
+    → Serves known asked (exit_of how) rooms f l s a n old new held after
+serves_plain known asked how rooms f l s a n old new held after none e r =
     let same : n ≡ 0 + n = omega arith in
     record {
       how = how;
@@ -61,5 +76,5 @@ serves_plain asked how books f l s a n old new held after none e r =
       exits = refl;
       ended = subst (λ x. EndsBy how asked.sessions f (held_with asked.bots l) s a x old new) same
           (subst (λ t. EndsBy how asked.sessions f (held_with t l) s a n old new) (sym none) e);
-      reports = λ tells. reports_same asked.rooms n (0 + n) books how (told_bytes held) after same (r tells);
+      reports = λ tells. reports_same known asked.rooms n (0 + n) rooms how (told_bytes held) after same (r tells);
     }

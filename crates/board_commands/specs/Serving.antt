@@ -1,15 +1,14 @@
--- How `serve` ends, by what its words ask for, and what it then says of the door, the sink and the books that are handed back.
+-- How `serve` ends, by what its words ask for, and what it then says of the door, the sink and the rooms that are handed back.
 use Rattle.std.specs.Prelude.{◌≡◌, ◌≤◌, ◌<◌, ◌+◌, ℕ, List, Bool, Option, Some, None, IsSome, option_map}
 use Rattle.any_game.specs.GameKind.{GameKind}
-use Rattle.any_game.specs.declared.any_g.AnyG.{AnyG}
 use Rattle.board_links.specs.Pieces.{told_bytes}
 use Rattle.command_words.specs.declared.serve.ServeWords.{ServeWords}
 use Rattle.door_serve.specs.Ends.{EndsBy, Reports}
+use Rattle.door_serve.specs.Rooms.{Hosted}
 use Rattle.door_serve.specs.declared.serving.ServeEnd.{ServeEnd}
 use Rattle.door_serve.specs.declared.serving.ServeEnd.TheVariants as end
 use Rattle.line_runner.specs.declared.exit.Exit.{Exit}
 use Rattle.line_runner.specs.declared.exit.Exit.TheVariants.{Done, WriteFault, NoMemory, DoorFault}
-use Rattle.match_master.specs.Held.{Held as Book}
 
 -- the end of a run that served
 abbrev pub exit_of : ServeEnd → Exit
@@ -33,22 +32,22 @@ pub record GaveBots (seats bots given : ℕ) : Type 0 where
   pub most : bots ≤ seats
   pub first : 0 < given → bots ≡ seats
 
--- rooms were served so, with so many bots' links before those of the door: each of these is a session too
-pub record ServesSeats (how : ServeEnd) (rooms sessions seats : ℕ) (books : List (Book GameKind AnyG)) (faults : ℕ) (links : Option ℕ) (shut : Bool) (faults_after given : ℕ)
-    (sink_faults sink_faults_after : ℕ) (held held_after : Option (List ℕ)) : Type 0 where
+-- So many rooms were served so, with so many bots' links before those of the door: each of these is a session too.
+pub record ServesSeats {B : Type 0} (known : Hosted B) (how : ServeEnd) (many sessions seats : ℕ) (rooms : List B) (faults : ℕ) (links : Option ℕ) (shut : Bool)
+    (faults_after given : ℕ) (sink_faults sink_faults_after : ℕ) (held held_after : Option (List ℕ)) : Type 0 where
   pub bots : ℕ
   pub gave : GaveBots seats bots given
   pub ended : EndsBy how sessions faults links shut faults_after (bots + given) sink_faults sink_faults_after
-  pub reports : IsSome held → Reports rooms (bots + given) books how (told_bytes held) held_after
+  pub reports : IsSome held → Reports known many (bots + given) rooms how (told_bytes held) held_after
 
 -- The serving that was asked for. The door had so many faults and held so many links, where it told them; afterwards it is shut or not, has so
 -- many faults, and has given so many links. The sink had so many faults and held this before, and so afterwards. The links of the bots that were
 -- given count as the door's do.
-pub record Serves (asked : ServeWords) (exit : Exit) (books : List (Book GameKind AnyG)) (faults : ℕ) (links : Option ℕ) (shut : Bool) (faults_after given : ℕ)
-    (sink_faults sink_faults_after : ℕ) (held held_after : Option (List ℕ)) : Type 0 where
+pub record Serves {B : Type 0} (known : Hosted B) (asked : ServeWords) (exit : Exit) (rooms : List B) (faults : ℕ) (links : Option ℕ) (shut : Bool)
+    (faults_after given : ℕ) (sink_faults sink_faults_after : ℕ) (held held_after : Option (List ℕ)) : Type 0 where
   pub how : ServeEnd
   pub bots : ℕ
   pub gave : GaveBots (seats_asked asked.bots) bots given
   pub exits : exit ≡ exit_of how
   pub ended : EndsBy how asked.sessions faults (held_with asked.bots links) shut faults_after (bots + given) sink_faults sink_faults_after
-  pub reports : IsSome held → Reports asked.rooms (bots + given) books how (told_bytes held) held_after
+  pub reports : IsSome held → Reports known asked.rooms (bots + given) rooms how (told_bytes held) held_after

@@ -1,7 +1,11 @@
 //! Serves rooms with bots at the seats of the first match.
 
-ghost use Rattle.std.specs.Prelude.{◌≡◌, ◌≤◌, ◌<◌, ◌+◌, All, IfOk, None, Some, false, option_map, vec_len};
+ghost use Rattle.std.specs.Prelude.{◌≡◌, ◌≤◌, ◌<◌, ◌+◌, All, IfOk, None, Some, false, map, option_map, vec_len};
+ghost use Rattle.any_game.specs.AnyRules.{any_rules};
 ghost use Rattle.board_links.specs.Doors.{IsFresh};
+ghost use Rattle.door_serve.specs.Rooms.{Calls, hosted};
+ghost use Rattle.hosted_room.specs.Calls.{NobodyIn};
+ghost use Rattle.session_pool.specs.Rooms.{numbers};
 ghost use Rattle.board_commands.specs.Serving.{ServesSeats, seats_asked};
 
 use any_game::AnyGame;
@@ -10,8 +14,8 @@ use board_bots::{Bot, BotLink, Rest};
 use board_links::{Door, Link, Sink};
 use door_serve::{ServeEnd, serve_rooms};
 use game_sheet::{MatchName, NoMemory};
+use hosted_room::HostedRoom;
 use link_rounds::Ready;
-use match_master::Book;
 use std::alloc::Global;
 use std::marker::Brand;
 use std::sync::{Arc, Wait};
@@ -80,6 +84,7 @@ fn readies_for<W: Drop>(
 /// Serves the links of these bots, which are to sit at the seats of the first match of room 0, a match of this game, and to play at this pace, and
 /// those of a door.
 pub(crate) fn serve_seated<
+    B: HostedRoom<AnyGame> + Send,
     D: Door + Send,
     W: Ready<D::L> + Send,
     K: Sink,
@@ -88,7 +93,7 @@ pub(crate) fn serve_seated<
 >(
     rt: &R,
     alloc: Global,
-    rooms: u8,
+    rooms: Vec<B>,
     places: u16,
     readies: Vec<W>,
     game: AnyGame,
@@ -100,10 +105,13 @@ pub(crate) fn serve_seated<
     door: D,
     sink: &mut K,
     seed: [u8; 32],
-) -> (ServeEnd, D, Vec<Book<AnyGame>>)
+) -> (ServeEnd, D, Vec<B>)
 where
     D::L: Send,
-    requires rooms { (0 < rooms) × (rooms ≤ 64) }
+    requires rooms { (0 < vec_len rooms) × (vec_len rooms ≤ 64) }
+    requires numbered { map (λ b. B.number b) rooms.items ≡ numbers 0 (vec_len rooms) }
+    requires stand { All (λ b. (past : Calls) × B.stands_for b past) rooms.items }
+    requires nobody { All (λ b. (past : Calls) → B.stands_for b past → NobodyIn any_rules places (B.number b) past) rooms.items }
     requires places { (0 < places) × (places ≤ 4096) }
     requires some { 0 < vec_len readies }
     requires enough { vec_len readies ≤ places }
@@ -113,66 +121,74 @@ where
     requires rests { vec_len rests ≡ seats }
     ensures out { (D.out result.1 ≡ 0) × (D.bots_out result.1 ≡ 0) }
     ensures sink_never_falls { K.faults sink.old ≤ K.faults sink.new }
-    ensures serves { ServesSeats result.0 rooms sessions seats result.2.items (D.faults door) (option_map (λ n. n + seats) (D.left door)) (D.shut result.1) (D.faults result.1) (D.given result.1)
+    ensures serves { ServesSeats (hosted B.number B.stands_for B.has_stopped) result.0 (vec_len rooms) sessions seats result.2.items
+        (D.faults door) (option_map (λ n. n + seats) (D.left door)) (D.shut result.1) (D.faults result.1) (D.given result.1)
         (K.faults sink.old) (K.faults sink.new) (K.held sink.old) (K.held sink.new) }
 {
     let Ok(links) = links_for(alloc, &game, seats, bots, rests) else {
+        drop(rooms);
         drop(game);
         drop(readies);
         return (ServeEnd::NoMemory, door, Vec::new(alloc));
     };
     let Ok(readies) = readies_for(alloc, readies, seats, pace) else {
+        drop(rooms);
         drop(game);
         drop(links);
         return (ServeEnd::NoMemory, door, Vec::new(alloc));
     };
-    serve_bench::<D, BotLink<Z>, BenchReady<W>, K, R, Brand>(
+    serve_bench::<B, D, BotLink<Z>, BenchReady<W>, K, R, Brand>(
         rt, alloc, rooms, places, readies, game, seats, links, sessions, door, sink, seed,
     )
 }
 
 /// Serves these links first, and then those of a door, where so many bots are to sit. `N` has their number too.
 fn serve_bench<
+    B: HostedRoom<AnyGame> + Send,
     D: Door + Send,
-    B: Link + Send,
-    W: Ready<BenchLink<D::L, B>> + Send,
+    L: Link + Send,
+    W: Ready<BenchLink<D::L, L>> + Send,
     K: Sink,
     R: Threads + Wait + Sync,
     N: Seats + Send,
 >(
     rt: &R,
     alloc: Global,
-    rooms: u8,
+    rooms: Vec<B>,
     places: u16,
     readies: Vec<W>,
     game: AnyGame,
     seats: u8,
-    links: Vec<B>,
+    links: Vec<L>,
     sessions: u32,
     door: D,
     sink: &mut K,
     seed: [u8; 32],
-) -> (ServeEnd, D, Vec<Book<AnyGame>>)
+) -> (ServeEnd, D, Vec<B>)
 where
     D::L: Send,
     requires named { N.seats ≡ seats }
-    requires rooms { (0 < rooms) × (rooms ≤ 64) }
+    requires rooms { (0 < vec_len rooms) × (vec_len rooms ≤ 64) }
+    requires numbered { map (λ b. B.number b) rooms.items ≡ numbers 0 (vec_len rooms) }
+    requires stand { All (λ b. (past : Calls) × B.stands_for b past) rooms.items }
+    requires nobody { All (λ b. (past : Calls) → B.stands_for b past → NobodyIn any_rules places (B.number b) past) rooms.items }
     requires places { (0 < places) × (places ≤ 4096) }
     requires some { 0 < vec_len readies }
     requires enough { vec_len readies ≤ places }
     requires plain { D.has_bots ≡ false }
     requires fresh { (D.given door ≡ 0) × (D.out door ≡ 0) × (D.bots_out door ≡ 0) × (D.shut door ≡ false) }
     requires links { vec_len links ≡ seats }
-    requires fresh_links { All (λ l. IsFresh (B.faults l) (B.finished l) (B.answers l) (B.sent l)) links.items }
+    requires fresh_links { All (λ l. IsFresh (L.faults l) (L.finished l) (L.answers l) (L.sent l)) links.items }
     ensures out { (D.out result.1 ≡ 0) × (D.bots_out result.1 ≡ 0) }
     ensures sink_never_falls { K.faults sink.old ≤ K.faults sink.new }
-    ensures serves { ServesSeats result.0 rooms sessions seats result.2.items (D.faults door) (option_map (λ n. n + seats) (D.left door)) (D.shut result.1) (D.faults result.1) (D.given result.1)
+    ensures serves { ServesSeats (hosted B.number B.stands_for B.has_stopped) result.0 (vec_len rooms) sessions seats result.2.items
+        (D.faults door) (option_map (λ n. n + seats) (D.left door)) (D.shut result.1) (D.faults result.1) (D.given result.1)
         (K.faults sink.old) (K.faults sink.new) (K.held sink.old) (K.held sink.new) }
 {
-    let bench: Bench<D, B, N> = Bench::new(door, links);
+    let bench: Bench<D, L, N> = Bench::new(door, links);
     let table = Some((game, seats));
-    let (end, bench, books) = serve_rooms(
+    let (end, bench, rooms) = serve_rooms(
         rt, alloc, rooms, places, readies, table, sessions, bench, sink, seed,
     );
-    (end, bench.into_door(), books)
+    (end, bench.into_door(), rooms)
 }

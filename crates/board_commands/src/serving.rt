@@ -1,11 +1,16 @@
 //! Serves matches, as the words of `serve` ask for, with bots or without.
 
-ghost use Rattle.std.specs.Prelude.{◌≡◌, ◌≤◌, ◌<◌, IfSome, IsSome, None, Some, [], false, map, string_bytes, vec_len};
+ghost use Rattle.std.specs.Prelude.{◌≡◌, ◌≤◌, ◌<◌, All, IfSome, IsSome, None, Some, [], false, map, string_bytes, vec_len};
+ghost use Rattle.any_game.specs.AnyRules.{any_rules};
 ghost use Rattle.board_links.specs.Faults.{HasRisen};
 ghost use Rattle.command_words.specs.Serve.{serve_from};
 ghost use Rattle.command_words.specs.declared.serve.ServeWords.{ServeWords as Asked};
 ghost use Rattle.link_play.specs.Ends.{IsComplete};
+ghost use Rattle.door_serve.specs.Rooms.{Calls, hosted, plain};
+ghost use Rattle.hosted_room.specs.Calls.{NobodyIn};
+ghost use Rattle.session_pool.specs.Rooms.{numbers};
 ghost use Rattle.session_pool.specs.Sittings.{AreServed};
+ghost use Rattle.match_master.specs.Held.{may_starve};
 ghost use Rattle.line_runner.specs.declared.exit.Exit.TheVariants.{Usage};
 ghost use Rattle.board_commands.specs.Playing.{IsRefused};
 ghost use Rattle.board_commands.specs.Serving.{Serves, exit_of, seats_asked};
@@ -16,9 +21,12 @@ use board_bots::{Bot, Rest};
 use board_links::{Door, Sink};
 use command_words::{ServeWords, WordsNo, serve_words};
 use door_serve::{ServeEnd, serve_rooms};
+use game_sheet::NoMemory;
+use hosted_room::HostedRoom;
 use line_runner::Exit;
 use link_rounds::Ready;
 use match_master::Book;
+use session_pool::plain_rooms;
 use std::alloc::Global;
 use std::sync::Wait;
 use std::thread::Threads;
@@ -70,14 +78,15 @@ where
     ensures untouched_door { serve_from (map string_bytes words.now) ≡ None → result.1 ≡ door }
     ensures untouched_sink { serve_from (map string_bytes words.now) ≡ None → sink.new ≡ sink.old }
     ensures serves { (asked : Asked) → serve_from (map string_bytes words.now) ≡ Some asked
-        → Serves asked result.0 result.2.items (D.faults door) (D.left door) (D.shut result.1) (D.faults result.1) (D.given result.1)
+        → Serves plain asked result.0 result.2.items (D.faults door) (D.left door) (D.shut result.1) (D.faults result.1) (D.given result.1)
         (K.faults sink.old) (K.faults sink.new) (K.held sink.old) (K.held sink.new) }
-    ensures served { (asked : Asked) → serve_from (map string_bytes words.now) ≡ Some asked → asked.bots ≡ None → AreServed seed asked.links (D.returned result.1) }
+    ensures served { (asked : Asked) → serve_from (map string_bytes words.now) ≡ Some asked → asked.bots ≡ None
+        → AreServed may_starve seed asked.links (D.returned result.1) }
     ensures completes { (asked : Asked) → serve_from (map string_bytes words.now) ≡ Some asked
         → (HasRisen (D.faults door) (D.faults result.1) → ⊥) → (HasRisen (K.faults sink.old) (K.faults sink.new) → ⊥) → IsComplete result.0 }
 {
     match serve_words(alloc, words) {
-        Ok(asked) => serve_asked(rt, alloc, asked, readies, door, sink, seed, bots, rests),
+        Ok(asked) => serve_plain(rt, alloc, asked, readies, door, sink, seed, bots, rests),
         Err(WordsNo::Usage) => {
             drop(readies);
             drop(bots);
@@ -93,8 +102,8 @@ where
     }
 }
 
-/// Serves as was asked for.
-fn serve_asked<
+/// Serves as was asked for, with rooms that keep nothing.
+fn serve_plain<
     D: Door + Send,
     W: Ready<D::L> + Send,
     K: Sink,
@@ -122,13 +131,66 @@ where
     requires none_back { IfSome (D.returned door) (λ told. told ≡ []) }
     ensures out { (D.out result.1 ≡ 0) × (D.bots_out result.1 ≡ 0) }
     ensures sink_never_falls { K.faults sink.old ≤ K.faults sink.new }
-    ensures served { asked.bots ≡ None → AreServed seed asked.links (D.returned result.1) }
-    ensures serves { Serves asked result.0 result.2.items (D.faults door) (D.left door) (D.shut result.1) (D.faults result.1) (D.given result.1)
+    ensures served { asked.bots ≡ None → AreServed may_starve seed asked.links (D.returned result.1) }
+    ensures serves { Serves plain asked result.0 result.2.items (D.faults door) (D.left door) (D.shut result.1) (D.faults result.1) (D.given result.1)
         (K.faults sink.old) (K.faults sink.new) (K.held sink.old) (K.held sink.new) }
+{
+    match plain_rooms(alloc, asked.rooms) {
+        Ok(rooms) => serve_asked(
+            rt, alloc, asked, rooms, readies, door, sink, seed, bots, rests,
+        ),
+        Err(NoMemory) => {
+            drop(asked);
+            drop(readies);
+            drop(bots);
+            drop(rests);
+            (Exit::NoMemory, door, Vec::new(alloc))
+        }
+    }
+}
+
+/// Serves as was asked for, with these rooms.
+fn serve_asked<
+    B: HostedRoom<AnyGame> + Send,
+    D: Door + Send,
+    W: Ready<D::L> + Send,
+    K: Sink,
+    R: Threads + Wait + Sync,
+    Z: Rest + Send,
+>(
+    rt: &R,
+    alloc: Global,
+    asked: ServeWords,
+    rooms: Vec<B>,
+    readies: Vec<W>,
+    door: D,
+    sink: &mut K,
+    seed: [u8; 32],
+    bots: Vec<Box<dyn Bot + Send>>,
+    rests: Vec<Z>,
+) -> (Exit, D, Vec<B>)
+where
+    D::L: Send,
+    requires many { vec_len rooms ≡ asked.rooms }
+    requires rooms { (0 < asked.rooms) × (asked.rooms ≤ 64) }
+    requires numbered { map (λ b. B.number b) rooms.items ≡ numbers 0 (vec_len rooms) }
+    requires stand { All (λ b. (past : Calls) × B.stands_for b past) rooms.items }
+    requires nobody { All (λ b. (past : Calls) → B.stands_for b past → NobodyIn any_rules asked.links (B.number b) past) rooms.items }
+    requires workers { (0 < asked.workers) × (asked.workers ≤ asked.links) × (asked.links ≤ 4096) }
+    requires readies { vec_len readies ≡ asked.workers }
+    requires plain { D.has_bots ≡ false }
+    requires bots { (vec_len bots ≡ seats_asked asked.bots) × (vec_len rests ≡ seats_asked asked.bots) }
+    requires fresh { (D.given door ≡ 0) × (D.out door ≡ 0) × (D.bots_out door ≡ 0) × (D.shut door ≡ false) }
+    requires none_back { IfSome (D.returned door) (λ told. told ≡ []) }
+    ensures out { (D.out result.1 ≡ 0) × (D.bots_out result.1 ≡ 0) }
+    ensures sink_never_falls { K.faults sink.old ≤ K.faults sink.new }
+    ensures served { asked.bots ≡ None → AreServed B.may_starve seed asked.links (D.returned result.1) }
+    ensures serves { Serves (hosted B.number B.stands_for B.has_stopped) asked result.0 result.2.items (D.faults door) (D.left door) (D.shut result.1)
+        (D.faults result.1) (D.given result.1) (K.faults sink.old) (K.faults sink.new) (K.held sink.old) (K.held sink.new) }
 {
     let ServeWords {
         listen,
-        rooms,
+        rooms: _,
         workers: _,
         links,
         sessions,
@@ -146,17 +208,17 @@ where
         None => {
             drop(bots);
             drop(rests);
-            let (end, door, books) = serve_rooms(
+            let (end, door, rooms) = serve_rooms(
                 rt, alloc, rooms, links, readies, None, sessions, door, sink, seed,
             );
-            (exit_of(end), door, books)
+            (exit_of(end), door, rooms)
         }
         Some((game, seats)) => {
-            let (end, door, books) = serve_seated(
+            let (end, door, rooms) = serve_seated(
                 rt, alloc, rooms, links, readies, game, seats, pace, bots, rests, sessions, door,
                 sink, seed,
             );
-            (exit_of(end), door, books)
+            (exit_of(end), door, rooms)
         }
     }
 }

@@ -1,27 +1,14 @@
--- Books that stand for histories, and their numbers.
-use Rattle.std.proofs.Common.{◌≡◌, ◌<◌, ◌+◌, ◌-◌, ℕ, suc, zero, List, [], ◌∷◌, ◌++◌, map, take, drop, Option, refl, sym, ap, ◌∙◌, subst, arith, slice_index_or, length, length-append}
-use Rattle.std.specs.Prelude.{All}
+-- Rooms that stand for histories, and their numbers.
+use Rattle.std.proofs.Common.{◌≡◌, ◌<◌, ◌+◌, ◌-◌, ℕ, suc, zero, List, [], ◌∷◌, ◌++◌, Bool, true, false, map, take, drop, refl, sym, ap, ◌∙◌, subst, arith, slice_index_or, length, length-append}
+use Rattle.std.specs.Prelude.{All, Option, None, Some, if◌then◌else◌, is_some, not}
 use Rattle.std.proofs.lemmas.List.{append_assoc, length-drop, length-map, map-append, take_all}
 use Rattle.std.proofs.lemmas.List.Elements.{All-append}
 use Rattle.any_game.specs.AnyRules.{any_rules}
-use Rattle.any_game.specs.GameKind.{GameKind}
-use Rattle.any_game.specs.declared.any_g.AnyG.{AnyG}
-use Rattle.match_master.specs.Held.{Held as Book, StandsFor}
+use Rattle.hosted_room.specs.Calls.{IsRowOf}
 use Rattle.room_history.specs.Room.{number, serials}
 use Rattle.session_pool.specs.Rooms.{numbers}
-use Rattle.door_serve.specs.Report.{room_text, row_text}
-use Rattle.door_serve.specs.Rooms.{History, IsARoom, Numbered, Stand}
-
-abbrev Books : Type 0
-Books = List (Book GameKind AnyG)
-
--- each has its history
-pub all_stand : (books : Books) → All IsARoom books → (histories : List History) × Stand books histories
-all_stand [] h = ([], tt)
-all_stand (book ∷ books) h =
-    let first : IsARoom book = h 0 book (omega arith) in
-    let more = all_stand books (λ k d low. h (suc k) d (omega (arith, low))) in
-    (first.0 ∷ more.0, (first.1, more.1))
+use Rattle.door_serve.specs.Report.{line_text, room_text, row_text}
+use Rattle.door_serve.specs.Rooms.{Calls, Hosted, IsARoom, Numbered, Stand, row_of, rows_of}
 
 -- numbers from one on begin with it
 numbers_first : (k n : ℕ) → numbers k (suc n) ≡ k ∷ numbers (k + 1) n
@@ -34,61 +21,90 @@ abbrev tail_of : List ℕ → List ℕ
 tail_of [] = []
 tail_of (x ∷ xs) = xs
 
--- rooms with such numbers are numbered so
-pub numbered : (books : Books) (k n : ℕ) → map (λ b. b.room) books ≡ numbers k n → Numbered k books
-numbered [] k n e = tt
-numbered (book ∷ books) k zero e = let l = ap length e in absurd (omega (arith, l))
-numbered (book ∷ books) k (suc n) e =
-    let is = e ∙ numbers_first k n in
-    (ap (λ l. slice_index_or l 0 k) is, numbered books (k + 1) n (ap tail_of is))
-
 -- rooms have so many numbers
 as_many_numbers : (k n : ℕ) → length (numbers k n) ≡ n
 as_many_numbers k zero = refl
 as_many_numbers k (suc n) = let m = as_many_numbers k n in let l = length-append (numbers k n) ((k + n) ∷ []) in omega (arith, m, l)
 
-pub as_many_rooms : (books : Books) (k n : ℕ) → map (λ b. b.room) books ≡ numbers k n → length books ≡ n
-as_many_rooms books k n e =
-    let l = ap length e in let m = as_many_numbers k n in let r = length-map books (λ (b : Book GameKind AnyG). b.room) in omega (arith, l, m, r)
+abbrev said : Bool → Calls → Option Calls
+said stopped h = if stopped then None else Some h
 
-pub rest_of : (books : Books) → take (length books - 1) (drop 1 books) ≡ drop 1 books
-rest_of books = take_all (length books - 1) (drop 1 books) (omega (arith, length-drop 1 books))
+-- a row says what the calls of a room came to, or that the room has stopped
+says_row : (room k : ℕ) (stopped : Bool) (h : Calls) (row : Option (ℕ × Option ℕ)) → room ≡ k → is_some row ≡ not stopped → IsRowOf any_rules room h row
+    → line_text k row ≡ room_text k (said stopped h)
+says_row room k true h None at stops is = refl
+says_row room k true h (Some row) at stops is = cc stops
+says_row room k false h None at stops is = cc stops
+says_row room k false h (Some row) at stops is =
+    ap (λ n. row_text k n row.1) is.0 ∙ (ap (λ n. row_text k (serials any_rules room h) n) is.1
+    ∙ ap (λ r. row_text k (serials any_rules r h) (number any_rules r h)) at)
 
--- the first of books, its history, and the rest
-pub first_of : (books rest : Books) (book : Book GameKind AnyG) (room : ℕ) (histories : List History) → 0 < length books → book ≡ slice_index_or books 0 book → rest ≡ drop 1 books
-    → Stand books histories → Numbered room books
-    → (h : History) × (more : List History) × (histories ≡ h ∷ more) × StandsFor any_rules book h × (book.room ≡ room) × Stand rest more × Numbered (room + 1) rest
-first_of [] rest book room histories some is others s n = absurd (omega arith)
-first_of (b ∷ books) rest book room [] some is others s n = absurd s
-first_of (b ∷ books) rest book room (h ∷ more) some is others s n =
-    (h, more, refl, subst (λ x. StandsFor any_rules x h) (sym is) s.0, ap (λ x. x.room) is ∙ n.0, subst (λ bs. Stand bs more) (sym others) s.1, subst (Numbered (room + 1)) (sym others) n.1)
+module _ {B : Type 0} where
+  -- each has its history
+  pub all_stand : (stands_for : B → Calls → Type 0) (rooms : List B) → All (IsARoom stands_for) rooms → (histories : List Calls) × Stand stands_for rooms histories
+  all_stand stands_for [] h = ([], tt)
+  all_stand stands_for (room ∷ rooms) h =
+      let first : IsARoom stands_for room = h 0 room (omega arith) in
+      let more = all_stand stands_for rooms (λ k d low. h (suc k) d (omega (arith, low))) in
+      (first.0 ∷ more.0, (first.1, more.1))
 
--- a book's row is its history's
-pub row_of_room : (book : Book GameKind AnyG) (h : History) (room serial : ℕ) (standing : Option ℕ) → book.room ≡ room → serial ≡ serials any_rules book.room h → standing ≡ number any_rules book.room h
-    → row_text room serial standing ≡ room_text room h
-row_of_room book h room serial standing at many now =
-    ap (λ n. row_text room n standing) (many ∙ ap (λ r. serials any_rules r h) at) ∙ ap (λ n. row_text room (serials any_rules room h) n) (now ∙ ap (λ r. number any_rules r h) at)
+  -- rooms with such numbers are numbered so
+  pub numbered : (number : B → ℕ) (rooms : List B) (k n : ℕ) → map number rooms ≡ numbers k n → Numbered number k rooms
+  numbered number [] k n e = tt
+  numbered number (room ∷ rooms) k zero e = let l = ap length e in absurd (omega (arith, l))
+  numbered number (room ∷ rooms) k (suc n) e =
+      let is = e ∙ numbers_first k n in
+      (ap (λ l. slice_index_or l 0 k) is, numbered number rooms (k + 1) n (ap tail_of is))
 
--- one room more
-pub one_room_more : (books after : Books) (book : Book GameKind AnyG) → after ≡ books ++ book ∷ [] → All IsARoom books → IsARoom book → All IsARoom after
-one_room_more books after book push all here = subst (All IsARoom) (sym push) (All-append IsARoom books (book ∷ []) all (one book here))
-  where
-    one : (b : Book GameKind AnyG) → IsARoom b → All IsARoom (b ∷ [])
-    one b h zero d low = h
-    one b h (suc k) d low = absurd (omega arith)
+  pub as_many_rooms : (number : B → ℕ) (rooms : List B) (k n : ℕ) → map number rooms ≡ numbers k n → length rooms ≡ n
+  as_many_rooms number rooms k n e =
+      let l = ap length e in let m = as_many_numbers k n in let r = length-map rooms number in omega (arith, l, m, r)
 
--- the rooms of the books are numbered on by the last desk's
-pub numbers_on : {D : Type 0} (object : D → ℕ) (old between after : Books) (desks left : List D) (d : D) (book : Book GameKind AnyG) → desks ≡ left ++ d ∷ []
-    → map (λ b. b.room) between ≡ map (λ b. b.room) old ++ map object left → after ≡ between ++ book ∷ [] → book.room ≡ object d
-    → map (λ b. b.room) after ≡ map (λ b. b.room) old ++ map object desks
-numbers_on object old between after desks left d book e is push at =
-    let room : Book GameKind AnyG → ℕ = λ b. b.room in
-    ap (map room) push ∙ (map-append room between (book ∷ []) ∙ (ap (λ l. l ++ book.room ∷ []) is ∙ (append_assoc (map room old) (map object left) (book.room ∷ [])
-    ∙ ap (λ l. map room old ++ l) (ap (λ r. map object left ++ r ∷ []) at ∙ (sym (map-append object left (d ∷ [])) ∙ ap (map object) (sym e))))))
+  pub rest_of : (rooms : List B) → take (length rooms - 1) (drop 1 rooms) ≡ drop 1 rooms
+  rest_of rooms = take_all (length rooms - 1) (drop 1 rooms) (omega (arith, length-drop 1 rooms))
 
--- as many books were added as desks were closed
-pub as_many_more : {D : Type 0} (object : D → ℕ) (old between : Books) (left : List D) → map (λ b. b.room) between ≡ map (λ b. b.room) old ++ map object left → length between ≡ length old + length left
-as_many_more object old between left is =
-    let room : Book GameKind AnyG → ℕ = λ b. b.room in
-    let e = ap length is in let a = length-map between room in let b = length-map old room in let c = length-map left object in let d = length-append (map room old) (map object left) in
-    omega (arith, e, a, b, c, d)
+  -- the first of rooms, its history, and the rest
+  pub first_of : (known : Hosted B) (rooms rest : List B) (room : B) (k : ℕ) (histories : List Calls) → 0 < length rooms → room ≡ slice_index_or rooms 0 room → rest ≡ drop 1 rooms
+      → Stand known.stands_for rooms histories → Numbered known.number k rooms
+      → (h : Calls) × (more : List Calls) × (rows_of known rooms histories ≡ row_of known room h ∷ rows_of known rest more) × known.stands_for room h × (known.number room ≡ k)
+      × Stand known.stands_for rest more × Numbered known.number (k + 1) rest
+  first_of known [] rest room k histories some is others s n = absurd (omega arith)
+  first_of known (b ∷ rooms) rest room k [] some is others s n = absurd s
+  first_of known (b ∷ rooms) rest room k (h ∷ more) some is others s n = (
+    h,
+    more,
+    ap (λ x. row_of known x h ∷ rows_of known rooms more) (sym is) ∙ ap (λ bs. row_of known room h ∷ rows_of known bs more) (sym others),
+    subst (λ x. known.stands_for x h) (sym is) s.0,
+    ap known.number is ∙ n.0,
+    subst (λ bs. Stand known.stands_for bs more) (sym others) s.1,
+    subst (Numbered known.number (k + 1)) (sym others) n.1,
+  )
+
+  -- a room's line is that of its row
+  pub line_of_room : (known : Hosted B) (room : B) (h : Calls) (k : ℕ) (row : Option (ℕ × Option ℕ)) → known.number room ≡ k → is_some row ≡ not (known.has_stopped room)
+      → IsRowOf any_rules (known.number room) h row → line_text k row ≡ room_text k (row_of known room h)
+  line_of_room known room h k row at stops is = says_row (known.number room) k (known.has_stopped room) h row at stops is
+
+  -- one room more
+  pub one_room_more : (stands_for : B → Calls → Type 0) (rooms after : List B) (room : B) → after ≡ rooms ++ room ∷ [] → All (IsARoom stands_for) rooms → IsARoom stands_for room
+      → All (IsARoom stands_for) after
+  one_room_more stands_for rooms after room push all here = subst (All (IsARoom stands_for)) (sym push) (All-append (IsARoom stands_for) rooms (room ∷ []) all (one room here))
+    where
+      one : (b : B) → IsARoom stands_for b → All (IsARoom stands_for) (b ∷ [])
+      one b h zero d low = h
+      one b h (suc k) d low = absurd (omega arith)
+
+  -- the rooms are numbered on by the last desk's
+  pub numbers_on : {D : Type 0} (number : B → ℕ) (object : D → ℕ) (old between after : List B) (desks left : List D) (d : D) (room : B) → desks ≡ left ++ d ∷ []
+      → map number between ≡ map number old ++ map object left → after ≡ between ++ room ∷ [] → number room ≡ object d
+      → map number after ≡ map number old ++ map object desks
+  numbers_on number object old between after desks left d room e is push at =
+      ap (map number) push ∙ (map-append number between (room ∷ []) ∙ (ap (λ l. l ++ number room ∷ []) is ∙ (append_assoc (map number old) (map object left) (number room ∷ [])
+      ∙ ap (λ l. map number old ++ l) (ap (λ r. map object left ++ r ∷ []) at ∙ (sym (map-append object left (d ∷ [])) ∙ ap (map object) (sym e))))))
+
+  -- as many rooms were added as desks were closed
+  pub as_many_more : {D : Type 0} (number : B → ℕ) (object : D → ℕ) (old between : List B) (left : List D) → map number between ≡ map number old ++ map object left
+      → length between ≡ length old + length left
+  as_many_more number object old between left is =
+      let e = ap length is in let a = length-map between number in let b = length-map old number in let c = length-map left object in let d = length-append (map number old) (map object left) in
+      omega (arith, e, a, b, c, d)

@@ -18,7 +18,7 @@ use Rattle.session_pool.specs.Placed.{AttachedBy, is_in}
 
 -- making a match attaches nobody
 pub made_free : (passes : List Pass) (p q : Pass) (game : GameKind) (seats : ℕ) (seed : List ℕ) (told : RoomReply)
-    → p ≡ slice_index_or passes 0 p → q ≡ held p.desk p.number q.seen
+    → p ≡ slice_index_or passes 0 p → q ≡ held p.desk p.number p.before q.seen
     → Called (reply any_rules p.desk.object) p.seen (entry p.number (call.Create game seats seed) (is_starved told)) told q.seen
     → AttachedBy passes None → AttachedBy (slice_set passes 0 q) None
 made_free passes p q game seats seed told here is called by i d low =
@@ -28,5 +28,6 @@ made_free passes p q game seats seed told here is called by i d low =
     let within : 0 < length passes = omega (arith, low, many, same) in
     let at_q : slice_index_or (slice_set passes 0 q) i d ≡ q = ap (λ k. slice_index_or (slice_set passes 0 q) k d) same ∙ get_or-set_same passes 0 q d within in
     let before : is_in p ≡ false = ap is_in here ∙ by 0 p within in
-    ap is_in at_q ∙ (ap is_in is ∙ (called_attached any_rules p.desk.object p.number (call.Create game seats seed) told p.seen q.seen called ∙ before)))
+    ap is_in at_q
+    ∙ (ap is_in is ∙ (called_attached any_rules p.desk.object p.number (call.Create game seats seed) told p.seen q.seen called ∙ before)))
     (λ other. ap is_in (get_or-set_other passes 0 i q d other) ∙ by i d (omega (arith, low, many)))

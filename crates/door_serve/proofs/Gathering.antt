@@ -5,6 +5,7 @@ use Rattle.std.proofs.lemmas.List.{get_or-set_same, get_or-set_other, get_or-rep
 use mathlib.Core.Logic.{dite}
 use native.Mathlib.Decide.{ℕ_discrete}
 use Rattle.room_desk.specs.History.{DeskId, Held, SetUp, dealt, held}
+use Rattle.room_object.specs.Entry.{Entry}
 use Rattle.session_pool.specs.Passes.{Belong, Pass, dealt_by, number_of, unseen}
 use Rattle.door_serve.specs.Rooms.{desks_of}
 
@@ -117,13 +118,13 @@ pub rows_end : {Row : Type 0} (items : Row → List Pass) (desks left : List Set
     → All (λ r. desks_of (items r) ≡ map (λ e. e.desk) left ++ d.desk ∷ []) rows
 rows_end items desks left d rows e all k r low = all k r low ∙ (ap (λ ds. map (λ (e : SetUp). e.desk) ds) e ∙ map-append (λ (e : SetUp). e.desk) left (d ∷ []))
 
-all_dealt : (C : Type 0) (desk : DeskId) (n : ℕ) → length (dealt {C = C} desk n) ≡ n
-all_dealt C desk zero = refl
-all_dealt C desk (suc n) = let l = length-append (dealt {C = C} desk n) (held desk n [] ∷ []) in let m = all_dealt C desk n in omega (arith, l, m)
+all_dealt : (C : Type 0) (past : List (Entry C)) (desk : DeskId) (n : ℕ) → length (dealt past desk n) ≡ n
+all_dealt C past desk zero = refl
+all_dealt C past desk (suc n) = let l = length-append (dealt past desk n) (held desk n past past ∷ []) in let m = all_dealt C past desk n in omega (arith, l, m)
 
 -- a desk deals as many passes as it was set up with
-pub as_many_dealt : {C : Type 0} (passes : List (Held C)) (desk : DeskId) (n : ℕ) → passes ≡ dealt desk n → length passes ≡ n
-as_many_dealt {C} passes desk n e = ap length e ∙ all_dealt C desk n
+pub as_many_dealt : {C : Type 0} (passes : List (Held C)) (past : List (Entry C)) (desk : DeskId) (n : ℕ) → passes ≡ dealt past desk n → length passes ≡ n
+as_many_dealt {C} passes past desk n e = ap length e ∙ all_dealt C past desk n
 
 -- as many rows are handed back
 pub as_many_back : {V : Type 0} (items : V → List Pass) (before after : List V) → map (λ v. map unseen (items v)) after ≡ map (λ v. map unseen (items v)) before → length after ≡ length before

@@ -1,16 +1,13 @@
--- How the serving of rooms ends, and what it says of the door, of the sink and of the books that are handed back.
+-- How the serving of rooms ends, and what it says of the door, of the sink and of the rooms that are handed back.
 use Rattle.std.specs.Prelude.{◌≡◌, ◌⊎◌, ℕ, List, [], ◌++◌, length, take, Bool, Option, Some}
-use Rattle.any_game.specs.GameKind.{GameKind}
-use Rattle.any_game.specs.declared.any_g.AnyG.{AnyG}
 use Rattle.board_links.specs.Faults.{HasRisen}
-use Rattle.match_master.specs.Held.{Held as Book}
 use Rattle.link_rounds.specs.Gate.{Ended}
 use Rattle.board_links.specs.declared.sink.Put as sink
 use Rattle.board_links.specs.declared.sink.Put.TheVariants as put
 use Rattle.link_rounds.specs.declared.gate.DoorEnd.{DoorEnd}
 use Rattle.link_rounds.specs.declared.gate.DoorEnd.TheVariants as door
 use Rattle.door_serve.specs.Report.{report}
-use Rattle.door_serve.specs.Rooms.{History, Numbered, Stand}
+use Rattle.door_serve.specs.Rooms.{Calls, Hosted, Numbered, Stand, rows_of}
 use Rattle.door_serve.specs.declared.serving.ServeEnd.{ServeEnd}
 use Rattle.door_serve.specs.declared.serving.ServeEnd.TheVariants as end
 
@@ -34,14 +31,14 @@ abbrev pub Printed : ServeEnd → List ℕ → List ℕ → Option (List ℕ) �
 Printed end.WriteFault text before after = (n : ℕ) × (after ≡ Some (before ++ take n text))
 Printed other text before after = after ≡ Some (before ++ text)
 
--- the rooms were closed: each book stands for one history
-pub record AreClosed (rooms : ℕ) (books : List (Book GameKind AnyG)) (histories : List History) : Type 0 where
-  pub many : length books ≡ rooms
-  pub numbered : Numbered 0 books
-  pub stand : Stand books histories
+-- so many rooms were closed: each stands for one history
+pub record AreClosed {B : Type 0} (known : Hosted B) (count : ℕ) (rooms : List B) (histories : List Calls) : Type 0 where
+  pub many : length rooms ≡ count
+  pub numbered : Numbered known.number 0 rooms
+  pub stand : Stand known.stands_for rooms histories
 
--- what is handed back, and what was printed: the report of the rooms; or there was no memory to set them up, and nothing was printed
-abbrev pub Reports : ℕ → ℕ → List (Book GameKind AnyG) → ServeEnd → List ℕ → Option (List ℕ) → Type 0
-Reports rooms count books how before after =
-    ((histories : List History) × AreClosed rooms books histories × Printed how (report count histories) before after)
-    ⊎ ((how ≡ end.NoMemory) × (books ≡ []) × (count ≡ 0) × (after ≡ Some before))
+-- what is handed back, and what was printed: the report of so many rooms; or there was no memory to set them up, and nothing was printed
+abbrev pub Reports : {B : Type 0} → Hosted B → ℕ → ℕ → List B → ServeEnd → List ℕ → Option (List ℕ) → Type 0
+Reports known many count rooms how before after =
+    ((histories : List Calls) × AreClosed known many rooms histories × Printed how (report count (rows_of known rooms histories)) before after)
+    ⊎ ((how ≡ end.NoMemory) × (rooms ≡ []) × (count ≡ 0) × (after ≡ Some before))

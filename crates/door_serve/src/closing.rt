@@ -4,15 +4,15 @@ ghost use Rattle.std.specs.Prelude.{◌≡◌, ◌≤◌, ◌+◌, ◌++◌, ◌
 ghost use Rattle.door_serve.specs.Rooms.{IsARoom, desks_of};
 
 use any_game::AnyGame;
-use match_master::Book;
+use hosted_room::HostedRoom;
 use room_desk::{Desk, Pass};
 
 /// Takes the last pass of each place.
-fn take_last(
-    desks: &[Desk<Book<AnyGame>>],
-    desk: &Desk<Book<AnyGame>>,
-    rows: &mut [Vec<Pass<Book<AnyGame>>>],
-    passes: &mut Vec<Pass<Book<AnyGame>>>,
+fn take_last<B: HostedRoom<AnyGame>>(
+    desks: &[Desk<B>],
+    desk: &Desk<B>,
+    rows: &mut [Vec<Pass<B>>],
+    passes: &mut Vec<Pass<B>>,
 )
     requires room { vec_len passes.old + length rows.old ≤ vec_capacity passes.old }
     requires none { passes.old.items ≡ [] }
@@ -30,31 +30,31 @@ fn take_last(
 }
 
 /// Closes a desk to which all passes came back.
-fn close(desk: Desk<Book<AnyGame>>, passes: Vec<Pass<Book<AnyGame>>>) -> Book<AnyGame>
+fn close<B: HostedRoom<AnyGame>>(desk: Desk<B>, passes: Vec<Pass<B>>) -> B
     requires { desks_of passes.items ≡ replicate desk.passes desk.desk }
-    ensures number { result.room ≡ desk.desk.object }
-    ensures stands { IsARoom result }
+    ensures number { B.number result ≡ desk.desk.object }
+    ensures stands { IsARoom B.stands_for result }
 {
     match desk.close(passes) {
-        Ok(book) => book,
+        Ok(room) => room,
         Err(_) => unreachable!(),
     }
 }
 
 /// Closes all desks, and adds their rooms in the order of the desks. It takes no memory.
-pub(crate) fn close_all(
-    desks: &mut Vec<Desk<Book<AnyGame>>>,
-    rows: &mut [Vec<Pass<Book<AnyGame>>>],
-    spare: &mut Vec<Vec<Pass<Book<AnyGame>>>>,
-    books: &mut Vec<Book<AnyGame>>,
+pub(crate) fn close_all<B: HostedRoom<AnyGame>>(
+    desks: &mut Vec<Desk<B>>,
+    rows: &mut [Vec<Pass<B>>],
+    spare: &mut Vec<Vec<Pass<B>>>,
+    rooms: &mut Vec<B>,
 )
     requires counts { All (λ d. d.passes ≡ length rows.old) desks.old.items }
     requires rows { All (λ r. desks_of r.items ≡ map (λ d. d.desk) desks.old.items) rows.old }
     requires spare { (vec_len spare.old ≡ vec_len desks.old) × All (λ v. (v.items ≡ []) × (length rows.old ≤ vec_capacity v)) spare.old.items }
-    requires room { vec_len books.old + vec_len desks.old ≤ vec_capacity books.old }
-    ensures numbers { map (λ b. b.room) books.new.items ≡ map (λ b. b.room) books.old.items ++ map (λ d. d.desk.object) desks.old.items }
-    ensures stand { All IsARoom books.old.items → All IsARoom books.new.items }
-    ensures room { vec_capacity books.new ≡ vec_capacity books.old }
+    requires room { vec_len rooms.old + vec_len desks.old ≤ vec_capacity rooms.old }
+    ensures numbers { map (λ b. B.number b) rooms.new.items ≡ map (λ b. B.number b) rooms.old.items ++ map (λ d. d.desk.object) desks.old.items }
+    ensures stand { All (IsARoom B.stands_for) rooms.old.items → All (IsARoom B.stands_for) rooms.new.items }
+    ensures room { vec_capacity rooms.new ≡ vec_capacity rooms.old }
 {
     let Some(desk) = desks.pop() else {
         return;
@@ -63,6 +63,6 @@ pub(crate) fn close_all(
         unreachable!()
     };
     take_last(desks.as_slice(), &desk, rows, &mut passes);
-    close_all(desks, rows, spare, books);
-    books.push_reserved(close(desk, passes));
+    close_all(desks, rows, spare, rooms);
+    rooms.push_reserved(close(desk, passes));
 }

@@ -13,7 +13,7 @@ ghost use Rattle.session_pool.specs.Placed.{AttachedBy};
 use any_game::AnyGame;
 use dice_words::Tape;
 use game_hall::match_seed;
-use match_master::Book;
+use hosted_room::HostedRoom;
 use room_desk::{Desk, Pass};
 use room_history::{RoomCall, RoomReply};
 use std::sync::Wait;
@@ -34,10 +34,10 @@ fn seed_for(seed: [u8; 32]) -> [u8; 32]
 
 /// Makes a match of so many seats in the first room, by the first of these passes, with words 0 to 7 of stream 32 of the seed. False where there
 /// was no memory for it; any other reply is as good as another.
-fn make_match<R: Wait>(
+fn make_match<B: HostedRoom<AnyGame>, R: Wait>(
     rt: &R,
-    desks: &[Desk<Book<AnyGame>>],
-    passes: &mut [Pass<Book<AnyGame>>],
+    desks: &[Desk<B>],
+    passes: &mut [Pass<B>],
     game: AnyGame,
     seats: u8,
     seed: [u8; 32],
@@ -45,7 +45,7 @@ fn make_match<R: Wait>(
     requires some { 0 < length desks.now }
     requires belong { Belong desks.now (number_of passes.old) passes.old }
     requires free { AttachedBy passes.old None }
-    ensures made { (told : Reply) × CallsDesk passes.old (did 0 (call.Create game seats (seed_of None (live seed 32 0).left)) told) passes.new
+    ensures made { (told : Reply) × CallsDesk B.may_starve passes.old (did 0 (call.Create game seats (seed_of None (live seed 32 0).left)) told) passes.new
         × (result ≡ not (is_starved told)) }
     ensures belong { Belong desks.now (number_of passes.new) passes.new }
     ensures number { number_of passes.new ≡ number_of passes.old }
@@ -70,10 +70,10 @@ fn is_made(reply: RoomReply) -> bool
 }
 
 /// Makes the match at which bots are to sit, if there is to be one, by the first place's pass. False where there was no memory for it.
-pub(crate) fn open_match<R: Wait>(
+pub(crate) fn open_match<B: HostedRoom<AnyGame>, R: Wait>(
     rt: &R,
-    desks: &[Desk<Book<AnyGame>>],
-    rows: &mut Vec<Vec<Pass<Book<AnyGame>>>>,
+    desks: &[Desk<B>],
+    rows: &mut Vec<Vec<Pass<B>>>,
     table: Option<(AnyGame, u8)>,
     seed: [u8; 32],
 ) -> bool

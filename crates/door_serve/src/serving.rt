@@ -1,12 +1,15 @@
 //! Makes the match of bots, serves the links of a door, closes the rooms, and reports.
 
-ghost use Rattle.std.specs.Prelude.{◌≡◌, ◌≤◌, ◌<◌, [], All, IfOk, IfSome, IsSome, None, false, length, map, vec_capacity, vec_len};
+ghost use Rattle.std.specs.Prelude.{◌≡◌, ◌≤◌, ◌<◌, ℕ, [], All, IfOk, IfSome, IsSome, None, false, length, map, vec_capacity, vec_len};
+ghost use Rattle.any_game.specs.AnyRules.{any_rules};
 ghost use Rattle.board_links.specs.Pieces.{told_bytes};
+ghost use Rattle.hosted_room.specs.Calls.{NobodyIn};
 ghost use Rattle.session_pool.specs.Passes.{Belong, number_of};
 ghost use Rattle.session_pool.specs.Placed.{AttachedBy};
 ghost use Rattle.session_pool.specs.Rooms.{numbers};
 ghost use Rattle.session_pool.specs.Sittings.{AreServed};
 ghost use Rattle.door_serve.specs.Ends.{EndsBy, Reports, end_of};
+ghost use Rattle.door_serve.specs.Rooms.{Calls, hosted};
 
 use crate::closing::close_all;
 use crate::opening::open_match;
@@ -15,8 +18,8 @@ use any_game::AnyGame;
 use bench_wishes::Wishes;
 use board_links::{Door, Put, Sink};
 use game_sheet::NoMemory;
+use hosted_room::HostedRoom;
 use link_rounds::{DoorEnd, Ready};
-use match_master::Book;
 use room_desk::{Desk, Pass};
 use session_pool::{serve_door, set_up_rooms};
 use std::alloc::Global;
@@ -36,25 +39,25 @@ pub enum ServeEnd {
     NoMemory,
 }
 
-/// What it takes to close rooms, taken before they are served: a list for the passes of each room, and one for their books.
+/// What it takes to close rooms, taken before they are served: a list for the passes of each room, and one for the rooms.
 #[derive(Drop)]
-struct Spare {
+struct Spare<B: HostedRoom<AnyGame>> {
     rooms: u8,
     places: u16,
-    lists: Vec<Vec<Pass<Book<AnyGame>>>>,
-    books: Vec<Book<AnyGame>>,
+    lists: Vec<Vec<Pass<B>>>,
+    back: Vec<B>,
     ghost many: { vec_len lists ≡ rooms },
     ghost empty: { All (λ v. (v.items ≡ []) × (places ≤ vec_capacity v)) lists.items },
-    ghost none: { books.items ≡ [] },
-    ghost room: { rooms ≤ vec_capacity books },
+    ghost none: { back.items ≡ [] },
+    ghost room: { rooms ≤ vec_capacity back },
 }
 
 /// Lists that are empty, each with room for so many passes.
-fn lists_for(
+fn lists_for<B: HostedRoom<AnyGame>>(
     alloc: Global,
     rooms: u8,
     places: u16,
-) -> Result<Vec<Vec<Pass<Book<AnyGame>>>>, NoMemory>
+) -> Result<Vec<Vec<Pass<B>>>, NoMemory>
     ensures many { IfOk result (λ s. vec_len s ≡ rooms) }
     ensures empty { IfOk result (λ s. All (λ v. (v.items ≡ []) × (places ≤ vec_capacity v)) s.items) }
 {
@@ -67,17 +70,21 @@ fn lists_for(
 }
 
 /// What it takes to close so many rooms, of so many passes each.
-fn spare_for(alloc: Global, rooms: u8, places: u16) -> Result<Spare, NoMemory>
+fn spare_for<B: HostedRoom<AnyGame>>(
+    alloc: Global,
+    rooms: u8,
+    places: u16,
+) -> Result<Spare<B>, NoMemory>
     ensures rooms { IfOk result (λ s. s.rooms ≡ rooms) }
     ensures places { IfOk result (λ s. s.places ≡ places) }
 {
     let lists = lists_for(alloc, rooms, places)?;
-    let books = Vec::with_capacity(alloc, rooms as usize)?;
+    let back = Vec::with_capacity(alloc, rooms as usize)?;
     Ok(Spare {
         rooms,
         places,
         lists,
-        books,
+        back,
     })
 }
 
@@ -95,9 +102,12 @@ fn end_of(end: DoorEnd, printed: Put) -> ServeEnd
     }
 }
 
-/// Serves the links of a door with rooms, at 1 to 4,096 places, which are dealt over as many workers as there are of `readies`; until the door is
-/// shut, has given so many sessions, or fails. Then closes the rooms, and reports. The books come back in the order of the rooms, or none where
-/// there was no memory to set them up.
+/// Serves the links of a door with 1 to 64 rooms, at 1 to 4,096 places, which are dealt over as many workers as there are of `readies`; until the
+/// door is shut, has given so many sessions, or fails. Then closes the rooms, and reports. The rooms come back in their order, or none where there
+/// was no memory to set them up: they are dropped then.
+///
+/// The rooms are numbered from 0. Each may have had calls before; at their end no pass of these places is attached. Each that comes back stands for one
+/// history. The report says of a room that hasn't stopped what its calls came to, and of one that has that it has stopped.
 ///
 /// A match of `table` is made first, if there is one: of this game, with so many seats, in room 0, by the first place's pass, with words 0 to 7 of
 /// stream 32 of the seed. Without memory for it no link is asked for; after any other reply the serving goes on.
@@ -105,10 +115,16 @@ fn end_of(end: DoorEnd, printed: Put) -> ServeEnd
 /// There is a worker or more, and a place for each. The door has given no link, hasn't answered that it is shut, and tells of none that came back.
 /// Place p draws its words from stream p of the seed, one session after another. No link is out when it returns; a door that tells what came back
 /// tells only links that were served at these places.
-pub fn serve_rooms<D: Door + Send, W: Ready<D::L> + Send, K: Sink, R: Threads + Wait + Sync>(
+pub fn serve_rooms<
+    B: HostedRoom<AnyGame> + Send,
+    D: Door + Send,
+    W: Ready<D::L> + Send,
+    K: Sink,
+    R: Threads + Wait + Sync,
+>(
     rt: &R,
     alloc: Global,
-    rooms: u8,
+    rooms: Vec<B>,
     places: u16,
     readies: Vec<W>,
     table: Option<(AnyGame, u8)>,
@@ -116,26 +132,31 @@ pub fn serve_rooms<D: Door + Send, W: Ready<D::L> + Send, K: Sink, R: Threads + 
     door: D,
     sink: &mut K,
     seed: [u8; 32],
-) -> (ServeEnd, D, Vec<Book<AnyGame>>)
+) -> (ServeEnd, D, Vec<B>)
 where
     D::L: Send,
-    requires rooms { (0 < rooms) × (rooms ≤ 64) }
+    requires rooms { (0 < vec_len rooms) × (vec_len rooms ≤ 64) }
+    requires numbered { map (λ b. B.number b) rooms.items ≡ numbers 0 (vec_len rooms) }
+    requires stand { All (λ b. (past : Calls) × B.stands_for b past) rooms.items }
+    requires nobody { All (λ b. (past : Calls) → B.stands_for b past → NobodyIn any_rules places (B.number b) past) rooms.items }
     requires places { (0 < places) × (places ≤ 4096) }
     requires some { 0 < vec_len readies }
     requires enough { vec_len readies ≤ places }
     requires fresh { (D.given door ≡ 0) × (D.out door ≡ 0) × (D.bots_out door ≡ 0) × (D.shut door ≡ false) }
     requires none_back { IfSome (D.returned door) (λ told. told ≡ []) }
     ensures out { (D.out result.1 ≡ 0) × (D.bots_out result.1 ≡ 0) }
-    ensures served { AreServed seed places (D.returned result.1) }
+    ensures served { AreServed B.may_starve seed places (D.returned result.1) }
     ensures sink_never_falls { K.faults sink.old ≤ K.faults sink.new }
     ensures ended { EndsBy result.0 sessions (D.faults door) (D.left door) (D.shut result.1) (D.faults result.1) (D.given result.1) (K.faults sink.old) (K.faults sink.new) }
-    ensures reports { IsSome (K.held sink.old) → Reports rooms (D.given result.1) result.2.items result.0 (told_bytes (K.held sink.old)) (K.held sink.new) }
+    ensures reports { let known = hosted B.number B.stands_for B.has_stopped in IsSome (K.held sink.old)
+        → Reports known (vec_len rooms) (D.given result.1) result.2.items result.0 (told_bytes (K.held sink.old)) (K.held sink.new) }
 {
-    match spare_for(alloc, rooms, places) {
+    match spare_for(alloc, rooms.len() as u8, places) {
         Ok(spare) => serve_with(
             rt, alloc, rooms, places, readies, spare, table, sessions, door, sink, seed,
         ),
         Err(NoMemory) => {
+            drop(rooms);
             drop(readies);
             drop(table);
             (ServeEnd::NoMemory, door, Vec::new(alloc))
@@ -154,35 +175,46 @@ fn set_up_bench(alloc: Global, places: u16) -> Result<(Desk<Wishes>, Vec<Pass<Wi
 }
 
 /// Sets the bench and the rooms up, and serves.
-fn serve_with<D: Door + Send, W: Ready<D::L> + Send, K: Sink, R: Threads + Wait + Sync>(
+fn serve_with<
+    B: HostedRoom<AnyGame> + Send,
+    D: Door + Send,
+    W: Ready<D::L> + Send,
+    K: Sink,
+    R: Threads + Wait + Sync,
+>(
     rt: &R,
     alloc: Global,
-    rooms: u8,
+    rooms: Vec<B>,
     places: u16,
     readies: Vec<W>,
-    spare: Spare,
+    spare: Spare<B>,
     table: Option<(AnyGame, u8)>,
     sessions: u32,
     door: D,
     sink: &mut K,
     seed: [u8; 32],
-) -> (ServeEnd, D, Vec<Book<AnyGame>>)
+) -> (ServeEnd, D, Vec<B>)
 where
     D::L: Send,
-    requires rooms { (0 < rooms) × (rooms ≤ 64) }
+    requires rooms { (0 < vec_len rooms) × (vec_len rooms ≤ 64) }
+    requires numbered { map (λ b. B.number b) rooms.items ≡ numbers 0 (vec_len rooms) }
+    requires stand { All (λ b. (past : Calls) × B.stands_for b past) rooms.items }
+    requires nobody { All (λ b. (past : Calls) → B.stands_for b past → NobodyIn any_rules places (B.number b) past) rooms.items }
     requires places { (0 < places) × (places ≤ 4096) }
     requires some { 0 < vec_len readies }
     requires enough { vec_len readies ≤ places }
-    requires spare { (spare.rooms ≡ rooms) × (spare.places ≡ places) }
+    requires spare { (spare.rooms ≡ vec_len rooms) × (spare.places ≡ places) }
     requires fresh { (D.given door ≡ 0) × (D.out door ≡ 0) × (D.bots_out door ≡ 0) × (D.shut door ≡ false) }
     requires none_back { IfSome (D.returned door) (λ told. told ≡ []) }
     ensures out { (D.out result.1 ≡ 0) × (D.bots_out result.1 ≡ 0) }
-    ensures served { AreServed seed places (D.returned result.1) }
+    ensures served { AreServed B.may_starve seed places (D.returned result.1) }
     ensures sink_never_falls { K.faults sink.old ≤ K.faults sink.new }
     ensures ended { EndsBy result.0 sessions (D.faults door) (D.left door) (D.shut result.1) (D.faults result.1) (D.given result.1) (K.faults sink.old) (K.faults sink.new) }
-    ensures reports { IsSome (K.held sink.old) → Reports rooms (D.given result.1) result.2.items result.0 (told_bytes (K.held sink.old)) (K.held sink.new) }
+    ensures reports { let known = hosted B.number B.stands_for B.has_stopped in IsSome (K.held sink.old)
+        → Reports known (vec_len rooms) (D.given result.1) result.2.items result.0 (told_bytes (K.held sink.old)) (K.held sink.new) }
 {
     let Ok((bench, bench_passes)) = set_up_bench(alloc, places) else {
+        drop(rooms);
         drop(spare);
         drop(readies);
         drop(table);
@@ -216,21 +248,27 @@ where
 }
 
 /// Makes the match at which bots are to sit, if there is to be one, and serves rooms that were set up.
-fn serve_table<D: Door + Send, W: Ready<D::L> + Send, K: Sink, R: Threads + Wait + Sync>(
+fn serve_table<
+    B: HostedRoom<AnyGame> + Send,
+    D: Door + Send,
+    W: Ready<D::L> + Send,
+    K: Sink,
+    R: Threads + Wait + Sync,
+>(
     rt: &R,
     alloc: Global,
-    desks: Vec<Desk<Book<AnyGame>>>,
-    rows: Vec<Vec<Pass<Book<AnyGame>>>>,
+    desks: Vec<Desk<B>>,
+    rows: Vec<Vec<Pass<B>>>,
     bench: Desk<Wishes>,
     bench_passes: Vec<Pass<Wishes>>,
     readies: Vec<W>,
-    spare: Spare,
+    spare: Spare<B>,
     table: Option<(AnyGame, u8)>,
     sessions: u32,
     door: D,
     sink: &mut K,
     seed: [u8; 32],
-) -> (ServeEnd, D, Vec<Book<AnyGame>>)
+) -> (ServeEnd, D, Vec<B>)
 where
     D::L: Send,
     requires rooms { (0 < spare.rooms) × (spare.rooms ≤ 64) }
@@ -246,10 +284,11 @@ where
     requires fresh { (D.given door ≡ 0) × (D.out door ≡ 0) × (D.bots_out door ≡ 0) × (D.shut door ≡ false) }
     requires none_back { IfSome (D.returned door) (λ told. told ≡ []) }
     ensures out { (D.out result.1 ≡ 0) × (D.bots_out result.1 ≡ 0) }
-    ensures served { AreServed seed spare.places (D.returned result.1) }
+    ensures served { AreServed B.may_starve seed spare.places (D.returned result.1) }
     ensures sink_never_falls { K.faults sink.old ≤ K.faults sink.new }
     ensures ended { EndsBy result.0 sessions (D.faults door) (D.left door) (D.shut result.1) (D.faults result.1) (D.given result.1) (K.faults sink.old) (K.faults sink.new) }
-    ensures reports { IsSome (K.held sink.old) → Reports spare.rooms (D.given result.1) result.2.items result.0 (told_bytes (K.held sink.old)) (K.held sink.new) }
+    ensures reports { let known = hosted B.number B.stands_for B.has_stopped in IsSome (K.held sink.old)
+        → Reports known spare.rooms (D.given result.1) result.2.items result.0 (told_bytes (K.held sink.old)) (K.held sink.new) }
 {
     let mut rows = rows;
     if open_match(rt, desks.as_slice(), &mut rows, table, seed) {
@@ -279,20 +318,26 @@ where
 }
 
 /// Serves rooms that were set up, with a bench.
-fn serve_hall<D: Door + Send, W: Ready<D::L> + Send, K: Sink, R: Threads + Wait + Sync>(
+fn serve_hall<
+    B: HostedRoom<AnyGame> + Send,
+    D: Door + Send,
+    W: Ready<D::L> + Send,
+    K: Sink,
+    R: Threads + Wait + Sync,
+>(
     rt: &R,
     alloc: Global,
-    desks: Vec<Desk<Book<AnyGame>>>,
-    rows: Vec<Vec<Pass<Book<AnyGame>>>>,
+    desks: Vec<Desk<B>>,
+    rows: Vec<Vec<Pass<B>>>,
     bench: Desk<Wishes>,
     bench_passes: Vec<Pass<Wishes>>,
     readies: Vec<W>,
-    spare: Spare,
+    spare: Spare<B>,
     sessions: u32,
     door: D,
     sink: &mut K,
     seed: [u8; 32],
-) -> (ServeEnd, D, Vec<Book<AnyGame>>)
+) -> (ServeEnd, D, Vec<B>)
 where
     D::L: Send,
     requires rooms { (0 < spare.rooms) × (spare.rooms ≤ 64) }
@@ -308,17 +353,18 @@ where
     requires fresh { (D.given door ≡ 0) × (D.out door ≡ 0) × (D.bots_out door ≡ 0) × (D.shut door ≡ false) }
     requires none_back { IfSome (D.returned door) (λ told. told ≡ []) }
     ensures out { (D.out result.1 ≡ 0) × (D.bots_out result.1 ≡ 0) }
-    ensures served { AreServed seed spare.places (D.returned result.1) }
+    ensures served { AreServed B.may_starve seed spare.places (D.returned result.1) }
     ensures sink_never_falls { K.faults sink.old ≤ K.faults sink.new }
     ensures ended { EndsBy result.0 sessions (D.faults door) (D.left door) (D.shut result.1) (D.faults result.1) (D.given result.1) (K.faults sink.old) (K.faults sink.new) }
-    ensures reports { IsSome (K.held sink.old) → Reports spare.rooms (D.given result.1) result.2.items result.0 (told_bytes (K.held sink.old)) (K.held sink.new) }
+    ensures reports { let known = hosted B.number B.stands_for B.has_stopped in IsSome (K.held sink.old)
+        → Reports known spare.rooms (D.given result.1) result.2.items result.0 (told_bytes (K.held sink.old)) (K.held sink.new) }
 {
     let mut desks = desks;
     let Spare {
         rooms: _,
         places: _,
         mut lists,
-        mut books,
+        mut back,
     } = spare;
     let (end, count, mut rows, bench_passes, door) = serve_door(
         rt,
@@ -334,10 +380,10 @@ where
     );
     drop(bench_passes);
     drop(bench);
-    close_all(&mut desks, rows.as_mut_slice(), &mut lists, &mut books);
+    close_all(&mut desks, rows.as_mut_slice(), &mut lists, &mut back);
     drop(desks);
     drop(rows);
     drop(lists);
-    let printed = print_report(sink, count, books.as_slice());
-    (end_of(end, printed), door, books)
+    let printed = print_report(sink, count, back.as_slice());
+    (end_of(end, printed), door, back)
 }

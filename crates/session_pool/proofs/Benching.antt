@@ -4,6 +4,7 @@ use Rattle.any_game.specs.GameKind.{GameKind}
 use Rattle.dice_words.specs.Strip.{Strip}
 use Rattle.game_hall.specs.Core.{Core, fresh, with_bench}
 use Rattle.game_sheet.specs.MatchName.{Name}
+use Rattle.room_history.specs.declared.call.RoomCall.{RoomCall}
 use Rattle.session_bench.specs.Wishing.{Rises, Seen, Sought}
 use Rattle.session_driver.specs.Hearing.{side}
 use Rattle.session_pool.specs.Passes.{Pass}
@@ -25,10 +26,10 @@ idle_sat rooms c sat idle = record {
 }
 
 -- what is left of a session: a Detach, a bot that rose, and a core that has done nothing
-pub left_so : (passes : List Pass) (c : Core GameKind) (words : Strip) (bench : Seen) (seat : Option (Name × ℕ)) (after : List Pass) (d : Core GameKind) (p : Seen)
-    (core : Core GameKind) (none : Option (Name × ℕ)) → Detaches (side passes c) (side after d) → Rises c.sat seat bench p → core ≡ with_bench (fresh c.pass c.rooms) → none ≡ None
-    → Leaves (stand passes c words bench seat) (stand after core words p none)
-left_so passes c words bench seat after d p core none detaches rises is gone = (
+pub left_so : (may_refuse : RoomCall GameKind → Bool) (passes : List Pass) (c : Core GameKind) (words : Strip) (bench : Seen) (seat : Option (Name × ℕ)) (after : List Pass) (d : Core GameKind) (p : Seen)
+    (core : Core GameKind) (none : Option (Name × ℕ)) → Detaches may_refuse (side passes c) (side after d) → Rises c.sat seat bench p → core ≡ with_bench (fresh c.pass c.rooms) → none ≡ None
+    → Leaves may_refuse (stand passes c words bench seat) (stand after core words p none)
+left_so may_refuse passes c words bench seat after d p core none detaches rises is gone = (
   side after d,
   p,
   detaches,

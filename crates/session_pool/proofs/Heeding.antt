@@ -4,6 +4,7 @@ use Rattle.any_game.specs.GameKind.{GameKind}
 use Rattle.dice_words.specs.Strip.{Strip}
 use Rattle.game_hall.specs.Core.{Core, is_again, starved}
 use Rattle.game_hall.specs.Words.{next_action, seed_left_by}
+use Rattle.room_history.specs.declared.call.RoomCall.{RoomCall}
 use Rattle.wire_json.specs.ClientReading.{client_read}
 use Rattle.wire_json.specs.Refusals.{Refusal as Fault}
 use Rattle.wire_json.specs.declared.client.ClientMsg.{ClientMsg}
@@ -17,8 +18,8 @@ use Rattle.session_pool.specs.Passes.{Pass}
 use Rattle.session_pool.specs.Turn.{Calls, Heeds}
 
 -- what a call over desks comes to, as the driver has it
-abbrev pub over_desks : {R : Type 0} → Desks R → ℕ → Did → Desks R → Type 0
-over_desks d pass made e = CallsDesk d.passes.now made e.passes.now × (e.desks.now ≡ d.desks.now) × (e.passes.ghost_name ≡ d.passes.ghost_name)
+abbrev pub over_desks : {B R : Type 0} → (RoomCall GameKind → Bool) → Desks B R → ℕ → Did → Desks B R → Type 0
+over_desks may_refuse d pass made e = CallsDesk may_refuse d.passes.now made e.passes.now × (e.desks.now ≡ d.desks.now) × (e.passes.ghost_name ≡ d.passes.ghost_name)
 
 none_left : (read : Result ClientMsg Fault) → seed_left_by read None ≡ None
 none_left (Ok message.Games) = refl
@@ -37,8 +38,8 @@ line_leaves : (line : List ℕ) (c : Core GameKind) (words : Strip) (core : Core
 line_leaves line c words core left (inl e) = ap (λ (x : Draws). x.seed) e.1 ∙ none_left (client_read line)
 line_leaves line c words core left (inr e) = ap (λ (x : Draws). x.seed) e.1
 
-module _ (line : List ℕ) (s t : Side (List Pass)) (words rest : Strip) (ready : Option (List ℕ)) (tally : Tally)
-    (h : Hears Calls line s (draws words None) t (draws rest ready) tally) where
+module _ (may_refuse : RoomCall GameKind → Bool) (line : List ℕ) (s t : Side (List Pass)) (words rest : Strip) (ready : Option (List ℕ)) (tally : Tally)
+    (h : Hears (Calls may_refuse) line s (draws words None) t (draws rest ready) tally) where
   leaves_none : ready ≡ None
   leaves_none = ap (λ (x : Draws). x.seed) h.draws_after ∙ by (is_again t.core.said)
     where
@@ -46,13 +47,13 @@ module _ (line : List ℕ) (s t : Side (List Pass)) (words rest : Strip) (ready 
       by true = refl
       by false = line_leaves line s.core words h.core h.left h.line_heard
 
-  pub heeds_heard : Heeds line s words t rest
-  heeds_heard = (tally, subst (λ o. Hears Calls line s (draws words None) t (draws rest o) tally) leaves_none h)
+  pub heeds_heard : Heeds may_refuse line s words t rest
+  heeds_heard = (tally, subst (λ o. Hears (Calls may_refuse) line s (draws words None) t (draws rest o) tally) leaves_none h)
 
 -- no memory to bring the line together
-pub heeds_starved : (line : List ℕ) (passes : List Pass) (c d : Core GameKind) (words rest : Strip) → d ≡ starved c None → rest ≡ next_action words
-    → Heeds line (side passes c) words (side passes d) rest
-heeds_starved line passes c d words rest e f = (
+pub heeds_starved : (may_refuse : RoomCall GameKind → Bool) (line : List ℕ) (passes : List Pass) (c d : Core GameKind) (words rest : Strip) → d ≡ starved c None → rest ≡ next_action words
+    → Heeds may_refuse line (side passes c) words (side passes d) rest
+heeds_starved may_refuse line passes c d words rest e f = (
   record { accepted = 0; refused = 0 },
   record {
     core = d;

@@ -1,10 +1,12 @@
 -- Places of sessions: what holds of each, as they are made from passes and taken apart again.
-use Rattle.std.proofs.Common.{◌≡◌, ◌<◌, refl, ℕ, zero, List, [], ◌∷◌, ◌++◌, map, length, ap, sym, ◌∙◌, subst, arith, slice_index_or, Option, Some, None}
-use Rattle.std.specs.Prelude.{All, IfSome, drop, suc, take}
+use Rattle.std.proofs.Common.{◌≡◌, ◌<◌, refl, ℕ, Bool, zero, List, [], ◌∷◌, ◌++◌, map, length, ap, sym, ◌∙◌, subst, arith, slice_index_or, Option, Some, None, Result, Ok, Err}
+use Rattle.std.specs.Prelude.{All, IfOk, IfSome, drop, suc, take}
 use Rattle.std.proofs.lemmas.List.{append-nil, append_assoc, get_or-map, length-map, map-append, nil_from_length, take_at}
 use Rattle.std.proofs.lemmas.List.Elements.{All-append, All-map}
+use Rattle.any_game.specs.GameKind.{GameKind}
 use Rattle.board_links.specs.Doors.{Returned}
 use Rattle.room_desk.specs.History.{DeskId, SetUp}
+use Rattle.room_history.specs.declared.call.RoomCall.{RoomCall}
 use Rattle.session_pool.specs.Passes.{Pass, dealt_by, number_of, unseen}
 use Rattle.session_pool.specs.Placed.{AttachedBy}
 use Rattle.session_pool.specs.Sittings.{AreServed, Fits, Rests}
@@ -23,7 +25,7 @@ all_one P x here (suc k) d low = absurd (omega arith)
 pub all_more : {X : Type 0} (P : X → Type 0) (xs after : List X) (x : X) → after ≡ xs ++ x ∷ [] → All P xs → P x → All P after
 all_more P xs after x push all here = subst (All P) (sym push) (All-append P xs (x ∷ []) all (all_one P x here))
 
-all_front : {X : Type 0} (P : X → Type 0) (x : X) (xs : List X) → P x → All P xs → All P (x ∷ xs)
+pub all_front : {X : Type 0} (P : X → Type 0) (x : X) (xs : List X) → P x → All P xs → All P (x ∷ xs)
 all_front P x xs here all zero d low = here
 all_front P x xs here all (suc k) d low = all k d (omega (arith, low))
 
@@ -37,9 +39,25 @@ all_last P (y ∷ xs) x all =
 pub all_but_last : {X : Type 0} (P : X → Type 0) (xs ys : List X) (x : X) → xs ≡ ys ++ x ∷ [] → All P xs → P x × All P ys
 all_but_last P xs ys x e all = all_last P ys x (subst (All P) e all)
 
+pub all_none : {X : Type 0} (P : X → Type 0) (xs : List X) → xs ≡ [] → All P xs
+all_none P xs e = subst (All P) (sym e) (λ k d low. absurd (omega arith))
+
+-- what follows from what an answer has
+pub if_ok : {A E : Type 0} {P Q : A → Type 0} (r : Result A E) → ((a : A) → P a → Q a) → IfOk r P → IfOk r Q
+if_ok (Ok a) f h = f a h
+if_ok (Err e) f h = tt
+
+pub if_ok_both : {A E : Type 0} {P Q S : A → Type 0} (r : Result A E) → ((a : A) → P a → Q a → S a) → IfOk r P → IfOk r Q → IfOk r S
+if_ok_both (Ok a) f h k = f a h k
+if_ok_both (Err e) f h k = tt
+
 -- what a call wrote over a whole list
 pub written : {X : Type 0} (n : ℕ) (xs ys : List X) → length ys ≡ n → take n (ys ++ drop (length ys) xs) ≡ ys
 written n xs ys len = take_at ys (drop (length ys) xs) n len
+
+-- none was taken yet
+pub none_moved : {X Y Z : Type 0} (f : X → Z) (g : Y → Z) (done : List X) (coming all : List Y) → done ≡ [] → coming ≡ all → map f done ++ map g coming ≡ map g all
+none_moved f g done coming all none e = ap (λ l. map f l ++ map g coming) none ∙ ap (map g) e
 
 -- one more that was taken from those still to come, by what both have
 pub moved_on : {X Y Z : Type 0} (f : X → Z) (g : Y → Z) (done after : List X) (x : X) (coming rest : List Y) (y : Y) (all : List Z) → after ≡ done ++ x ∷ [] → coming ≡ y ∷ rest → f x ≡ g y
@@ -110,9 +128,9 @@ all_free items desks bench seed places sittings back e fit rest =
     (All-map (λ p. AttachedBy p None) (λ s. s.passes) sittings (λ k d low. free_at desks bench seed places (slice_index_or sittings k d) (fit k d low) (rest k d low)))
 
 -- a door that tells of no link that came back
-pub none_served : (seed : List ℕ) (places : ℕ) (told : Option (List Returned)) → IfSome told (λ links. links ≡ []) → AreServed seed places told
-none_served seed places None none = tt
-none_served seed places (Some links) none = subst (λ l. AreServed seed places (Some l)) (sym none) (λ k d low. absurd (omega arith))
+pub none_served : (may_refuse : RoomCall GameKind → Bool) (seed : List ℕ) (places : ℕ) (told : Option (List Returned)) → IfSome told (λ links. links ≡ []) → AreServed may_refuse seed places told
+none_served may_refuse seed places None none = tt
+none_served may_refuse seed places (Some links) none = subst (λ l. AreServed may_refuse seed places (Some l)) (sym none) (λ k d low. absurd (omega arith))
 
 -- places whose passes at the bench are of its desk
 at_the_bench : (desks : List SetUp) (bench : DeskId) (seed : List ℕ) (places : ℕ) (sittings : List Stand) → All (Fits desks bench seed places) sittings → All (λ (s : Stand). s.bench.desk ≡ bench) sittings

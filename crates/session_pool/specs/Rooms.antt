@@ -3,9 +3,9 @@ use Rattle.std.specs.Prelude.{ℕ, ◌+◌, zero, suc, List, [], ◌∷◌, ◌+
 use Rattle.room_desk.specs.History.{SetUp, dealt}
 use Rattle.session_pool.specs.Passes.{Pass, dealt_by}
 
--- the first passes of each room
+-- the first passes of each room, as if they had seen nothing
 abbrev pub dealt_to : List SetUp → ℕ → List (List Pass)
-dealt_to desks n = map (λ (d : SetUp). dealt d.desk n) desks
+dealt_to desks n = map (λ (d : SetUp). dealt [] d.desk n) desks
 
 -- the passes of one number, which have seen nothing
 abbrev pub row_of : List SetUp → ℕ → List Pass

@@ -1,10 +1,12 @@
 -- Places of sessions: how a session begins at one, what its words are drawn from, and how it is left.
-use Rattle.std.specs.Prelude.{◌≡◌, ◌<◌, ◌≤◌, ℕ, List, length, Option, Some, None}
+use Rattle.std.specs.Prelude.{◌≡◌, ◌<◌, ◌≤◌, ℕ, Bool, List, length, Option, Some, None}
 use Rattle.board_links.specs.Doors.{Returned}
+use Rattle.any_game.specs.GameKind.{GameKind}
 use Rattle.dice_words.specs.Strip.{Strip}
 use Rattle.game_hall.specs.Core.{fresh, with_bench}
 use Rattle.link_rounds.specs.Gate.{WereServed}
 use Rattle.room_desk.specs.History.{DeskId, SetUp}
+use Rattle.room_history.specs.declared.call.RoomCall.{RoomCall}
 use Rattle.room_history.specs.declared.call.RoomCall.TheVariants as call
 use Rattle.room_history.specs.declared.reply.RoomReply.{RoomReply}
 use Rattle.session_bench.specs.Wishing.{Rises, Seen}
@@ -45,17 +47,17 @@ pub record Fits (desks : List SetUp) (bench : DeskId) (seed : List ℕ) (places 
 -- ---- the end of a session
 
 -- a last Detach, where the session is attached
-abbrev pub Detaches : Side (List Pass) → Side (List Pass) → Type 0
-Detaches s t = (told : Option RoomReply) × Frees Calls call.Detach s told t
+abbrev pub Detaches : (RoomCall GameKind → Bool) → Side (List Pass) → Side (List Pass) → Type 0
+Detaches may_refuse s t = (told : Option RoomReply) × Frees (Calls may_refuse) call.Detach s told t
 
 -- a last Detach; a bot that sat down rises from the bench; and a core that has done nothing
-abbrev pub Leaves : Stand → Stand → Type 0
-Leaves s t = (m : Side (List Pass)) × (p : Seen) × Detaches (side_of s) m × Rises s.core.sat s.seat s.bench p
+abbrev pub Leaves : (RoomCall GameKind → Bool) → Stand → Stand → Type 0
+Leaves may_refuse s t = (m : Side (List Pass)) × (p : Seen) × Detaches may_refuse (side_of s) m × Rises s.core.sat s.seat s.bench p
     × (t ≡ stand m.rooms (with_bench (fresh s.core.pass s.core.rooms)) s.words p None)
 
 -- ---- the links of a door
 
 -- Each link that came back, where the door tells them: all that it tells was told in turns of one session, from its first byte to its end, at one of
 -- so many places, which had no session then and whose words come from the stream of its number of this seed.
-abbrev pub AreServed : List ℕ → ℕ → Option (List Returned) → Type 0
-AreServed seed places told = WereServed Turn Leaves (Rests seed places) told
+abbrev pub AreServed : (RoomCall GameKind → Bool) → List ℕ → ℕ → Option (List Returned) → Type 0
+AreServed may_refuse seed places told = WereServed (Turn may_refuse) (Leaves may_refuse) (Rests seed places) told

@@ -1,7 +1,7 @@
 //! Rooms behind desks.
 
 use any_game::AnyGame;
-use match_master::Book;
+use hosted_room::HostedRoom;
 use room_desk::{Desk, Pass};
 use room_history::{RoomCall, RoomReply};
 use session_driver::Rooms;
@@ -9,13 +9,13 @@ use std::sync::Wait;
 
 /// Rooms behind desks, for which one may have to wait: a desk for each, and a pass of each. The pass of their number may call.
 #[derive(Drop)]
-pub struct Desks<'a, R: Wait> {
+pub struct Desks<'a, B: HostedRoom<AnyGame>, R: Wait> {
     /// The runtime.
     pub rt: &'a R,
     /// Each room's desk, room 0's first. There are 255 at most.
-    pub desks: &'a [Desk<Book<AnyGame>>],
+    pub desks: &'a [Desk<B>],
     /// A pass of each desk.
-    pub passes: &'a mut [Pass<Book<AnyGame>>],
+    pub passes: &'a mut [Pass<B>],
     /// The rooms in which calls may have changed what sessions are shown, one bit each, of the first 64. It says whom to ask next and nothing
     /// else, so no clause speaks of it.
     pub changed: u64,
@@ -33,7 +33,7 @@ fn change_of<X>(room: u8, call: &RoomCall<X>) -> u64 {
     }
 }
 
-impl<'a, R: Wait> Rooms for Desks<'a, R> {
+impl<'a, B: HostedRoom<AnyGame>, R: Wait> Rooms for Desks<'a, B, R> {
     ghost use Rattle.std.specs.Prelude.{◌≡◌, ◌≤◌, length};
     ghost use Rattle.session_pool.specs.Passes.{Belong, CallsDesk};
 
@@ -41,7 +41,7 @@ impl<'a, R: Wait> Rooms for Desks<'a, R> {
 
     ghost serves = { λ d pass. (length d.desks.now ≤ 255) × Belong d.desks.now pass d.passes.now };
 
-    ghost calls = { λ d pass made e. CallsDesk d.passes.now made e.passes.now × (e.desks.now ≡ d.desks.now) × (e.passes.ghost_name ≡ d.passes.ghost_name) };
+    ghost calls = { λ d pass made e. CallsDesk B.may_starve d.passes.now made e.passes.now × (e.desks.now ≡ d.desks.now) × (e.passes.ghost_name ≡ d.passes.ghost_name) };
 
     fn count(&self) -> u8 {
         self.desks.len() as u8

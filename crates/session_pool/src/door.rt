@@ -11,8 +11,8 @@ use any_game::AnyGame;
 use bench_wishes::Wishes;
 use board_links::Door;
 use game_sheet::NoMemory;
+use hosted_room::HostedRoom;
 use link_rounds::{DoorEnd, Ready, serve_places};
-use match_master::Book;
 use room_desk::{Desk, Pass};
 use std::alloc::Global;
 use std::marker::Brand;
@@ -20,13 +20,13 @@ use std::sync::Wait;
 use std::thread::Threads;
 
 /// A place without a session, of these passes, and of this one at the bench.
-fn rise<'a, K: Seeded>(
-    desks: &'a [Desk<Book<AnyGame>>],
-    passes: Vec<Pass<Book<AnyGame>>>,
+fn rise<'a, B: HostedRoom<AnyGame>, K: Seeded>(
+    desks: &'a [Desk<B>],
+    passes: Vec<Pass<B>>,
     bench: &'a Desk<Wishes>,
     bench_pass: Pass<Wishes>,
     seed: [u8; 32],
-) -> Sitting<'a, K>
+) -> Sitting<'a, B, K>
     requires rooms { (0 < length desks.now) × (length desks.now ≤ 64) }
     requires belong { Belong desks.now (number_of passes.items) passes.items }
     requires free { AttachedBy passes.items None }
@@ -41,14 +41,14 @@ fn rise<'a, K: Seeded>(
 }
 
 /// A place for each list of passes, with the bench pass of its place in the list. An Err is for want of memory, and hands both lists back.
-fn raise<'a, K: Seeded>(
+fn raise<'a, B: HostedRoom<AnyGame>, K: Seeded>(
     alloc: Global,
-    desks: &'a [Desk<Book<AnyGame>>],
-    passes: Vec<Vec<Pass<Book<AnyGame>>>>,
+    desks: &'a [Desk<B>],
+    passes: Vec<Vec<Pass<B>>>,
     bench: &'a Desk<Wishes>,
     bench_passes: Vec<Pass<Wishes>>,
     seed: [u8; 32],
-) -> Result<Vec<Sitting<'a, K>>, (Vec<Vec<Pass<Book<AnyGame>>>>, Vec<Pass<Wishes>>)>
+) -> Result<Vec<Sitting<'a, B, K>>, (Vec<Vec<Pass<B>>>, Vec<Pass<Wishes>>)>
     requires rooms { (0 < length desks.now) × (length desks.now ≤ 64) }
     requires belong { All (λ p. Belong desks.now (number_of p.items) p.items) passes.items }
     requires free { All (λ p. AttachedBy p.items None) passes.items }
@@ -70,17 +70,17 @@ fn raise<'a, K: Seeded>(
         let Some(bench_pass) = at_bench.pop() else {
             unreachable!()
         };
-        sittings.push_reserved(rise::<K>(desks, passes, bench, bench_pass, seed));
+        sittings.push_reserved(rise::<B, K>(desks, passes, bench, bench_pass, seed));
     }
     drop(at_bench);
     Ok(sittings)
 }
 
 /// Empty lists with room for the passes of so many places, and for those at the bench.
-fn lists_for(
+fn lists_for<B: HostedRoom<AnyGame>>(
     alloc: Global,
     places: usize,
-) -> Result<(Vec<Vec<Pass<Book<AnyGame>>>>, Vec<Pass<Wishes>>), NoMemory>
+) -> Result<(Vec<Vec<Pass<B>>>, Vec<Pass<Wishes>>), NoMemory>
     ensures room { IfOk result (λ r. (places ≤ vec_capacity r.0) × (places ≤ vec_capacity r.1)) }
     ensures empty { IfOk result (λ r. (r.0.items ≡ []) × (r.1.items ≡ [])) }
 {
@@ -90,9 +90,9 @@ fn lists_for(
 }
 
 /// The places' passes, and those at the bench, in order.
-fn dismiss<'a, K: Seeded>(
-    sittings: Vec<Sitting<'a, K>>,
-    back: &mut Vec<Vec<Pass<Book<AnyGame>>>>,
+fn dismiss<'a, B: HostedRoom<AnyGame>, K: Seeded>(
+    sittings: Vec<Sitting<'a, B, K>>,
+    back: &mut Vec<Vec<Pass<B>>>,
     bench_back: &mut Vec<Pass<Wishes>>,
 )
     requires room { (vec_len sittings ≤ vec_capacity back.old) × (vec_len sittings ≤ vec_capacity bench_back.old) }
@@ -108,24 +108,25 @@ fn dismiss<'a, K: Seeded>(
 }
 
 /// Serves the door at these places, and hands their passes back.
-fn serve_at<'a, K: Seeded + Send, D: Door + Send, W: Ready<D::L> + Send, R: Threads + Wait + Sync>(
+fn serve_at<
+    'a,
+    B: HostedRoom<AnyGame> + Send,
+    K: Seeded + Send,
+    D: Door + Send,
+    W: Ready<D::L> + Send,
+    R: Threads + Wait + Sync,
+>(
     rt: &R,
     alloc: Global,
-    desks: &'a [Desk<Book<AnyGame>>],
+    desks: &'a [Desk<B>],
     bench: &'a Desk<Wishes>,
-    sittings: Vec<Sitting<'a, K>>,
+    sittings: Vec<Sitting<'a, B, K>>,
     readies: Vec<W>,
     door: D,
     sessions: u32,
-    mut back: Vec<Vec<Pass<Book<AnyGame>>>>,
+    mut back: Vec<Vec<Pass<B>>>,
     mut bench_back: Vec<Pass<Wishes>>,
-) -> (
-    DoorEnd,
-    u32,
-    Vec<Vec<Pass<Book<AnyGame>>>>,
-    Vec<Pass<Wishes>>,
-    D,
-)
+) -> (DoorEnd, u32, Vec<Vec<Pass<B>>>, Vec<Pass<Wishes>>, D)
 where
     D::L: Send,
     requires some { 0 < vec_len readies }
@@ -134,13 +135,13 @@ where
     requires fit { All (Fits desks.now bench.now.desk K.seed K.places) sittings.items }
     requires rest { All (Rests K.seed K.places) sittings.items }
     requires fresh { (D.given door ≡ 0) × (D.out door ≡ 0) × (D.bots_out door ≡ 0) × (D.shut door ≡ false) }
-    requires served { AreServed K.seed K.places (D.returned door) }
+    requires served { AreServed B.may_starve K.seed K.places (D.returned door) }
     requires room { (vec_len sittings ≤ vec_capacity back) × (vec_len sittings ≤ vec_capacity bench_back) }
     requires empty { (back.items ≡ []) × (bench_back.items ≡ []) }
     ensures out { (D.out result.4 ≡ 0) × (D.bots_out result.4 ≡ 0) }
     ensures given { D.given result.4 ≡ result.1 }
     ensures ended { Ended sessions (D.faults door) (D.left door) (D.shut result.4) (D.faults result.4) result.1 (Some result.0) }
-    ensures served { AreServed K.seed K.places (D.returned result.4) }
+    ensures served { AreServed B.may_starve K.seed K.places (D.returned result.4) }
     ensures handed { map (λ p. map unseen p.items) result.2.items ≡ map (λ s. map unseen s.passes) sittings.entry.items }
     ensures free { All (λ p. AttachedBy p.items None) result.2.items }
     ensures benched { (vec_len result.3 ≡ vec_len sittings.entry) × All (λ p. p.desk ≡ bench.now.desk) result.3.items }
@@ -159,24 +160,24 @@ where
 }
 
 /// Serves the door at places of these passes, whose seed `K` has too.
-fn run<K: Seeded + Send, D: Door + Send, W: Ready<D::L> + Send, R: Threads + Wait + Sync>(
+fn run<
+    B: HostedRoom<AnyGame> + Send,
+    K: Seeded + Send,
+    D: Door + Send,
+    W: Ready<D::L> + Send,
+    R: Threads + Wait + Sync,
+>(
     rt: &R,
     alloc: Global,
-    desks: &[Desk<Book<AnyGame>>],
-    passes: Vec<Vec<Pass<Book<AnyGame>>>>,
+    desks: &[Desk<B>],
+    passes: Vec<Vec<Pass<B>>>,
     bench: &Desk<Wishes>,
     bench_passes: Vec<Pass<Wishes>>,
     readies: Vec<W>,
     seed: [u8; 32],
     door: D,
     sessions: u32,
-) -> (
-    DoorEnd,
-    u32,
-    Vec<Vec<Pass<Book<AnyGame>>>>,
-    Vec<Pass<Wishes>>,
-    D,
-)
+) -> (DoorEnd, u32, Vec<Vec<Pass<B>>>, Vec<Pass<Wishes>>, D)
 where
     D::L: Send,
     requires seeded { (K.seed ≡ seed) × (K.places ≡ vec_len passes) }
@@ -193,7 +194,7 @@ where
     ensures out { (D.out result.4 ≡ 0) × (D.bots_out result.4 ≡ 0) }
     ensures given { D.given result.4 ≡ result.1 }
     ensures ended { Ended sessions (D.faults door) (D.left door) (D.shut result.4) (D.faults result.4) result.1 (Some result.0) }
-    ensures served { AreServed seed (vec_len passes) (D.returned result.4) }
+    ensures served { AreServed B.may_starve seed (vec_len passes) (D.returned result.4) }
     ensures handed { map (λ p. map unseen p.items) result.2.items ≡ map (λ p. map unseen p.items) passes.items }
     ensures free { All (λ p. AttachedBy p.items None) result.2.items }
     ensures benched { (vec_len result.3 ≡ vec_len bench_passes) × All (λ p. p.desk ≡ bench.now.desk) result.3.items }
@@ -202,7 +203,7 @@ where
         drop(readies);
         return (DoorEnd::NoMemory, 0, passes, bench_passes, door);
     };
-    match raise::<K>(alloc, desks, passes, bench, bench_passes, seed) {
+    match raise::<B, K>(alloc, desks, passes, bench, bench_passes, seed) {
         Ok(sittings) => serve_at(
             rt, alloc, desks, bench, sittings, readies, door, sessions, back, bench_back,
         ),
@@ -222,24 +223,23 @@ where
 /// has the bench pass at the list's index, and these passes are handed back too. The door has given no link, hasn't answered that it is shut, and
 /// tells of no link that came back. The place of number p draws its words from stream p of the seed, one session after another. With every end
 /// comes the count of the links that the door gave. A door that tells what came back tells only links that were served.
-pub fn serve_door<D: Door + Send, W: Ready<D::L> + Send, R: Threads + Wait + Sync>(
+pub fn serve_door<
+    B: HostedRoom<AnyGame> + Send,
+    D: Door + Send,
+    W: Ready<D::L> + Send,
+    R: Threads + Wait + Sync,
+>(
     rt: &R,
     alloc: Global,
-    desks: &[Desk<Book<AnyGame>>],
-    passes: Vec<Vec<Pass<Book<AnyGame>>>>,
+    desks: &[Desk<B>],
+    passes: Vec<Vec<Pass<B>>>,
     bench: &Desk<Wishes>,
     bench_passes: Vec<Pass<Wishes>>,
     readies: Vec<W>,
     seed: [u8; 32],
     door: D,
     sessions: u32,
-) -> (
-    DoorEnd,
-    u32,
-    Vec<Vec<Pass<Book<AnyGame>>>>,
-    Vec<Pass<Wishes>>,
-    D,
-)
+) -> (DoorEnd, u32, Vec<Vec<Pass<B>>>, Vec<Pass<Wishes>>, D)
 where
     D::L: Send,
     requires rooms { (0 < length desks.now) × (length desks.now ≤ 64) }
@@ -255,12 +255,12 @@ where
     ensures out { (D.out result.4 ≡ 0) × (D.bots_out result.4 ≡ 0) }
     ensures given { D.given result.4 ≡ result.1 }
     ensures ended { Ended sessions (D.faults door) (D.left door) (D.shut result.4) (D.faults result.4) result.1 (Some result.0) }
-    ensures served { AreServed seed (vec_len passes) (D.returned result.4) }
+    ensures served { AreServed B.may_starve seed (vec_len passes) (D.returned result.4) }
     ensures handed { map (λ p. map unseen p.items) result.2.items ≡ map (λ p. map unseen p.items) passes.items }
     ensures free { All (λ p. AttachedBy p.items None) result.2.items }
     ensures benched { (vec_len result.3 ≡ vec_len bench_passes) × All (λ p. p.desk ≡ bench.now.desk) result.3.items }
 {
-    run::<Brand, D, W, R>(
+    run::<B, Brand, D, W, R>(
         rt,
         alloc,
         desks,

@@ -12,16 +12,16 @@ use any_game::AnyGame;
 use dice_words::Tape;
 use game_hall::SessionCore;
 use game_sheet::{Bytes, NoMemory};
-use match_master::Book;
+use hosted_room::HostedRoom;
 use room_desk::{Desk, Pass};
 use session_driver::hear;
 use std::alloc::Global;
 use std::sync::Wait;
 
 /// Hears a line that stands in one piece.
-fn hear_bytes<R: Wait>(
+fn hear_bytes<B: HostedRoom<AnyGame>, R: Wait>(
     alloc: Global,
-    rooms: &mut Desks<'_, R>,
+    rooms: &mut Desks<'_, B, R>,
     words: &mut Tape,
     core: &mut SessionCore,
     line: &[u8],
@@ -34,7 +34,7 @@ fn hear_bytes<R: Wait>(
     ensures turns { TurnsToBench core.old core.new }
     ensures sat { core.new.sat ≡ core.old.sat }
     ensures same_source { words.new.source ≡ words.old.source }
-    ensures heeds { Heeds line.now (side rooms.old.passes.now core.old) words.old (side rooms.new.passes.now core.new) words.new }
+    ensures heeds { Heeds B.may_starve line.now (side rooms.old.passes.now core.old) words.old (side rooms.new.passes.now core.new) words.new }
 {
     let mut seed = None;
     let _tally = hear(alloc, rooms, core, words, &mut seed, line);
@@ -52,9 +52,9 @@ fn gathered(alloc: Global, line: &Bytes) -> Result<Vec<u8>, NoMemory>
 }
 
 /// Hears a line that a link answered. Where there is no memory to bring its pieces together, the core says so.
-fn hear_line<R: Wait>(
+fn hear_line<B: HostedRoom<AnyGame>, R: Wait>(
     alloc: Global,
-    rooms: &mut Desks<'_, R>,
+    rooms: &mut Desks<'_, B, R>,
     words: &mut Tape,
     core: &mut SessionCore,
     line: &Bytes,
@@ -67,7 +67,7 @@ fn hear_line<R: Wait>(
     ensures turns { TurnsToBench core.old core.new }
     ensures sat { core.new.sat ≡ core.old.sat }
     ensures same_source { words.new.source ≡ words.old.source }
-    ensures heeds { Heeds line.now (side rooms.old.passes.now core.old) words.old (side rooms.new.passes.now core.new) words.new }
+    ensures heeds { Heeds B.may_starve line.now (side rooms.old.passes.now core.old) words.old (side rooms.new.passes.now core.new) words.new }
 {
     if let Some(bytes) = line.whole() {
         hear_bytes(alloc, rooms, words, core, bytes);
@@ -86,9 +86,9 @@ fn hear_line<R: Wait>(
 }
 
 /// Hears a line that a link answered, over these desks.
-fn heed_there<R: Wait>(
+fn heed_there<B: HostedRoom<AnyGame>, R: Wait>(
     alloc: Global,
-    rooms: &mut Desks<'_, R>,
+    rooms: &mut Desks<'_, B, R>,
     words: &mut Tape,
     core: &mut SessionCore,
     line: &Bytes,
@@ -105,18 +105,18 @@ fn heed_there<R: Wait>(
     ensures turns { TurnsToBench core.old core.new }
     ensures sat { core.new.sat ≡ core.old.sat }
     ensures same_source { words.new.source ≡ words.old.source }
-    ensures heeds { Heeds line.now (side rooms.old.passes.now core.old) words.old (side rooms.new.passes.now core.new) words.new }
+    ensures heeds { Heeds B.may_starve line.now (side rooms.old.passes.now core.old) words.old (side rooms.new.passes.now core.new) words.new }
 {
     hear_line(alloc, rooms, words, core, line);
 }
 
 /// Hears a line and makes the calls of its request. The words that it drew are given back where it is answered `again`. Returns the rooms that
 /// the calls may have changed, one bit each.
-pub(crate) fn heed<R: Wait>(
+pub(crate) fn heed<B: HostedRoom<AnyGame>, R: Wait>(
     rt: &R,
     alloc: Global,
-    desks: &[Desk<Book<AnyGame>>],
-    passes: &mut [Pass<Book<AnyGame>>],
+    desks: &[Desk<B>],
+    passes: &mut [Pass<B>],
     words: &mut Tape,
     core: &mut SessionCore,
     line: &Bytes,
@@ -132,7 +132,7 @@ pub(crate) fn heed<R: Wait>(
     ensures turns { TurnsToBench core.old core.new }
     ensures sat { core.new.sat ≡ core.old.sat }
     ensures same_source { words.new.source ≡ words.old.source }
-    ensures heeds { Heeds line.now (side passes.old core.old) words.old (side passes.new core.new) words.new }
+    ensures heeds { Heeds B.may_starve line.now (side passes.old core.old) words.old (side passes.new core.new) words.new }
 {
     let mut rooms = Desks {
         rt,

@@ -1,5 +1,5 @@
 //! A session over a link: its lines become calls in rooms, and what it is answered and what waits for it goes back over the link.
-//! And places of such sessions, dealt over workers in threads, which serve the links of a door.
+//! Rooms of any kind are served, those that keep their changes too. And places of such sessions, dealt over workers in threads, which serve the links of a door.
 #![tactic(auto)]
 
 mod desks;
@@ -14,6 +14,6 @@ mod turn;
 
 pub use door::serve_door;
 pub use link::serve_link;
-pub use rooms::set_up_rooms;
+pub use rooms::{plain_rooms, set_up_rooms};
 pub use sitting::{Hall, Seeded, Sitting};
 pub use turn::serve_turn;

@@ -18,7 +18,7 @@ use bench_wishes::Wishes;
 use board_links::{Link, SessionEnd};
 use dice_words::Tape;
 use game_hall::SessionCore;
-use match_master::Book;
+use hosted_room::HostedRoom;
 use room_desk::{Desk, Pass};
 use room_history::RoomReply;
 use session_bench::rise;
@@ -27,7 +27,10 @@ use std::alloc::Global;
 use std::sync::Wait;
 
 /// Ends the session's attachment, over these desks.
-fn detach_there<R: Wait>(rooms: &mut Desks<'_, R>, core: &mut SessionCore) -> Option<RoomReply>
+fn detach_there<B: HostedRoom<AnyGame>, R: Wait>(
+    rooms: &mut Desks<'_, B, R>,
+    core: &mut SessionCore,
+) -> Option<RoomReply>
     requires belong { Belong rooms.old.desks.now core.old.pass rooms.old.passes.now }
     requires idle { IsIdle (length rooms.old.desks.now) core.old }
     requires attached { AttachedBy rooms.old.passes.now core.old.at }
@@ -36,16 +39,16 @@ fn detach_there<R: Wait>(rooms: &mut Desks<'_, R>, core: &mut SessionCore) -> Op
     ensures free { AttachedBy rooms.new.passes.now None }
     ensures pass { core.new.pass ≡ core.old.pass }
     ensures sat { core.new.sat ≡ core.old.sat }
-    ensures detaches { Detaches (side rooms.old.passes.now core.old) (side rooms.new.passes.now core.new) }
+    ensures detaches { Detaches B.may_starve (side rooms.old.passes.now core.old) (side rooms.new.passes.now core.new) }
 {
     detach_session(rooms, core)
 }
 
 /// Detaches the session where it is attached.
-pub(crate) fn detach<R: Wait>(
+pub(crate) fn detach<B: HostedRoom<AnyGame>, R: Wait>(
     rt: &R,
-    desks: &[Desk<Book<AnyGame>>],
-    passes: &mut [Pass<Book<AnyGame>>],
+    desks: &[Desk<B>],
+    passes: &mut [Pass<B>],
     core: &mut SessionCore,
 )
     requires belong { Belong desks.now core.old.pass passes.old }
@@ -55,7 +58,7 @@ pub(crate) fn detach<R: Wait>(
     ensures free { AttachedBy passes.new None }
     ensures pass { core.new.pass ≡ core.old.pass }
     ensures sat { core.new.sat ≡ core.old.sat }
-    ensures detaches { Detaches (side passes.old core.old) (side passes.new core.new) }
+    ensures detaches { Detaches B.may_starve (side passes.old core.old) (side passes.new core.new) }
 {
     let mut rooms = Desks {
         rt,
@@ -68,11 +71,11 @@ pub(crate) fn detach<R: Wait>(
 }
 
 /// Turn by turn, until one ends the session, a last Detach, and its bot, if it has one, rises from the bench.
-fn talk<L: Link, R: Wait>(
+fn talk<B: HostedRoom<AnyGame>, L: Link, R: Wait>(
     rt: &R,
     alloc: Global,
-    desks: &[Desk<Book<AnyGame>>],
-    passes: &mut [Pass<Book<AnyGame>>],
+    desks: &[Desk<B>],
+    passes: &mut [Pass<B>],
     bench: &Desk<Wishes>,
     bench_pass: &mut Pass<Wishes>,
     link: &mut L,
@@ -93,7 +96,7 @@ fn talk<L: Link, R: Wait>(
     ensures shown { Shows result (L.stage link.new) (L.faults link.new) (L.sent link.new) }
     ensures is_bot { L.is_bot link.new ≡ L.is_bot link.old }
     ensures session { IsSome (L.answers link.old) → IsSome (L.sent link.old)
-        → Session Turn Leaves (begins (length desks.now) passes.old words.old bench_pass.old) (told_answers (L.answers link.old)) (told_bytes (L.sent link.old)) result
+        → Session (Turn B.may_starve) (Leaves B.may_starve) (begins (length desks.now) passes.old words.old bench_pass.old) (told_answers (L.answers link.old)) (told_bytes (L.sent link.old)) result
         (begins (length desks.now) passes.new words.new bench_pass.new) (L.answers link.new) (L.sent link.new) }
 {
     let mut core = SessionCore::new(passes[0].number(), desks.len() as u8).with_bench();
@@ -116,11 +119,11 @@ fn talk<L: Link, R: Wait>(
 /// There are 1 to 64 desks. The passes are one for each desk, in their order, all with one number, and none is attached; so they are
 /// afterwards. The bench's pass is one of that desk. The tape is a live one. The session draws its words from it, and takes the seeds of its matches
 /// there too.
-pub fn serve_link<L: Link, R: Wait>(
+pub fn serve_link<B: HostedRoom<AnyGame>, L: Link, R: Wait>(
     rt: &R,
     alloc: Global,
-    desks: &[Desk<Book<AnyGame>>],
-    passes: &mut [Pass<Book<AnyGame>>],
+    desks: &[Desk<B>],
+    passes: &mut [Pass<B>],
     bench: &Desk<Wishes>,
     bench_pass: &mut Pass<Wishes>,
     link: &mut L,
@@ -142,7 +145,7 @@ pub fn serve_link<L: Link, R: Wait>(
     ensures finished { L.finished link.new ≡ Some result }
     ensures is_bot { L.is_bot link.new ≡ L.is_bot link.old }
     ensures session { IsSome (L.answers link.old) → IsSome (L.sent link.old)
-        → Session Turn Leaves (begins (length desks.now) passes.old words.old bench_pass.old) (told_answers (L.answers link.old)) (told_bytes (L.sent link.old)) result
+        → Session (Turn B.may_starve) (Leaves B.may_starve) (begins (length desks.now) passes.old words.old bench_pass.old) (told_answers (L.answers link.old)) (told_bytes (L.sent link.old)) result
         (begins (length desks.now) passes.new words.new bench_pass.new) (L.answers link.new) (L.sent link.new) }
 {
     let end = talk(rt, alloc, desks, passes, bench, bench_pass, link, words);

@@ -13,8 +13,8 @@ use board_links::{Link, SessionEnd};
 use dice_words::Tape;
 use game_hall::SessionCore;
 use game_sheet::{MatchName, Seat};
+use hosted_room::HostedRoom;
 use link_rounds::{Service, Stir};
-use match_master::Book;
 use room_desk::{Desk, Pass};
 use session_bench::rise;
 use std::alloc::Global;
@@ -42,19 +42,19 @@ impl Seeded for Brand {
 
 /// The rooms of a server, which its sessions share.
 #[derive(Drop)]
-pub struct Hall<'a> {
+pub struct Hall<'a, B: HostedRoom<AnyGame>> {
     /// Where its memory comes from.
     pub alloc: Global,
     /// A desk for each room, in their order.
-    pub desks: &'a [Desk<Book<AnyGame>>],
+    pub desks: &'a [Desk<B>],
     /// The desk of the bench.
     pub bench: &'a Desk<Wishes>,
 }
 
 /// A place of sessions: a pass for each room and one for the bench, the core of the session that is there, the words that its lines draw, and the
 /// seat of its bot, if it has one. The words come from the seed of `K`. Contracts see where the session stands.
-pub struct Sitting<'a, K: Seeded> {
-    passes: Vec<Pass<Book<AnyGame>>>,
+pub struct Sitting<'a, B: HostedRoom<AnyGame>, K: Seeded> {
+    passes: Vec<Pass<B>>,
     bench: Pass<Wishes>,
     core: SessionCore,
     words: Tape,
@@ -64,7 +64,7 @@ pub struct Sitting<'a, K: Seeded> {
     hall: PhantomData<&'a ()>,
 }
 
-impl<'a, K: Seeded> Drop for Sitting<'a, K> {
+impl<'a, B: HostedRoom<AnyGame>, K: Seeded> Drop for Sitting<'a, B, K> {
     fn drop(self) {
         let Sitting {
             passes,
@@ -83,7 +83,7 @@ impl<'a, K: Seeded> Drop for Sitting<'a, K> {
     }
 }
 
-impl<'a, K: Seeded> Model for Sitting<'a, K> {
+impl<'a, B: HostedRoom<AnyGame>, K: Seeded> Model for Sitting<'a, B, K> {
     ghost use Rattle.session_pool.specs.Turn.{Stand, stand};
 
     ghost Value = { Stand };
@@ -91,15 +91,15 @@ impl<'a, K: Seeded> Model for Sitting<'a, K> {
     ghost view = { λ s. stand s.passes.items s.core s.words s.bench s.seat };
 }
 
-impl<'a, K: Seeded> Sitting<'a, K> {
+impl<'a, B: HostedRoom<AnyGame>, K: Seeded> Sitting<'a, B, K> {
     /// A place without a session, of these passes over so many rooms, and of this pass at the bench. Its words are those of the stream of the passes'
     /// number, from the first on.
     pub fn new(
-        passes: Vec<Pass<Book<AnyGame>>>,
+        passes: Vec<Pass<B>>,
         bench: Pass<Wishes>,
         rooms: u8,
         seed: [u8; 32],
-    ) -> Sitting<'a, K>
+    ) -> Sitting<'a, B, K>
         requires some { 0 < vec_len passes }
         requires rooms { (1 ≤ rooms) × (rooms ≤ 64) }
         ensures { result ≡ begins rooms passes.items (live seed (number_of passes.items) 0) bench }
@@ -122,7 +122,7 @@ impl<'a, K: Seeded> Sitting<'a, K> {
     }
 
     /// Its passes, and that at the bench.
-    pub fn into_passes(self) -> (Vec<Pass<Book<AnyGame>>>, Pass<Wishes>)
+    pub fn into_passes(self) -> (Vec<Pass<B>>, Pass<Wishes>)
         ensures passes { result.0.items ≡ self.entry.passes }
         ensures bench { result.1 ≡ self.entry.bench }
     {
@@ -142,27 +142,27 @@ impl<'a, K: Seeded> Sitting<'a, K> {
     }
 }
 
-impl<'a, K: Seeded> Service for Sitting<'a, K> {
+impl<'a, B: HostedRoom<AnyGame> + 'a, K: Seeded> Service for Sitting<'a, B, K> {
     ghost use Rattle.session_pool.specs.Passes.{number_of};
     ghost use Rattle.session_pool.specs.Sittings.{Fits, Leaves, Rests};
     ghost use Rattle.session_pool.specs.Turn.{Turn};
 
-    type Hall = Hall<'a>;
+    type Hall = Hall<'a, B>;
 
     ghost fits = { λ hall s. Fits hall.desks.now hall.bench.now.desk K.seed K.places s };
 
     ghost rests = { λ s. Rests K.seed K.places s };
 
-    ghost turn = { Turn };
+    ghost turn = { Turn B.may_starve };
 
-    ghost leave = { Leaves };
+    ghost leave = { Leaves B.may_starve };
 
     ghost number = { λ s. number_of s.passes };
 
     fn turn<L: Link, R: Wait>(
         &mut self,
         rt: &R,
-        hall: &Hall<'a>,
+        hall: &Hall<'a, B>,
         link: &mut L,
     ) -> Option<SessionEnd> {
         let Sitting {
@@ -200,7 +200,7 @@ impl<'a, K: Seeded> Service for Sitting<'a, K> {
         }
     }
 
-    fn leave<R: Wait>(&mut self, rt: &R, hall: &Hall<'a>) {
+    fn leave<R: Wait>(&mut self, rt: &R, hall: &Hall<'a, B>) {
         let Sitting {
             passes,
             bench,

@@ -20,13 +20,13 @@ use crate::say::{hand_out, say_all};
 use any_game::AnyGame;
 use board_links::{Link, SessionEnd};
 use game_hall::SessionCore;
-use match_master::Book;
+use hosted_room::HostedRoom;
 use room_desk::{Desk, Pass};
 use room_history::RoomReply;
 use session_driver::take;
 use std::sync::Wait;
 
-/// Sends what a reply to a Take handed out.
+/// Sends what a reply to a Take handed out. A Take that was refused ends the session, with nothing sent.
 fn handed<L: Link, R: Wait>(rt: &R, link: &mut L, reply: RoomReply) -> Option<SessionEnd>
     requires taken { IsTaken reply }
     ensures never_falls { L.faults link.old ≤ L.faults link.new }
@@ -39,16 +39,22 @@ fn handed<L: Link, R: Wait>(rt: &R, link: &mut L, reply: RoomReply) -> Option<Se
     ensures asked_out { L.asked_out link.new ≡ L.asked_out link.old }
     ensures told { IsSome (L.sent link.old) → HandsTaken (Some reply) (told_bytes (L.sent link.old)) result (L.sent link.new) }
 {
-    let RoomReply::Taken { bytes, end: over } = reply else {
-        unreachable!()
-    };
-    let why = hand_out(rt, link, &bytes, over);
-    drop(bytes);
-    why
+    match reply {
+        RoomReply::Taken { bytes, end: over } => {
+            let why = hand_out(rt, link, &bytes, over);
+            drop(bytes);
+            why
+        }
+        RoomReply::NoMemory => Some(SessionEnd::NoMemory),
+        _ => unreachable!(),
+    }
 }
 
 /// Takes what waits for the session, over these desks.
-fn take_there<R: Wait>(rooms: &mut Desks<'_, R>, core: &mut SessionCore) -> Option<RoomReply>
+fn take_there<B: HostedRoom<AnyGame>, R: Wait>(
+    rooms: &mut Desks<'_, B, R>,
+    core: &mut SessionCore,
+) -> Option<RoomReply>
     requires belong { Belong rooms.old.desks.now core.old.pass rooms.old.passes.now }
     requires idle { IsIdle (length rooms.old.desks.now) core.old }
     requires attached { AttachedBy rooms.old.passes.now core.old.at }
@@ -59,16 +65,16 @@ fn take_there<R: Wait>(rooms: &mut Desks<'_, R>, core: &mut SessionCore) -> Opti
     ensures pass { core.new.pass ≡ core.old.pass }
     ensures sat { core.new.sat ≡ core.old.sat }
     ensures taken { IfSome result IsTaken }
-    ensures takes { Frees Calls call.Take (side rooms.old.passes.now core.old) result (side rooms.new.passes.now core.new) }
+    ensures takes { Frees (Calls B.may_starve) call.Take (side rooms.old.passes.now core.old) result (side rooms.new.passes.now core.new) }
 {
     take(rooms, core)
 }
 
 /// Takes what waits in the room that the session is attached to. The reply is none where it isn't attached.
-fn take_waiting<R: Wait>(
+fn take_waiting<B: HostedRoom<AnyGame>, R: Wait>(
     rt: &R,
-    desks: &[Desk<Book<AnyGame>>],
-    passes: &mut [Pass<Book<AnyGame>>],
+    desks: &[Desk<B>],
+    passes: &mut [Pass<B>],
     core: &mut SessionCore,
 ) -> Option<RoomReply>
     requires belong { Belong desks.now core.old.pass passes.old }
@@ -80,7 +86,7 @@ fn take_waiting<R: Wait>(
     ensures pass { core.new.pass ≡ core.old.pass }
     ensures sat { core.new.sat ≡ core.old.sat }
     ensures taken { IfSome result IsTaken }
-    ensures takes { Frees Calls call.Take (side passes.old core.old) result (side passes.new core.new) }
+    ensures takes { Frees (Calls B.may_starve) call.Take (side passes.old core.old) result (side passes.new core.new) }
 {
     let mut rooms = Desks {
         rt,
@@ -111,10 +117,10 @@ fn say_answer<L: Link, R: Wait>(rt: &R, link: &mut L, core: &mut SessionCore) ->
 }
 
 /// Sends the direct answer, and then, if attached, what waits.
-pub(crate) fn speak<L: Link, R: Wait>(
+pub(crate) fn speak<B: HostedRoom<AnyGame>, L: Link, R: Wait>(
     rt: &R,
-    desks: &[Desk<Book<AnyGame>>],
-    passes: &mut [Pass<Book<AnyGame>>],
+    desks: &[Desk<B>],
+    passes: &mut [Pass<B>],
     link: &mut L,
     core: &mut SessionCore,
 ) -> Option<SessionEnd>
@@ -135,7 +141,7 @@ pub(crate) fn speak<L: Link, R: Wait>(
     ensures tells { is_some (L.sent link.new) ≡ is_some (L.sent link.old) }
     ensures is_bot { L.is_bot link.new ≡ L.is_bot link.old }
     ensures asked_out { L.asked_out link.new ≡ L.asked_out link.old }
-    ensures told { IsSome (L.sent link.old) → Says (side passes.old core.old) (told_bytes (L.sent link.old)) result (side passes.new core.new) (L.sent link.new) }
+    ensures told { IsSome (L.sent link.old) → Says B.may_starve (side passes.old core.old) (told_bytes (L.sent link.old)) result (side passes.new core.new) (L.sent link.new) }
 {
     if let Some(why) = say_answer(rt, link, core) {
         return Some(why);

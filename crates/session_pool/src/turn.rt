@@ -19,8 +19,8 @@ use bench_wishes::Wishes;
 use board_links::{Came, Link, SessionEnd};
 use dice_words::Tape;
 use game_hall::SessionCore;
+use hosted_room::HostedRoom;
 use link_rounds::Stir;
-use match_master::Book;
 use room_desk::{Desk, Pass};
 use session_bench::{ready, seek};
 use std::alloc::Global;
@@ -33,11 +33,11 @@ use std::sync::Wait;
 /// The passes are one for each desk, in the order of the desks, with the core's number, and the session is attached where its core is. The bench's
 /// pass is one of that desk. The tape is a live one. An answer other than a line or silence ends the session with nothing taken, and so does a send
 /// that isn't done; an end that is handed out ends it with its bye line.
-pub fn serve_turn<L: Link, R: Wait>(
+pub fn serve_turn<B: HostedRoom<AnyGame>, L: Link, R: Wait>(
     rt: &R,
     alloc: Global,
-    desks: &[Desk<Book<AnyGame>>],
-    passes: &mut [Pass<Book<AnyGame>>],
+    desks: &[Desk<B>],
+    passes: &mut [Pass<B>],
     bench: &Desk<Wishes>,
     bench_pass: &mut Pass<Wishes>,
     link: &mut L,
@@ -64,7 +64,7 @@ pub fn serve_turn<L: Link, R: Wait>(
     ensures benched { (p : Seen) × Readies (L.bot_seat link.old) bench_pass.old core.old.sat (L.asked_out link.old) p core.new.sat (L.asked_out link.new)
         × AsksOnce p bench_pass.new }
     ensures turn { IsSome (L.answers link.old) → IsSome (L.sent link.old)
-        → Turn (stand passes.old core.old words.old bench_pass.old None) (told_answers (L.answers link.old)) (told_bytes (L.sent link.old)) result
+        → Turn B.may_starve (stand passes.old core.old words.old bench_pass.old None) (told_answers (L.answers link.old)) (told_bytes (L.sent link.old)) result
         (stand passes.new core.new words.new bench_pass.new (L.bot_seat link.old)) (L.answers link.new) (L.sent link.new) }
 {
     let mut stir = Stir {
@@ -78,11 +78,11 @@ pub fn serve_turn<L: Link, R: Wait>(
 }
 
 /// One turn of a session, which notes whether a line came, and the rooms that its calls may have changed.
-pub(crate) fn take_turn<L: Link, R: Wait>(
+pub(crate) fn take_turn<B: HostedRoom<AnyGame>, L: Link, R: Wait>(
     rt: &R,
     alloc: Global,
-    desks: &[Desk<Book<AnyGame>>],
-    passes: &mut [Pass<Book<AnyGame>>],
+    desks: &[Desk<B>],
+    passes: &mut [Pass<B>],
     bench: &Desk<Wishes>,
     bench_pass: &mut Pass<Wishes>,
     link: &mut L,
@@ -110,7 +110,7 @@ pub(crate) fn take_turn<L: Link, R: Wait>(
     ensures benched { (p : Seen) × Readies (L.bot_seat link.old) bench_pass.old core.old.sat (L.asked_out link.old) p core.new.sat (L.asked_out link.new)
         × AsksOnce p bench_pass.new }
     ensures turn { IsSome (L.answers link.old) → IsSome (L.sent link.old)
-        → Turn (stand passes.old core.old words.old bench_pass.old None) (told_answers (L.answers link.old)) (told_bytes (L.sent link.old)) result
+        → Turn B.may_starve (stand passes.old core.old words.old bench_pass.old None) (told_answers (L.answers link.old)) (told_bytes (L.sent link.old)) result
         (stand passes.new core.new words.new bench_pass.new (L.bot_seat link.old)) (L.answers link.new) (L.sent link.new) }
 {
     ready(rt, bench, bench_pass, link, core);
@@ -120,11 +120,11 @@ pub(crate) fn take_turn<L: Link, R: Wait>(
 }
 
 /// The turn of a session whose bot, if it has one, got ready.
-fn go_on<L: Link, R: Wait>(
+fn go_on<B: HostedRoom<AnyGame>, L: Link, R: Wait>(
     rt: &R,
     alloc: Global,
-    desks: &[Desk<Book<AnyGame>>],
-    passes: &mut [Pass<Book<AnyGame>>],
+    desks: &[Desk<B>],
+    passes: &mut [Pass<B>],
     bench: &Desk<Wishes>,
     bench_pass: &mut Pass<Wishes>,
     link: &mut L,
@@ -153,7 +153,7 @@ fn go_on<L: Link, R: Wait>(
     ensures sat { core.new.sat ≡ core.old.sat }
     ensures asks { AsksOnce bench_pass.old bench_pass.new }
     ensures goes { (seat : Option (Name × ℕ)) → IsSome (L.answers link.old) → IsSome (L.sent link.old)
-        → GoesOn (stand passes.old core.old words.old bench_pass.old seat) (told_answers (L.answers link.old)) (told_bytes (L.sent link.old)) result
+        → GoesOn B.may_starve (stand passes.old core.old words.old bench_pass.old seat) (told_answers (L.answers link.old)) (told_bytes (L.sent link.old)) result
         (stand passes.new core.new words.new bench_pass.new seat) (L.answers link.new) (L.sent link.new) }
 {
     match link.receive(rt) {
@@ -173,9 +173,9 @@ fn go_on<L: Link, R: Wait>(
 }
 
 /// Puts a takeover that waits to the bench. Returns the room of a bot that was asked to leave, as one bit, since its session has a turn to take then.
-fn put_to_bench<R: Wait>(
+fn put_to_bench<B: HostedRoom<AnyGame>, R: Wait>(
     rt: &R,
-    _desks: &[Desk<Book<AnyGame>>],
+    _desks: &[Desk<B>],
     bench: &Desk<Wishes>,
     bench_pass: &mut Pass<Wishes>,
     core: &mut SessionCore,

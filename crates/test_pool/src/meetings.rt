@@ -8,7 +8,7 @@ use board_links::{Came, Door, Link, MemoryDoor, Out, SessionEnd, Stage};
 use game_sheet::{Bytes, List, MatchName, NoMemory, Seat};
 use link_rounds::{DoorEnd, InTurn};
 use room_desk::Desk;
-use session_pool::{serve_door, set_up_rooms};
+use session_pool::{plain_rooms, serve_door, set_up_rooms};
 use std::alloc::Global;
 use std::sync::Wait;
 use std::sync::atomic::{AtomicBool, Ordering};
@@ -223,7 +223,7 @@ fn two_links_that_wait_for_each_other_are_served_by_two_workers(
         missed: AtomicBool::new(false),
     };
     let door = door(&rt, &flags, alloc)?;
-    let (desks, passes) = set_up_rooms(alloc, 1, 2)?;
+    let (desks, passes) = set_up_rooms(alloc, plain_rooms(alloc, 1)?, 2)?;
     let (bench, bench_passes) = Desk::set_up(alloc, Wishes::new(alloc), 2)?;
     let mut readies = Vec::with_capacity(alloc, 2)?;
     readies.push_reserved(InTurn::new(1));

@@ -10,7 +10,7 @@ use board_links::{Came, Door, Link, MemoryDoor, Out, SessionEnd, Stage};
 use game_sheet::{Bytes, List, MatchName, NoMemory, Seat};
 use link_rounds::{DoorEnd, Ready, Stir};
 use room_desk::Desk;
-use session_pool::{serve_door, set_up_rooms};
+use session_pool::{plain_rooms, serve_door, set_up_rooms};
 use std::alloc::Global;
 use std::process::Abort;
 use std::sync::Wait;
@@ -363,7 +363,7 @@ fn both_served<R: Abort + Clock + Threads + Wait + Sync>(
     };
     let door = door(rt, &told, alloc)?;
     let readies = readies(rt, &told, alloc, workers)?;
-    let (desks, passes) = set_up_rooms(alloc, 1, 2)?;
+    let (desks, passes) = set_up_rooms(alloc, plain_rooms(alloc, 1)?, 2)?;
     let (bench, bench_passes) = Desk::set_up(alloc, Wishes::new(alloc), 2)?;
     let (end, count, passes, bench_passes, door) = serve_door(
         rt,

@@ -8,6 +8,7 @@ use door_serve::{ServeEnd, serve_rooms};
 use game_sheet::List;
 use link_rounds::Ready;
 use poll_links::{PollDoor, PollReady, open};
+use session_pool::plain_rooms;
 use std::alloc::Global;
 use std::net::{Ipv4Addr, SocketAddr};
 use std::sync::Wait;
@@ -36,11 +37,16 @@ where
     requires fresh { (D.given door ≡ 0) × (D.out door ≡ 0) × (D.bots_out door ≡ 0) × (D.shut door ≡ false) }
     requires returned { D.returned door ≡ None }
 {
+    let Ok(rooms) = plain_rooms(alloc, 38) else {
+        drop(readies);
+        drop(door);
+        return ServeEnd::NoMemory;
+    };
     let mut sink = MemorySink::new(alloc, List::new(alloc));
-    let (end, door, books) = serve_rooms(
-        rt, alloc, 38, 300, readies, None, 300, door, &mut sink, [0; 32],
+    let (end, door, rooms) = serve_rooms(
+        rt, alloc, rooms, 300, readies, None, 300, door, &mut sink, [0; 32],
     );
-    drop(books);
+    drop(rooms);
     drop(door);
     drop(sink);
     end

@@ -11,7 +11,7 @@ use dice_words::Tape;
 use game_sheet::NoMemory;
 use match_master::Book;
 use room_desk::{Desk, Pass};
-use session_pool::serve_link;
+use session_pool::{plain_rooms, serve_link, set_up_rooms};
 use std::alloc::Global;
 use std::io::Cursor;
 use std::sync::Wait;
@@ -47,9 +47,11 @@ struct Rooms {
 }
 
 fn opened(alloc: Global) -> Result<Rooms, NoMemory> {
-    let mut desks = Vec::with_capacity(alloc, 1)?;
-    let (desk, passes) = Desk::set_up(alloc, Book::new(alloc, 0)?, 1)?;
-    desks.push_reserved(desk);
+    let (desks, mut places) = set_up_rooms(alloc, plain_rooms(alloc, 1)?, 1)?;
+    let Some(passes) = places.pop() else {
+        unreachable!()
+    };
+    drop(places);
     let (bench, bench_passes) = Desk::set_up(alloc, Wishes::new(alloc), 1)?;
     Ok(Rooms {
         desks,

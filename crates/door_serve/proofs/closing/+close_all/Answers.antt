@@ -5,33 +5,33 @@ use Rattle.door_serve.proofs.Gathering.{all_last, rows_end}
 use Rattle.door_serve.proofs.closing.+close_all.Goals as goal
 
 pub take_last-requires-clause-none : goal.take_last-requires-clause-none
-take_last-requires-clause-none t c =
+take_last-requires-clause-none g t c =
     (all_last (λ v. (v.items ≡ []) × (length c.args.rows.now ≤ vec_capacity v)) c.args.spare.now.items c.pop-2.new.self.items c.in-Some-pop.passes c.in-Some-pop.ensures.items c.requires.spare.1).1.0
 
 pub take_last-requires-clause-room : goal.take_last-requires-clause-room
-take_last-requires-clause-room t c =
+take_last-requires-clause-room g t c =
     let e = (all_last (λ v. (v.items ≡ []) × (length c.args.rows.now ≤ vec_capacity v)) c.args.spare.now.items c.pop-2.new.self.items c.in-Some-pop.passes c.in-Some-pop.ensures.items c.requires.spare.1).1 in
     omega (arith, ap length e.0, e.1, c.in-Some-pop.passes.ok)
 
 pub take_last-requires-clause-rows : goal.take_last-requires-clause-rows
-take_last-requires-clause-rows t c =
+take_last-requires-clause-rows g t c =
     rows_end (λ v. v.items) c.args.desks.now.items c.as_slice.result.now c.in-Some.desk c.args.rows.now (c.in-Some.ensures.items ∙ ap (λ l. l ++ c.in-Some.desk ∷ []) (sym c.as_slice.ensures.value)) c.requires.rows
 
 pub close-requires : goal.close-requires
-close-requires t c =
+close-requires g t c =
     let all = (all_last (λ d. d.passes ≡ length c.args.rows.now) c.args.desks.now.items c.pop.new.self.items c.in-Some.desk c.in-Some.ensures.items c.requires.counts).1 in
     c.take_last.ensures.passes ∙ ap (λ n. replicate n c.in-Some.desk.desk) (sym all)
 
 pub returns-clause-numbers : goal.returns-clause-numbers
-returns-clause-numbers t c =
-    numbers_on (λ d. d.desk.object) c.args.books.now.items c.close_all.new.books.items c.push_reserved.new.self.items c.args.desks.now.items c.pop.new.self.items c.in-Some.desk c.close.result
+returns-clause-numbers g t c =
+    numbers_on g.B.Object.number (λ d. d.desk.object) c.args.rooms.now.items c.close_all.new.rooms.items c.push_reserved.new.self.items c.args.desks.now.items c.pop.new.self.items c.in-Some.desk c.close.result
     c.in-Some.ensures.items c.close_all.ensures.numbers c.push_reserved.ensures.items c.close.ensures.number
 
 pub returns-clause-stand : goal.returns-clause-stand
-returns-clause-stand t c all =
-    one_room_more c.close_all.new.books.items c.push_reserved.new.self.items c.close.result c.push_reserved.ensures.items (c.close_all.ensures.stand all) c.close.ensures.stands
+returns-clause-stand g t c all =
+    one_room_more g.B.Object.stands_for c.close_all.new.rooms.items c.push_reserved.new.self.items c.close.result c.push_reserved.ensures.items (c.close_all.ensures.stand all) c.close.ensures.stands
 
 pub push_reserved-requires : goal.push_reserved-requires
-push_reserved-requires t c =
-    let many = as_many_more (λ d. d.desk.object) c.args.books.now.items c.close_all.new.books.items c.pop.new.self.items c.close_all.ensures.numbers in
-    omega (arith, many, c.close_all.new.books.ok, c.args.books.now.ok, c.pop.new.self.ok, c.close_all.ensures.room, c.requires.room, c.in-Some.ensures.cases)
+push_reserved-requires g t c =
+    let many = as_many_more g.B.Object.number (λ d. d.desk.object) c.args.rooms.now.items c.close_all.new.rooms.items c.pop.new.self.items c.close_all.ensures.numbers in
+    omega (arith, many, c.close_all.new.rooms.ok, c.args.rooms.now.ok, c.pop.new.self.ok, c.close_all.ensures.room, c.requires.room, c.in-Some.ensures.cases)

@@ -2,4 +2,4 @@ use Rattle.std.proofs.Common.{length}
 use Rattle.door_serve.proofs.closing.+close_all.Given as goal
 
 abbrev pub decreases-close_all : goal.decreases-close_all
-decreases-close_all l = length l.desks.now.items
+decreases-close_all g l = length l.desks.now.items

@@ -4,7 +4,7 @@ use Rattle.door_serve.proofs.Gathering.{begin, end, gathered_more, onward, row_h
 use Rattle.door_serve.proofs.closing.take_last.Goals as goal
 
 pub unreachable-requires : goal.unreachable-requires
-unreachable-requires c =
+unreachable-requires g c =
     let i = c.loop-place.invariant in
     let row = slice_index_or c.loop-place.rows c.loop-place.place c.index-rows-place.result in
     let within : c.loop-place.place < length c.loop-place.rows = omega (arith, i.many, c.loop-place-test.true) in
@@ -12,7 +12,7 @@ unreachable-requires c =
     omega (arith, has, c.in_default.ensures.cases.0, row.ok)
 
 pub loop-place-init : goal.loop-place-init
-loop-place-init c = record {
+loop-place-init g c = record {
   halfway = begin (λ v. v.items) (map (λ d. d.desk) c.args.desks.now) c.args.desk.now.desk c.args.rows.now c.requires.rows;
   many = refl;
   gathered = ap (λ ps. map (λ p. p.desk) ps) c.requires.none;
@@ -21,7 +21,7 @@ loop-place-init c = record {
 }
 
 pub loop-place-preserved : goal.loop-place-preserved
-loop-place-preserved c =
+loop-place-preserved g c =
     let i = c.loop-place.invariant in
     let within : c.loop-place.place < length c.loop-place.rows = omega (arith, i.many, c.loop-place-test.true) in
     let s = onward (λ v. v.items) (map (λ d. d.desk) c.args.desks.now) c.args.desk.now.desk c.loop-place.rows c.loop-place.place _ c.index-rows-place.result c.pop.new.self c.in-Some.pass refl within c.in-Some.ensures.items i.halfway in
@@ -34,11 +34,11 @@ loop-place-preserved c =
     }
 
 pub returns-clause-rows : goal.returns-clause-rows
-returns-clause-rows c =
+returns-clause-rows g c =
     let i = c.loop-place.invariant in
     end (λ v. v.items) (map (λ d. d.desk) c.args.desks.now) c.args.desk.now.desk c.loop-place.rows c.loop-place.place (omega (arith, i.many, c.loop-place-test.false)) i.halfway
 
 pub returns-clause-passes : goal.returns-clause-passes
-returns-clause-passes c =
+returns-clause-passes g c =
     let all : c.loop-place.place ≡ length c.args.rows.now = omega (arith, c.loop-place-test.false, c.loop-place.auto.place-end) in
     c.loop-place.invariant.gathered ∙ ap (λ n. replicate n c.args.desk.now.desk) all

@@ -5,7 +5,7 @@ use Rattle.door_serve.specs.Rooms.{desks_of}
 use Rattle.door_serve.proofs.closing.take_last.Given as goal
 
 abbrev pub invariant-loop-place : goal.invariant-loop-place
-invariant-loop-place l = record {
+invariant-loop-place g l = record {
   halfway : Halfway (λ v. v.items) (map (λ d. d.desk) l.desks) l.desk.desk l.rows l.place;
   many : length l.rows ≡ length l.fn.rows;
   gathered : desks_of l.passes.items ≡ replicate l.place l.desk.desk;

@@ -1,6 +1,6 @@
 use Rattle.std.proofs.Common.{◌≡◌, ◌<◌, ◌++◌, ◌∙◌, ap, arith, inl, length, map, subst, sym}
 use Rattle.std.specs.Prelude.{All}
-use Rattle.board_links.specs.Pieces.{told_bytes}
+use Rattle.board_links.specs.Pieces.{Writes, told_bytes}
 use Rattle.session_pool.specs.Passes.{number_of}
 use Rattle.session_pool.specs.Rooms.{numbers}
 use Rattle.session_pool.specs.Sittings.{AreServed}
@@ -9,7 +9,7 @@ use Rattle.door_serve.proofs.Gathering.{as_many_back, handed_back}
 use Rattle.door_serve.proofs.Printing.{by_end}
 use Rattle.door_serve.specs.Ends.{Printed, end_of}
 use Rattle.door_serve.specs.Report.{report}
-use Rattle.door_serve.specs.Rooms.{IsARoom, Numbered, Stand, desks_of}
+use Rattle.door_serve.specs.Rooms.{IsARoom, Numbered, Stand, desks_of, hosted, rows_of}
 use Rattle.door_serve.proofs.serving.serve_hall.Goals as goal
 
 pub close_all-requires-clause-counts : goal.close_all-requires-clause-counts
@@ -28,10 +28,11 @@ close_all-requires-clause-spare g c =
 
 pub print_report-printed-requires : goal.print_report-printed-requires
 print_report-printed-requires g c =
-    let books = c.close_all.new.books.items in
-    let rooms : map (λ b. b.room) books ≡ numbers 0 c.args.spare.rooms =
-    c.close_all.ensures.numbers ∙ (ap (λ bs. map (λ b. b.room) bs ++ map (λ d. d.desk.object) c.args.desks.items) c.args.spare.none ∙ c.requires.objects) in
-    let many = as_many_rooms books 0 c.args.spare.rooms rooms in
+    let number = g.B.Object.number in
+    let back = c.close_all.new.rooms.items in
+    let are : map number back ≡ numbers 0 c.args.spare.rooms =
+    c.close_all.ensures.numbers ∙ (ap (λ bs. map number bs ++ map (λ d. d.desk.object) c.args.desks.items) c.args.spare.none ∙ c.requires.objects) in
+    let many = as_many_rooms number back 0 c.args.spare.rooms are in
     let seen = ap length c.as_slice-2.ensures.value in
     omega (arith, many, seen, c.requires.rooms.1)
 
@@ -44,23 +45,30 @@ pub serve_door-end-requires-clause-within : goal.serve_door-end-requires-clause-
 serve_door-end-requires-clause-within g c κs inside = subst (λ n. All (λ p. number_of p.items < n) c.args.rows.items) (sym c.requires.many.1) c.requires.within
 
 pub returns-clause-served : goal.returns-clause-served
-returns-clause-served g c = subst (λ n. AreServed c.args.seed n (g.D.Door.returned c.serve_door-end.result.4)) c.requires.many.1 c.serve_door-end.ensures.served
+returns-clause-served g c = subst (λ n. AreServed g.B.Object.may_starve c.args.seed n (g.D.Door.returned c.serve_door-end.result.4)) c.requires.many.1 c.serve_door-end.ensures.served
 
 pub returns-clause-reports : goal.returns-clause-reports
 returns-clause-reports g c tells =
-    let books = c.close_all.new.books.items in
+    let number = g.B.Object.number in
+    let stands_for = g.B.Object.stands_for in
+    let known = hosted number stands_for g.B.HostedRoom.has_stopped in
+    let back = c.close_all.new.rooms.items in
     let before = told_bytes (g.K.Sink.held c.args.sink.now) in
     let after = g.K.Sink.held c.print_report-printed.new.sink in
-    let rooms : map (λ b. b.room) books ≡ numbers 0 c.args.spare.rooms =
-    c.close_all.ensures.numbers ∙ (ap (λ bs. map (λ b. b.room) bs ++ map (λ d. d.desk.object) c.args.desks.items) c.args.spare.none ∙ c.requires.objects) in
-    let stand = all_stand books (c.close_all.ensures.stand (subst (All IsARoom) (sym c.args.spare.none) (λ k d low. absurd (omega arith)))) in
-    let in_order = numbered books 0 c.args.spare.rooms rooms in
-    let wrote = c.print_report-printed.ensures.told tells stand.0 (subst (λ bs. Stand bs stand.0) (sym c.as_slice-2.ensures.value) stand.1)
-    (subst (Numbered 0) (sym c.as_slice-2.ensures.value) in_order) in
-    let printed = by_end c.serve_door-end.result.0 c.print_report-printed.result (report c.serve_door-end.result.1 stand.0) before after wrote in
-    let counted = subst (λ n. Printed (end_of c.serve_door-end.result.0 c.print_report-printed.result) (report n stand.0) before after) (sym c.serve_door-end.ensures.given) printed in
+    let end = c.serve_door-end.result.0 in
+    let put = c.print_report-printed.result in
+    let are : map number back ≡ numbers 0 c.args.spare.rooms =
+    c.close_all.ensures.numbers ∙ (ap (λ bs. map number bs ++ map (λ d. d.desk.object) c.args.desks.items) c.args.spare.none ∙ c.requires.objects) in
+    let stand = all_stand stands_for back (c.close_all.ensures.stand (subst (All (IsARoom stands_for)) (sym c.args.spare.none) (λ k d low. absurd (omega arith)))) in
+    let in_order = numbered number back 0 c.args.spare.rooms are in
+    let rows = rows_of known back stand.0 in
+    let told = c.print_report-printed.ensures.told tells stand.0 (subst (λ bs. Stand stands_for bs stand.0) (sym c.as_slice-2.ensures.value) stand.1)
+    (subst (Numbered number 0) (sym c.as_slice-2.ensures.value) in_order) in
+    let wrote = subst (λ bs. Writes put (report c.serve_door-end.result.1 (rows_of known bs stand.0)) before after) c.as_slice-2.ensures.value told in
+    let printed = by_end end put (report c.serve_door-end.result.1 rows) before after wrote in
+    let counted = subst (λ n. Printed (end_of end put) (report n rows) before after) (sym c.serve_door-end.ensures.given) printed in
     inl (
       stand.0,
-      record { many = as_many_rooms books 0 c.args.spare.rooms rooms; numbered = in_order; stand = stand.1 },
-      subst (λ how. Printed how (report (g.D.Door.given c.serve_door-end.result.4) stand.0) before after) (sym c.end_of.ensures) counted,
+      record { many = as_many_rooms number back 0 c.args.spare.rooms are; numbered = in_order; stand = stand.1 },
+      subst (λ how. Printed how (report (g.D.Door.given c.serve_door-end.result.4) rows) before after) (sym c.end_of.ensures) counted,
     )

@@ -8,8 +8,8 @@ use Rattle.session_pool.proofs.heed.hear_bytes.Goals as goal
 
 pub returns-clause-heeds : goal.returns-clause-heeds
 returns-clause-heeds g c =
-    let h = hears_by _ Calls (λ d. d.passes.now) (λ s p made t called. called.0) c.args.line.now _ (draws c.args.words.now None) _ _ c.hear-tally.result c.hear-tally.ensures.hears in
-    heeds_heard c.args.line.now (side c.args.rooms.now.passes.now c.args.core.now) (side c.hear-tally.new.rooms.passes.now c.hear-tally.new.core) c.args.words.now c.hear-tally.new.tape _
+    let h = hears_by _ (Calls g.B.Object.may_starve) (λ d. d.passes.now) (λ s p made t called. called.0) c.args.line.now _ (draws c.args.words.now None) _ _ c.hear-tally.result c.hear-tally.ensures.hears in
+    heeds_heard g.B.Object.may_starve c.args.line.now (side c.args.rooms.now.passes.now c.args.core.now) (side c.hear-tally.new.rooms.passes.now c.hear-tally.new.core) c.args.words.now c.hear-tally.new.tape _
     c.hear-tally.result h
 
 pub returns-clause-belong : goal.returns-clause-belong

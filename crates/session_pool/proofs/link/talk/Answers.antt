@@ -34,7 +34,7 @@ loop-preserved g c =
             (
               suc before.2.0,
               seat,
-              runs_more before.2.0 (begins (length c.args.desks.now) c.args.passes.now c.args.words.now c.args.bench_pass.now)
+              runs_more g.B.Object.may_starve before.2.0 (begins (length c.args.desks.now) c.args.passes.now c.args.words.now c.args.bench_pass.now)
                   (stand c.loop.passes c.loop.core c.loop.words c.loop.bench_pass before.2.1)
                   (stand c.serve_turn.new.passes c.serve_turn.new.core c.serve_turn.new.words c.serve_turn.new.bench_pass seat)
                   (told_answers (g.L.Link.answers c.args.link.now)) (told_bytes (g.L.Link.sent c.args.link.now))
@@ -58,7 +58,7 @@ returns-in-Some-serve_turn-clause-session g c told_a told_s =
       stand c.loop.passes c.loop.core c.loop.words c.loop.bench_pass before.2.1,
       told_answers (g.L.Link.answers c.loop.link),
       told_bytes (g.L.Link.sent c.loop.link),
-      runs_told before.2.0 (begins (length c.args.desks.now) c.args.passes.now c.args.words.now c.args.bench_pass.now)
+      runs_told g.B.Object.may_starve before.2.0 (begins (length c.args.desks.now) c.args.passes.now c.args.words.now c.args.bench_pass.now)
           (stand c.loop.passes c.loop.core c.loop.words c.loop.bench_pass before.2.1)
           (told_answers (g.L.Link.answers c.args.link.now)) (told_bytes (g.L.Link.sent c.args.link.now)) (g.L.Link.answers c.loop.link) (g.L.Link.sent c.loop.link) before.0 before.1 before.2.2,
       (

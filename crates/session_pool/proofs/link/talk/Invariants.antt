@@ -17,5 +17,5 @@ invariant-loop g l =
     × (g.L.Link.is_bot l.link ≡ g.L.Link.is_bot l.fn.link) × (l.bench_pass.desk ≡ l.fn.bench_pass.desk)
     × (IsSome (g.L.Link.answers l.fn.link) → IsSome (g.L.Link.sent l.fn.link) →
     IsSome (g.L.Link.answers l.link) × IsSome (g.L.Link.sent l.link)
-    × ((n : ℕ) × (seat : Option (Name × ℕ)) × Runs Turn Leaves n (begins (length l.desks) l.fn.passes l.fn.words l.fn.bench_pass)
+    × ((n : ℕ) × (seat : Option (Name × ℕ)) × Runs (Turn g.B.Object.may_starve) (Leaves g.B.Object.may_starve) n (begins (length l.desks) l.fn.passes l.fn.words l.fn.bench_pass)
     (told_answers (g.L.Link.answers l.fn.link)) (told_bytes (g.L.Link.sent l.fn.link)) (stand l.passes l.core l.words l.bench_pass seat) (g.L.Link.answers l.link) (g.L.Link.sent l.link)))

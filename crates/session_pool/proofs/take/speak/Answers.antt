@@ -20,8 +20,8 @@ pub returns-in-Some-clause-told : goal.returns-in-Some-clause-told
 returns-in-Some-clause-told g c told =
     let s = side c.args.passes.now c.args.core.now in
     let sent = told_bytes (g.L.Link.sent c.args.link.now) in
-    subst (λ k. Says s sent (Some c.in-Some.why) (side c.args.passes.now k) (g.L.Link.sent c.say_answer.new.link)) (sym c.say_answer.ensures.core)
-    (says_stopped s sent c.in-Some.why (g.L.Link.sent c.say_answer.new.link) c.in-Some.ensures.why (c.in-Some.ensures.told told))
+    subst (λ k. Says g.B.Object.may_starve s sent (Some c.in-Some.why) (side c.args.passes.now k) (g.L.Link.sent c.say_answer.new.link)) (sym c.say_answer.ensures.core)
+    (says_stopped g.B.Object.may_starve s sent c.in-Some.why (g.L.Link.sent c.say_answer.new.link) c.in-Some.ensures.why (c.in-Some.ensures.told told))
 
 -- it takes what waits
 pub take_waiting-requires : goal.take_waiting-requires

@@ -16,7 +16,7 @@ returns-in-Line-clause-shows g c =
 pub returns-in-Line-clause-goes : goal.returns-in-Line-clause-goes
 returns-in-Line-clause-goes g c seat told_a told_s =
     let m = side c.heed.new.passes c.heed.new.core in
-    went_on (came.Line c.in-Line.line) (stand c.args.passes.now c.args.core.now c.args.words.now c.args.bench_pass.now seat) (stand c.speak.new.passes c.speak.new.core c.heed.new.words c.put_to_bench.new.bench_pass seat)
+    went_on g.B.Object.may_starve (came.Line c.in-Line.line) (stand c.args.passes.now c.args.core.now c.args.words.now c.args.bench_pass.now seat) (stand c.speak.new.passes c.speak.new.core c.heed.new.words c.put_to_bench.new.bench_pass seat)
     (g.L.Link.answers c.args.link.now) (g.L.Link.answers c.receive.new.self) (g.L.Link.answers c.speak.new.link) (g.L.Link.sent c.args.link.now) (g.L.Link.sent c.receive.new.self) (g.L.Link.sent c.speak.new.link)
     c.speak.result told_a told_s (c.in-Line.ensures.told told_a) c.speak.ensures.answers c.receive.ensures.sent
     (λ told. (m, c.put_to_bench.new.core, c.heed.ensures.heeds, c.put_to_bench.ensures.sought, c.speak.ensures.told told, refl))
@@ -35,7 +35,7 @@ speak-requires-in-Quiet-clause-rests g c = c.requires.idle.rests
 
 pub returns-in-Quiet-clause-goes : goal.returns-in-Quiet-clause-goes
 returns-in-Quiet-clause-goes g c seat told_a told_s =
-    went_on came.Quiet (stand c.args.passes.now c.args.core.now c.args.words.now c.args.bench_pass.now seat) (stand c.speak-in-Quiet.new.passes c.speak-in-Quiet.new.core c.args.words.now c.args.bench_pass.now seat)
+    went_on g.B.Object.may_starve came.Quiet (stand c.args.passes.now c.args.core.now c.args.words.now c.args.bench_pass.now seat) (stand c.speak-in-Quiet.new.passes c.speak-in-Quiet.new.core c.args.words.now c.args.bench_pass.now seat)
     (g.L.Link.answers c.args.link.now) (g.L.Link.answers c.receive.new.self) (g.L.Link.answers c.speak-in-Quiet.new.link)
     (g.L.Link.sent c.args.link.now) (g.L.Link.sent c.receive.new.self) (g.L.Link.sent c.speak-in-Quiet.new.link)
     c.speak-in-Quiet.result told_a told_s (c.in-Quiet.ensures.told told_a) c.speak-in-Quiet.ensures.answers c.receive.ensures.sent
@@ -46,27 +46,27 @@ returns-in-Quiet-clause-goes g c seat told_a told_s =
 pub returns-in-Ended-clause-goes : goal.returns-in-Ended-clause-goes
 returns-in-Ended-clause-goes g c seat told_a told_s =
     let s = stand c.args.passes.now c.args.core.now c.args.words.now c.args.bench_pass.now seat in
-    went_on came.Ended s s (g.L.Link.answers c.args.link.now) (g.L.Link.answers c.receive.new.self) (g.L.Link.answers c.receive.new.self)
+    went_on g.B.Object.may_starve came.Ended s s (g.L.Link.answers c.args.link.now) (g.L.Link.answers c.receive.new.self) (g.L.Link.answers c.receive.new.self)
     (g.L.Link.sent c.args.link.now) (g.L.Link.sent c.receive.new.self) (g.L.Link.sent c.receive.new.self)
     (Some end.Ended) told_a told_s (c.in-Ended.ensures.told told_a) refl c.receive.ensures.sent (λ told. (refl, refl, stopped_at (g.L.Link.sent c.receive.new.self) told))
 
 pub returns-in-TooLong-clause-goes : goal.returns-in-TooLong-clause-goes
 returns-in-TooLong-clause-goes g c seat told_a told_s =
     let s = stand c.args.passes.now c.args.core.now c.args.words.now c.args.bench_pass.now seat in
-    went_on came.TooLong s s (g.L.Link.answers c.args.link.now) (g.L.Link.answers c.receive.new.self) (g.L.Link.answers c.receive.new.self)
+    went_on g.B.Object.may_starve came.TooLong s s (g.L.Link.answers c.args.link.now) (g.L.Link.answers c.receive.new.self) (g.L.Link.answers c.receive.new.self)
     (g.L.Link.sent c.args.link.now) (g.L.Link.sent c.receive.new.self) (g.L.Link.sent c.receive.new.self)
     (Some end.TooLong) told_a told_s (c.in-TooLong.ensures.told told_a) refl c.receive.ensures.sent (λ told. (refl, refl, stopped_at (g.L.Link.sent c.receive.new.self) told))
 
 pub returns-in-Failed-clause-goes : goal.returns-in-Failed-clause-goes
 returns-in-Failed-clause-goes g c seat told_a told_s =
     let s = stand c.args.passes.now c.args.core.now c.args.words.now c.args.bench_pass.now seat in
-    went_on came.Failed s s (g.L.Link.answers c.args.link.now) (g.L.Link.answers c.receive.new.self) (g.L.Link.answers c.receive.new.self)
+    went_on g.B.Object.may_starve came.Failed s s (g.L.Link.answers c.args.link.now) (g.L.Link.answers c.receive.new.self) (g.L.Link.answers c.receive.new.self)
     (g.L.Link.sent c.args.link.now) (g.L.Link.sent c.receive.new.self) (g.L.Link.sent c.receive.new.self)
     (Some end.LinkFault) told_a told_s (c.in-Failed.ensures.told told_a) refl c.receive.ensures.sent (λ told. (refl, refl, stopped_at (g.L.Link.sent c.receive.new.self) told))
 
 pub returns-in-NoMemory-clause-goes : goal.returns-in-NoMemory-clause-goes
 returns-in-NoMemory-clause-goes g c seat told_a told_s =
     let s = stand c.args.passes.now c.args.core.now c.args.words.now c.args.bench_pass.now seat in
-    went_on came.NoMemory s s (g.L.Link.answers c.args.link.now) (g.L.Link.answers c.receive.new.self) (g.L.Link.answers c.receive.new.self)
+    went_on g.B.Object.may_starve came.NoMemory s s (g.L.Link.answers c.args.link.now) (g.L.Link.answers c.receive.new.self) (g.L.Link.answers c.receive.new.self)
     (g.L.Link.sent c.args.link.now) (g.L.Link.sent c.receive.new.self) (g.L.Link.sent c.receive.new.self)
     (Some end.NoMemory) told_a told_s (c.in-NoMemory.ensures.told told_a) refl c.receive.ensures.sent (λ told. (refl, refl, stopped_at (g.L.Link.sent c.receive.new.self) told))

@@ -44,7 +44,7 @@ returns-clause-turn g c told_a told_s =
       c.ready.new.pass,
       c.ready.new.core.sat,
       c.ready.ensures.readies,
-      readied_on c.args.passes.now c.args.core.now c.ready.new.core c.args.words.now c.ready.new.pass seat
+      readied_on g.B.Object.may_starve c.args.passes.now c.args.core.now c.ready.new.core c.args.words.now c.ready.new.pass seat
           (stand c.go_on.new.passes c.go_on.new.core c.go_on.new.words c.go_on.new.bench_pass seat)
           (g.L.Link.answers c.args.link.now) (g.L.Link.answers c.ready.new.link) (g.L.Link.answers c.go_on.new.link)
           (g.L.Link.sent c.args.link.now) (g.L.Link.sent c.ready.new.link) (g.L.Link.sent c.go_on.new.link) c.go_on.result

@@ -33,10 +33,10 @@ returns-clause-leave g c =
     let fits = subst (λ s. Fits desks c.args.hall.now.bench.now.desk g.K.Seeded.seed g.K.Seeded.places s) (sym c.self.view_is) c.requires.fits in
     let core_is = c.with_bench.ensures ∙ (ap with_bench c.new.ensures ∙ ap (λ n. with_bench (fresh n (length desks))) (c.pass.ensures ∙ c.detach.ensures.pass)
     ∙ ap (λ n. with_bench (fresh i.core.pass n)) (sym fits.idle.done.rooms_are)) in
-    let detaches = subst (λ passes. Detaches (side passes i.core) (side c.detach.new.passes c.detach.new.core)) c.as_mut_slice.ensures.value c.detach.ensures.detaches in
+    let detaches = subst (λ passes. Detaches g.B.Object.may_starve (side passes i.core) (side c.detach.new.passes c.detach.new.core)) c.as_mut_slice.ensures.value c.detach.ensures.detaches in
     let rises = subst (λ seat. Rises i.core.sat seat i.bench c.rise.new.pass) c.take.ensures.value
     (subst (λ sat. Rises sat c.take.result i.bench c.rise.new.pass) (c.has_sat.ensures ∙ c.detach.ensures.sat) c.rise.ensures.rises) in
     rw (written i.passes.len i.passes.items c.detach.new.passes (c.detach.auto.passes ∙ c.as_mut_slice.ensures.len))
-    (subst (λ s. Leaves s (stand c.detach.new.passes c.with_bench.result i.words c.rise.new.pass c.take.new.self)) c.self.view_is
-    (left_so i.passes.items i.core i.words i.bench i.seat c.detach.new.passes c.detach.new.core c.rise.new.pass c.with_bench.result c.take.new.self
+    (subst (λ s. Leaves g.B.Object.may_starve s (stand c.detach.new.passes c.with_bench.result i.words c.rise.new.pass c.take.new.self)) c.self.view_is
+    (left_so g.B.Object.may_starve i.passes.items i.core i.words i.bench i.seat c.detach.new.passes c.detach.new.core c.rise.new.pass c.with_bench.result c.take.new.self
     detaches rises core_is c.take.ensures.after))

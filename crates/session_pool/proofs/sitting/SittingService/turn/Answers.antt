@@ -12,9 +12,9 @@ returns-clause-turn g c told_a told_s =
     let heard = told_answers (g.L.Link.answers c.args.link.now) in
     let sent = told_bytes (g.L.Link.sent c.args.link.now) in
     let now = stand t.passes t.core t.words t.bench_pass in
-    let here = subst (λ passes. Turn (stand passes i.core i.words i.bench None) heard sent c.take_turn.result (now (g.L.Link.bot_seat c.args.link.now)) (g.L.Link.answers t.link) (g.L.Link.sent t.link))
+    let here = subst (λ passes. Turn g.B.Object.may_starve (stand passes i.core i.words i.bench None) heard sent c.take_turn.result (now (g.L.Link.bot_seat c.args.link.now)) (g.L.Link.answers t.link) (g.L.Link.sent t.link))
     c.as_mut_slice.ensures.value (c.take_turn.ensures.turn told_a told_s) in
-    let seated = subst (λ seat. Turn (stand i.passes.items i.core i.words i.bench None) heard sent c.take_turn.result (now seat) (g.L.Link.answers t.link) (g.L.Link.sent t.link))
+    let seated = subst (λ seat. Turn g.B.Object.may_starve (stand i.passes.items i.core i.words i.bench None) heard sent c.take_turn.result (now seat) (g.L.Link.answers t.link) (g.L.Link.sent t.link))
     (sym c.bot_seat.ensures) here in
     rw (written i.passes.len i.passes.items t.passes (c.take_turn.auto.passes ∙ c.as_mut_slice.ensures.len))
-    (subst (λ s. Turn s heard sent c.take_turn.result (now c.bot_seat.result) (g.L.Link.answers t.link) (g.L.Link.sent t.link)) c.self.view_is seated)
+    (subst (λ s. Turn g.B.Object.may_starve s heard sent c.take_turn.result (now c.bot_seat.result) (g.L.Link.answers t.link) (g.L.Link.sent t.link)) c.self.view_is seated)
