@@ -14,7 +14,7 @@ tail_of [] = []
 tail_of (x ∷ xs) = xs
 
 -- lists that end alike in one more each are alike before
-last_of : {X : Type 0} (xs ys : List X) (x y : X) → xs ++ x ∷ [] ≡ ys ++ y ∷ [] → (xs ≡ ys) × (x ≡ y)
+pub last_of : {X : Type 0} (xs ys : List X) (x y : X) → xs ++ x ∷ [] ≡ ys ++ y ∷ [] → (xs ≡ ys) × (x ≡ y)
 last_of [] [] x y e = (refl, ap (λ l. slice_index_or l 0 x) e)
 last_of [] (b ∷ bs) x y e = let l = ap length e in let m = length-append bs (y ∷ []) in absurd (omega arith)
 last_of (a ∷ more) [] x y e = let l = ap length e in let m = length-append more (x ∷ []) in absurd (omega arith)
@@ -80,7 +80,7 @@ as_many passes n d is =
     let l = ap length is in let m = length-map passes (λ (q : Pass). q.desk) in let r = length-replicate n d in omega (arith, l, m, r)
 
 -- passes that belong to desks are theirs
-own_desks : (desks : List SetUp) (number : ℕ) (row : List Pass) → Belong desks number row → desks_of row ≡ map (λ d. d.desk) desks
+pub own_desks : (desks : List SetUp) (number : ℕ) (row : List Pass) → Belong desks number row → desks_of row ≡ map (λ d. d.desk) desks
 own_desks desks number row is =
     map_both unseen (λ (p : Pass). p.desk) row ∙ (ap desks_of is ∙ sym (map_both (dealt_by number) (λ (p : Pass). p.desk) desks))
   where

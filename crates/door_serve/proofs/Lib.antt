@@ -2,3 +2,4 @@ pub mod Gathering
 pub mod Booking
 pub mod Printing
 pub mod Created
+pub mod OwnPasses

@@ -2,6 +2,7 @@
 #![tactic(auto)]
 
 mod closing;
+mod keeping;
 mod opening;
 mod reporting;
 mod serving;

@@ -1,17 +1,18 @@
-//! Makes the match of bots, serves the links of a door, closes the rooms, and reports.
+//! Makes the match of bots, serves the links of a door beside a keeper, closes the rooms, and reports.
 
-ghost use Rattle.std.specs.Prelude.{◌≡◌, ◌≤◌, ◌<◌, ℕ, [], All, IfOk, IfSome, IsSome, None, false, length, map, vec_capacity, vec_len};
+ghost use Rattle.std.specs.Prelude.{◌≡◌, ◌≤◌, ◌<◌, ◌+◌, ◌++◌, ◌∷◌, ℕ, [], All, IfOk, IfSome, IsSome, None, false, length, map, vec_capacity, vec_len};
 ghost use Rattle.any_game.specs.AnyRules.{any_rules};
 ghost use Rattle.board_links.specs.Pieces.{told_bytes};
 ghost use Rattle.hosted_room.specs.Calls.{NobodyIn};
-ghost use Rattle.session_pool.specs.Passes.{Belong, number_of};
+ghost use Rattle.session_pool.specs.Passes.{Belong, number_of, unseen};
 ghost use Rattle.session_pool.specs.Placed.{AttachedBy};
-ghost use Rattle.session_pool.specs.Rooms.{numbers};
+ghost use Rattle.session_pool.specs.Rooms.{numbers, rows_from};
 ghost use Rattle.session_pool.specs.Sittings.{AreServed};
-ghost use Rattle.door_serve.specs.Ends.{EndsBy, Reports, end_of};
-ghost use Rattle.door_serve.specs.Rooms.{Calls, hosted};
+ghost use Rattle.door_serve.specs.Ends.{AreGiven, EndsBy, Reports, end_of};
+ghost use Rattle.door_serve.specs.Rooms.{Calls, desks_of, hosted};
 
 use crate::closing::close_all;
+use crate::keeping::serve_kept;
 use crate::opening::open_match;
 use crate::reporting::print_report;
 use any_game::AnyGame;
@@ -21,7 +22,8 @@ use game_sheet::NoMemory;
 use hosted_room::HostedRoom;
 use link_rounds::{DoorEnd, Ready};
 use room_desk::{Desk, Pass};
-use session_pool::{serve_door, set_up_rooms};
+use room_keeper::Keeper;
+use session_pool::set_up_rooms;
 use std::alloc::Global;
 use std::sync::Wait;
 use std::thread::Threads;
@@ -39,15 +41,19 @@ pub enum ServeEnd {
     NoMemory,
 }
 
-/// What it takes to close rooms, taken before they are served: a list for the passes of each room, and one for the rooms.
+/// What it takes to close rooms, taken before they are served: a list for the passes of each room, of which there is one more than there are places;
+/// one for the passes of all places and of the keeper; and one for the rooms.
 #[derive(Drop)]
 struct Spare<B: HostedRoom<AnyGame>> {
     rooms: u8,
     places: u16,
     lists: Vec<Vec<Pass<B>>>,
+    all: Vec<Vec<Pass<B>>>,
     back: Vec<B>,
     ghost many: { vec_len lists ≡ rooms },
-    ghost empty: { All (λ v. (v.items ≡ []) × (places ≤ vec_capacity v)) lists.items },
+    ghost empty: { All (λ v. (v.items ≡ []) × (places + 1 ≤ vec_capacity v)) lists.items },
+    ghost all_empty: { all.items ≡ [] },
+    ghost all_room: { places + 1 ≤ vec_capacity all },
     ghost none: { back.items ≡ [] },
     ghost room: { rooms ≤ vec_capacity back },
 }
@@ -56,20 +62,20 @@ struct Spare<B: HostedRoom<AnyGame>> {
 fn lists_for<B: HostedRoom<AnyGame>>(
     alloc: Global,
     rooms: u8,
-    places: u16,
+    passes: usize,
 ) -> Result<Vec<Vec<Pass<B>>>, NoMemory>
     ensures many { IfOk result (λ s. vec_len s ≡ rooms) }
-    ensures empty { IfOk result (λ s. All (λ v. (v.items ≡ []) × (places ≤ vec_capacity v)) s.items) }
+    ensures empty { IfOk result (λ s. All (λ v. (v.items ≡ []) × (passes ≤ vec_capacity v)) s.items) }
 {
     let mut lists = Vec::with_capacity(alloc, rooms as usize)?;
     for _room in 0..rooms {
-        let list = Vec::with_capacity(alloc, places as usize)?;
+        let list = Vec::with_capacity(alloc, passes)?;
         lists.push_reserved(list);
     }
     Ok(lists)
 }
 
-/// What it takes to close so many rooms, of so many passes each.
+/// What it takes to close so many rooms, of a pass for each of so many places and one for the keeper.
 fn spare_for<B: HostedRoom<AnyGame>>(
     alloc: Global,
     rooms: u8,
@@ -78,14 +84,57 @@ fn spare_for<B: HostedRoom<AnyGame>>(
     ensures rooms { IfOk result (λ s. s.rooms ≡ rooms) }
     ensures places { IfOk result (λ s. s.places ≡ places) }
 {
-    let lists = lists_for(alloc, rooms, places)?;
+    let passes = usize::from(places) + 1;
+    let lists = lists_for(alloc, rooms, passes)?;
+    let all = Vec::with_capacity(alloc, passes)?;
     let back = Vec::with_capacity(alloc, rooms as usize)?;
     Ok(Spare {
         rooms,
         places,
         lists,
+        all,
         back,
     })
+}
+
+/// Takes the keeper's passes, those of the last number, out of the rows of all passes of these desks.
+fn split_own<B: HostedRoom<AnyGame>>(
+    desks: &Vec<Desk<B>>,
+    mut rows: Vec<Vec<Pass<B>>>,
+    places: u32,
+) -> (Vec<Vec<Pass<B>>>, Vec<Pass<B>>)
+    requires some { 0 < length desks.now.items }
+    requires rows { map (λ v. map unseen v.items) rows.items ≡ rows_from desks.now.items 0 (places + 1) }
+    requires free { All (λ p. AttachedBy p.items None) rows.items }
+    ensures many { vec_len result.0 ≡ places }
+    ensures belong { All (λ p. Belong desks.now.items (number_of p.items) p.items) result.0.items }
+    ensures free { All (λ p. AttachedBy p.items None) result.0.items }
+    ensures within { All (λ p. number_of p.items < places) result.0.items }
+    ensures own { desks_of result.1.items ≡ map (λ d. d.desk) desks.now.items }
+{
+    let Some(own) = rows.pop() else {
+        unreachable!()
+    };
+    (rows, own)
+}
+
+/// The rows of all places and then the keeper's passes, in a list that has room for them.
+fn put_back<B: HostedRoom<AnyGame>>(
+    mut rows: Vec<Vec<Pass<B>>>,
+    own: Vec<Pass<B>>,
+    mut all: Vec<Vec<Pass<B>>>,
+) -> Vec<Vec<Pass<B>>>
+    requires empty { all.items ≡ [] }
+    requires room { vec_len rows + 1 ≤ vec_capacity all }
+    ensures { result.items ≡ rows.items ++ own ∷ [] }
+{
+    match all.append(&mut rows) {
+        Ok(()) => {}
+        Err(_) => unreachable!(),
+    }
+    drop(rows);
+    all.push_reserved(own);
+    all
 }
 
 /// How the serving ends, by how the door's serving did and what came of the report.
@@ -106,8 +155,12 @@ fn end_of(end: DoorEnd, printed: Put) -> ServeEnd
 /// door is shut, has given so many sessions, or fails. Then closes the rooms, and reports. The rooms come back in their order, or none where there
 /// was no memory to set them up: they are dropped then.
 ///
-/// The rooms are numbered from 0. Each may have had calls before; at their end no pass of these places is attached. Each that comes back stands for one
-/// history. The report says of a room that hasn't stopped what its calls came to, and of one that has that it has stopped.
+/// The rooms are numbered from 0. Each may have had calls before; at their end no pass of these places is attached, nor the pass after them. Each that
+/// comes back stands for one history. The report says of a room that hasn't stopped what its calls came to, and of one that has that it has stopped.
+///
+/// A keeper, if there is one, runs in a thread of its own from the first link on until serving is over. Each match that it names is cleared by the pass
+/// after those of the places, if it stands then: an ordinary call of its room. When that is no clause says. The keeper ends within a second or two of
+/// what it names last.
 ///
 /// A match of `table` is made first, if there is one: of this game, with so many seats, in room 0, by the first place's pass, with words 0 to 7 of
 /// stream 32 of the seed. Without memory for it no link is asked for; after any other reply the serving goes on.
@@ -120,6 +173,7 @@ pub fn serve_rooms<
     D: Door + Send,
     W: Ready<D::L> + Send,
     K: Sink,
+    Q: Keeper + Send,
     R: Threads + Wait + Sync,
 >(
     rt: &R,
@@ -128,6 +182,7 @@ pub fn serve_rooms<
     places: u16,
     readies: Vec<W>,
     table: Option<(AnyGame, u8)>,
+    keeper: Option<Q>,
     sessions: u32,
     door: D,
     sink: &mut K,
@@ -138,7 +193,7 @@ where
     requires rooms { (0 < vec_len rooms) × (vec_len rooms ≤ 64) }
     requires numbered { map (λ b. B.number b) rooms.items ≡ numbers 0 (vec_len rooms) }
     requires stand { All (λ b. (past : Calls) × B.stands_for b past) rooms.items }
-    requires nobody { All (λ b. (past : Calls) → B.stands_for b past → NobodyIn any_rules places (B.number b) past) rooms.items }
+    requires nobody { All (λ b. (past : Calls) → B.stands_for b past → NobodyIn any_rules (places + 1) (B.number b) past) rooms.items }
     requires places { (0 < places) × (places ≤ 4096) }
     requires some { 0 < vec_len readies }
     requires enough { vec_len readies ≤ places }
@@ -148,17 +203,19 @@ where
     ensures served { AreServed B.may_starve seed places (D.returned result.1) }
     ensures sink_never_falls { K.faults sink.old ≤ K.faults sink.new }
     ensures ended { EndsBy result.0 sessions (D.faults door) (D.left door) (D.shut result.1) (D.faults result.1) (D.given result.1) (K.faults sink.old) (K.faults sink.new) }
+    ensures closed { AreGiven (hosted B.number B.stands_for B.has_stopped) (vec_len rooms) result.0 result.2.items }
     ensures reports { let known = hosted B.number B.stands_for B.has_stopped in IsSome (K.held sink.old)
         → Reports known (vec_len rooms) (D.given result.1) result.2.items result.0 (told_bytes (K.held sink.old)) (K.held sink.new) }
 {
     match spare_for(alloc, rooms.len() as u8, places) {
         Ok(spare) => serve_with(
-            rt, alloc, rooms, places, readies, spare, table, sessions, door, sink, seed,
+            rt, alloc, rooms, places, readies, spare, table, keeper, sessions, door, sink, seed,
         ),
         Err(NoMemory) => {
             drop(rooms);
             drop(readies);
             drop(table);
+            drop(keeper);
             (ServeEnd::NoMemory, door, Vec::new(alloc))
         }
     }
@@ -180,6 +237,7 @@ fn serve_with<
     D: Door + Send,
     W: Ready<D::L> + Send,
     K: Sink,
+    Q: Keeper + Send,
     R: Threads + Wait + Sync,
 >(
     rt: &R,
@@ -189,6 +247,7 @@ fn serve_with<
     readies: Vec<W>,
     spare: Spare<B>,
     table: Option<(AnyGame, u8)>,
+    keeper: Option<Q>,
     sessions: u32,
     door: D,
     sink: &mut K,
@@ -199,7 +258,7 @@ where
     requires rooms { (0 < vec_len rooms) × (vec_len rooms ≤ 64) }
     requires numbered { map (λ b. B.number b) rooms.items ≡ numbers 0 (vec_len rooms) }
     requires stand { All (λ b. (past : Calls) × B.stands_for b past) rooms.items }
-    requires nobody { All (λ b. (past : Calls) → B.stands_for b past → NobodyIn any_rules places (B.number b) past) rooms.items }
+    requires nobody { All (λ b. (past : Calls) → B.stands_for b past → NobodyIn any_rules (places + 1) (B.number b) past) rooms.items }
     requires places { (0 < places) × (places ≤ 4096) }
     requires some { 0 < vec_len readies }
     requires enough { vec_len readies ≤ places }
@@ -210,6 +269,7 @@ where
     ensures served { AreServed B.may_starve seed places (D.returned result.1) }
     ensures sink_never_falls { K.faults sink.old ≤ K.faults sink.new }
     ensures ended { EndsBy result.0 sessions (D.faults door) (D.left door) (D.shut result.1) (D.faults result.1) (D.given result.1) (K.faults sink.old) (K.faults sink.new) }
+    ensures closed { AreGiven (hosted B.number B.stands_for B.has_stopped) (vec_len rooms) result.0 result.2.items }
     ensures reports { let known = hosted B.number B.stands_for B.has_stopped in IsSome (K.held sink.old)
         → Reports known (vec_len rooms) (D.given result.1) result.2.items result.0 (told_bytes (K.held sink.old)) (K.held sink.new) }
 {
@@ -218,30 +278,37 @@ where
         drop(spare);
         drop(readies);
         drop(table);
+        drop(keeper);
         return (ServeEnd::NoMemory, door, Vec::new(alloc));
     };
-    match set_up_rooms(alloc, rooms, u32::from(places)) {
-        Ok((desks, rows)) => serve_table(
-            rt,
-            alloc,
-            desks,
-            rows,
-            bench,
-            bench_passes,
-            readies,
-            spare,
-            table,
-            sessions,
-            door,
-            sink,
-            seed,
-        ),
+    match set_up_rooms(alloc, rooms, u32::from(places) + 1) {
+        Ok((desks, rows)) => {
+            let (rows, own) = split_own(&desks, rows, u32::from(places));
+            serve_table(
+                rt,
+                alloc,
+                desks,
+                rows,
+                own,
+                bench,
+                bench_passes,
+                readies,
+                spare,
+                table,
+                keeper,
+                sessions,
+                door,
+                sink,
+                seed,
+            )
+        }
         Err(NoMemory) => {
             drop(bench_passes);
             drop(bench);
             drop(spare);
             drop(readies);
             drop(table);
+            drop(keeper);
             (ServeEnd::NoMemory, door, Vec::new(alloc))
         }
     }
@@ -253,17 +320,20 @@ fn serve_table<
     D: Door + Send,
     W: Ready<D::L> + Send,
     K: Sink,
+    Q: Keeper + Send,
     R: Threads + Wait + Sync,
 >(
     rt: &R,
     alloc: Global,
     desks: Vec<Desk<B>>,
     rows: Vec<Vec<Pass<B>>>,
+    own: Vec<Pass<B>>,
     bench: Desk<Wishes>,
     bench_passes: Vec<Pass<Wishes>>,
     readies: Vec<W>,
     spare: Spare<B>,
     table: Option<(AnyGame, u8)>,
+    keeper: Option<Q>,
     sessions: u32,
     door: D,
     sink: &mut K,
@@ -276,10 +346,11 @@ where
     requires enough { (vec_len readies ≤ spare.places) × (spare.places ≤ 4096) }
     requires many { (vec_len desks ≡ spare.rooms) × (vec_len rows ≡ spare.places) }
     requires objects { map (λ d. d.desk.object) desks.items ≡ numbers 0 spare.rooms }
-    requires counts { All (λ d. d.passes ≡ spare.places) desks.items }
+    requires counts { All (λ d. d.passes ≡ spare.places + 1) desks.items }
     requires belong { All (λ p. Belong desks.items (number_of p.items) p.items) rows.items }
     requires free { All (λ p. AttachedBy p.items None) rows.items }
     requires within { All (λ p. number_of p.items < spare.places) rows.items }
+    requires own { desks_of own.items ≡ map (λ d. d.desk) desks.items }
     requires bench { (vec_len bench_passes ≡ spare.places) × All (λ p. p.desk ≡ bench.desk) bench_passes.items }
     requires fresh { (D.given door ≡ 0) × (D.out door ≡ 0) × (D.bots_out door ≡ 0) × (D.shut door ≡ false) }
     requires none_back { IfSome (D.returned door) (λ told. told ≡ []) }
@@ -287,6 +358,7 @@ where
     ensures served { AreServed B.may_starve seed spare.places (D.returned result.1) }
     ensures sink_never_falls { K.faults sink.old ≤ K.faults sink.new }
     ensures ended { EndsBy result.0 sessions (D.faults door) (D.left door) (D.shut result.1) (D.faults result.1) (D.given result.1) (K.faults sink.old) (K.faults sink.new) }
+    ensures closed { AreGiven (hosted B.number B.stands_for B.has_stopped) spare.rooms result.0 result.2.items }
     ensures reports { let known = hosted B.number B.stands_for B.has_stopped in IsSome (K.held sink.old)
         → Reports known spare.rooms (D.given result.1) result.2.items result.0 (told_bytes (K.held sink.old)) (K.held sink.new) }
 {
@@ -297,10 +369,12 @@ where
             alloc,
             desks,
             rows,
+            own,
             bench,
             bench_passes,
             readies,
             spare,
+            keeper,
             sessions,
             door,
             sink,
@@ -308,11 +382,13 @@ where
         )
     } else {
         drop(rows);
+        drop(own);
         drop(desks);
         drop(bench_passes);
         drop(bench);
         drop(spare);
         drop(readies);
+        drop(keeper);
         (ServeEnd::NoMemory, door, Vec::new(alloc))
     }
 }
@@ -323,16 +399,19 @@ fn serve_hall<
     D: Door + Send,
     W: Ready<D::L> + Send,
     K: Sink,
+    Q: Keeper + Send,
     R: Threads + Wait + Sync,
 >(
     rt: &R,
     alloc: Global,
     desks: Vec<Desk<B>>,
     rows: Vec<Vec<Pass<B>>>,
+    own: Vec<Pass<B>>,
     bench: Desk<Wishes>,
     bench_passes: Vec<Pass<Wishes>>,
     readies: Vec<W>,
     spare: Spare<B>,
+    keeper: Option<Q>,
     sessions: u32,
     door: D,
     sink: &mut K,
@@ -345,10 +424,11 @@ where
     requires enough { (vec_len readies ≤ spare.places) × (spare.places ≤ 4096) }
     requires many { (vec_len desks ≡ spare.rooms) × (vec_len rows ≡ spare.places) }
     requires objects { map (λ d. d.desk.object) desks.items ≡ numbers 0 spare.rooms }
-    requires counts { All (λ d. d.passes ≡ spare.places) desks.items }
+    requires counts { All (λ d. d.passes ≡ spare.places + 1) desks.items }
     requires belong { All (λ p. Belong desks.items (number_of p.items) p.items) rows.items }
     requires free { All (λ p. AttachedBy p.items None) rows.items }
     requires within { All (λ p. number_of p.items < spare.places) rows.items }
+    requires own { desks_of own.items ≡ map (λ d. d.desk) desks.items }
     requires bench { (vec_len bench_passes ≡ spare.places) × All (λ p. p.desk ≡ bench.desk) bench_passes.items }
     requires fresh { (D.given door ≡ 0) × (D.out door ≡ 0) × (D.bots_out door ≡ 0) × (D.shut door ≡ false) }
     requires none_back { IfSome (D.returned door) (λ told. told ≡ []) }
@@ -356,6 +436,7 @@ where
     ensures served { AreServed B.may_starve seed spare.places (D.returned result.1) }
     ensures sink_never_falls { K.faults sink.old ≤ K.faults sink.new }
     ensures ended { EndsBy result.0 sessions (D.faults door) (D.left door) (D.shut result.1) (D.faults result.1) (D.given result.1) (K.faults sink.old) (K.faults sink.new) }
+    ensures closed { AreGiven (hosted B.number B.stands_for B.has_stopped) spare.rooms result.0 result.2.items }
     ensures reports { let known = hosted B.number B.stands_for B.has_stopped in IsSome (K.held sink.old)
         → Reports known spare.rooms (D.given result.1) result.2.items result.0 (told_bytes (K.held sink.old)) (K.held sink.new) }
 {
@@ -364,13 +445,16 @@ where
         rooms: _,
         places: _,
         mut lists,
+        all,
         mut back,
     } = spare;
-    let (end, count, mut rows, bench_passes, door) = serve_door(
+    let (served, own) = serve_kept(
         rt,
         alloc,
-        desks.as_slice(),
+        &desks,
         rows,
+        own,
+        keeper,
         &bench,
         bench_passes,
         readies,
@@ -378,8 +462,10 @@ where
         door,
         sessions,
     );
+    let (end, count, rows, bench_passes, door) = served;
     drop(bench_passes);
     drop(bench);
+    let mut rows = put_back(rows, own, all);
     close_all(&mut desks, rows.as_mut_slice(), &mut lists, &mut back);
     drop(desks);
     drop(rows);

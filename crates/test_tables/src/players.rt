@@ -3,7 +3,8 @@
 use std::alloc::Global;
 use std::io::{Read, Write};
 use std::net::{Net, SocketAddr, TcpStream};
-use std::{io, str};
+use std::time::{Clock, Duration};
+use std::{io, str, thread};
 
 /// Asks for a match of eight seats.
 const CREATE: &[u8] = b"{\"game\":\"blind-bid\",\"seats\":8,\"type\":\"create\"}\n";
@@ -163,4 +164,32 @@ pub fn play_all<N: Net>(net: &N, alloc: Global, addr: SocketAddr, count: u32) ->
     }
     drop(peers);
     Ok(made)
+}
+
+/// A player who comes.
+pub fn connect<N: Net>(net: &N, addr: SocketAddr) -> io::Result<N::Stream> {
+    TcpStream::connect(net, addr)
+}
+
+/// Asks for a match. Whether it is made.
+pub fn creates<T: Read + Write>(alloc: Global, peer: &mut T) -> io::Result<bool> {
+    let answer = ask(alloc, peer, CREATE)?;
+    let made = holds(answer.as_slice(), b"\"type\":\"created\"");
+    drop(answer);
+    Ok(made)
+}
+
+/// Asks for a match until it is made, for ten seconds. Whether it is.
+pub fn creates_again<T: Read + Write, R: Clock>(
+    clock: &R,
+    alloc: Global,
+    peer: &mut T,
+) -> io::Result<bool> {
+    for _ in 0..1_000 {
+        if creates(alloc, peer)? {
+            return Ok(true);
+        }
+        thread::sleep(clock, Duration::from_millis(10));
+    }
+    Ok(false)
 }

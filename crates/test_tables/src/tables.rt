@@ -8,6 +8,7 @@ use door_serve::{ServeEnd, serve_rooms};
 use game_sheet::List;
 use link_rounds::Ready;
 use poll_links::{PollDoor, PollReady, open};
+use room_keeper::NoKeeper;
 use session_pool::plain_rooms;
 use std::alloc::Global;
 use std::net::{Ipv4Addr, SocketAddr};
@@ -17,10 +18,10 @@ use std::thread;
 use std::thread::Threads;
 
 /// How many bytes a line may have.
-const LIMIT: u32 = 65_536;
+pub const LIMIT: u32 = 65_536;
 
 /// Any free port of loopback.
-fn any() -> SocketAddr {
+pub fn any() -> SocketAddr {
     SocketAddr::from((Ipv4Addr::LOCALHOST, 0))
 }
 
@@ -44,7 +45,17 @@ where
     };
     let mut sink = MemorySink::new(alloc, List::new(alloc));
     let (end, door, rooms) = serve_rooms(
-        rt, alloc, rooms, 300, readies, None, 300, door, &mut sink, [0; 32],
+        rt,
+        alloc,
+        rooms,
+        300,
+        readies,
+        None,
+        None::<NoKeeper>,
+        300,
+        door,
+        &mut sink,
+        [0; 32],
     );
     drop(rooms);
     drop(door);

@@ -1,4 +1,4 @@
-use Rattle.std.proofs.Common.{◌≡◌, ◌≤◌, ◌++◌, ◌∷◌, ap, arith, length, map, sym, ◌∙◌}
+use Rattle.std.proofs.Common.{◌≡◌, ◌≤◌, ◌++◌, ◌∷◌, ap, arith, length, sym, ◌∙◌}
 use Rattle.std.specs.Prelude.{[], replicate, vec_capacity}
 use Rattle.door_serve.proofs.Booking.{as_many_more, numbers_on, one_room_more}
 use Rattle.door_serve.proofs.Gathering.{all_last, rows_end}
