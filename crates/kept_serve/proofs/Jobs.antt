@@ -1,0 +1,146 @@
+-- The jobs of rooms that are to be opened, and what came of them.
+use Rattle.std.proofs.Common.{◌≡◌, ◌<◌, ◌≤◌, refl, ℕ, zero, List, [], ◌∷◌, ◌++◌, ◌+◌, map, length, ap, sym, ◌∙◌, subst, arith, slice_index_or, Option, Some, None, Result, Ok, Bool, false, true}
+use Rattle.std.specs.Prelude.{All, IfOk, is_some, not, option_map, suc}
+use Rattle.std.proofs.lemmas.List.{append-nil, append_assoc, get_or-map, length-append, length-map, map-append, nil_from_length}
+use Rattle.kept_serve.specs.Given.{starts_of}
+use Rattle.kept_serve.specs.Opened.{AreOpened, AreOpenedFrom, IsOpened, IsOpenedFrom, room_of}
+use Rattle.kept_serve.specs.declared.opened_room.OpenedRoom.{OpenedRoom}
+use Rattle.kept_serve.specs.declared.opening.Job.{Job}
+use Rattle.object_journal.specs.declared.replaying.OpenNo.{OpenNo}
+use Rattle.session_pool.specs.Rooms.{numbers}
+
+-- ---- the numbers of rooms
+
+as_many_numbers : (k n : ℕ) → length (numbers k n) ≡ n
+as_many_numbers k zero = refl
+as_many_numbers k (suc n) = let m = as_many_numbers k n in let l = length-append (numbers k n) ((k + n) ∷ []) in omega (arith, m, l)
+
+-- they count up from one on
+abbrev CountUp : ℕ → List ℕ → Type 0
+CountUp k [] = Unit {0}
+CountUp k (x ∷ xs) = (x ≡ k) × CountUp (k + 1) xs
+
+count_further : (k : ℕ) (xs : List ℕ) (y : ℕ) → y ≡ k + length xs → CountUp k xs → CountUp k (xs ++ y ∷ [])
+count_further k [] y e up = (omega (arith, e), tt)
+count_further k (x ∷ xs) y e up = (up.0, count_further (k + 1) xs y (omega (arith, e)) up.1)
+
+numbers_count : (k n : ℕ) → CountUp k (numbers k n)
+numbers_count k zero = tt
+numbers_count k (suc n) = count_further k (numbers k n) (k + n) (let m = as_many_numbers k n in omega (arith, m)) (numbers_count k n)
+
+number_at : (k : ℕ) (xs : List ℕ) (i x : ℕ) → CountUp k xs → i < length xs → slice_index_or xs i x ≡ k + i
+number_at k [] i x up low = absurd (omega arith)
+number_at k (y ∷ xs) zero x up low = let e = up.0 in omega (arith, e)
+number_at k (y ∷ xs) (suc i) x up low = let e = number_at (k + 1) xs i x up.1 (omega (arith, low)) in omega (arith, e)
+
+pub as_many : {X : Type 0} (f : X → ℕ) (xs : List X) (n : ℕ) → map f xs ≡ numbers 0 n → length xs ≡ n
+as_many f xs n is =
+    let many = as_many_numbers 0 n in
+    let mapped = length-map xs f in
+    let same = ap length is in
+    omega (arith, many, mapped, same)
+
+pub its_number : (ns : List ℕ) (n i x : ℕ) → ns ≡ numbers 0 n → i < n → slice_index_or ns i x ≡ i
+its_number ns n i x is low =
+    let many = as_many_numbers 0 n in
+    let at = number_at 0 (numbers 0 n) i x (numbers_count 0 n) (omega (arith, low, many)) in
+    let same : slice_index_or ns i x ≡ slice_index_or (numbers 0 n) i x = ap (λ l. slice_index_or l i x) is in
+    omega (arith, at, same)
+
+-- the numbers of so few rooms
+pub low_numbers : {X : Type 0} (f : X → ℕ) (xs : List X) (n : ℕ) → n ≤ 64 → map f xs ≡ numbers 0 n → All (λ x. f x ≤ 63) xs
+low_numbers f xs n few is k d low =
+    let many = as_many f xs n is in
+    let at : slice_index_or (map f xs) k (f d) ≡ k = its_number (map f xs) n k (f d) is (omega (arith, low, many)) in
+    let here : slice_index_or (map f xs) k (f d) ≡ f (slice_index_or xs k d) = get_or-map f xs k d (f d) low in
+    omega (arith, at, here, low, many, few)
+
+-- ---- rooms that are gathered
+
+-- one more that was opened
+pub kept_more : {X E : Type 0} (done after : List X) (x : X) (coming rest all : List (Result X E)) → after ≡ done ++ x ∷ [] → coming ≡ Ok x ∷ rest → map Ok done ++ coming ≡ all → map Ok after ++ rest ≡ all
+kept_more {X} {E} done after x coming rest all push e is =
+    let ok : X → Result X E = Ok in
+    ap (λ m. map ok m ++ rest) push
+    ∙ (ap (λ m. m ++ rest) (map-append ok done (x ∷ []))
+    ∙ (append_assoc (map ok done) (ok x ∷ []) rest
+    ∙ (ap (λ m. map ok done ++ m) (sym e) ∙ is)))
+
+-- all were
+pub kept_all : {X E : Type 0} (done : List X) (coming all : List (Result X E)) → length coming ≡ 0 → map Ok done ++ coming ≡ all → map Ok done ≡ all
+kept_all {X} {E} done coming all none is =
+    let ok : X → Result X E = Ok in
+    sym (append-nil (map ok done)) ∙ (ap (λ l. map ok done ++ l) (sym (nil_from_length coming none)) ∙ is)
+
+pub false_true : false ≡ true → ⊥
+false_true e = cc
+
+pub some_none : {X : Type 0} (x : X) → Some x ≡ None → ⊥
+some_none x e = cc
+
+pub said_some : {X : Type 0} (o : Option X) (b : Bool) → is_some o ≡ not b → b ≡ false → o ≡ None → ⊥
+said_some None b is e none = let f = is ∙ ap not e in cc
+said_some (Some x) b is e none = cc
+
+-- ---- what came of jobs
+
+module _ {D : Type 0} (is_told : D → Type 0) (seen : D → List ℕ) (may_leave : D → List ℕ → Type 0) (moment : D → ℕ) (left_since : D → ℕ → List ℕ → Type 0) (faults : D → ℕ) (passes : ℕ) where
+  abbrev From : Job D → OpenedRoom D → Type 0
+  From job r = IsOpenedFrom is_told seen may_leave moment left_since faults passes job r
+
+  abbrev AllFrom : List (Job D) → List (Result (OpenedRoom D) OpenNo) → Type 0
+  AllFrom jobs results = AreOpenedFrom is_told seen may_leave moment left_since faults passes jobs results
+
+  pub each_came : (jobs : List (Job D)) (results : List (Result (OpenedRoom D) OpenNo)) → length results ≡ length jobs
+      → ((i : ℕ) (d : Result (OpenedRoom D) OpenNo) → i < length jobs → (job : Job D) × ((e : Job D) → slice_index_or jobs i e ≡ job) × IfOk (slice_index_or results i d) (From job)) → AllFrom jobs results
+  each_came [] [] same each = tt
+  each_came [] (result ∷ results) same each = absurd (omega (arith, same))
+  each_came (job ∷ jobs) [] same each = absurd (omega (arith, same))
+  each_came (job ∷ jobs) (result ∷ results) same each =
+      let here = each 0 result (omega arith) in (
+        subst (λ j. IfOk result (From j)) (sym (here.1 job)) here.2,
+        each_came jobs results (omega (arith, same)) (λ i d low. each (suc i) d (omega (arith, low))),
+      )
+
+  pub came_all : (jobs : List (Job D)) (results : List (Result (OpenedRoom D) OpenNo)) → AllFrom jobs results → length results ≡ length jobs
+  came_all [] [] all = refl
+  came_all [] (result ∷ results) all = absurd all
+  came_all (job ∷ jobs) [] all = absurd all
+  came_all (job ∷ jobs) (result ∷ results) all = let more = came_all jobs results all.1 in omega (arith, more)
+
+  came_at : (jobs : List (Job D)) (rooms : List (OpenedRoom D)) → AllFrom jobs (map Ok rooms) → (i x : ℕ) (d : OpenedRoom D) → i < length rooms
+      → (job : Job D) × (slice_index_or (map (λ j. j.room) jobs) i x ≡ job.room) × From job (slice_index_or rooms i d)
+  came_at [] [] all i x d low = absurd (omega arith)
+  came_at [] (room ∷ rooms) all i x d low = absurd all
+  came_at (job ∷ jobs) [] all i x d low = absurd all
+  came_at (job ∷ jobs) (room ∷ rooms) all zero x d low = (job, refl, all.0)
+  came_at (job ∷ jobs) (room ∷ rooms) all (suc i) x d low = came_at jobs rooms all.1 i x d (omega (arith, low))
+
+  starts_from : (jobs : List (Job D)) (rooms : List (OpenedRoom D)) → AllFrom jobs (map Ok rooms) → map (λ j. j.disk) jobs ≡ starts_of rooms
+  starts_from [] [] all = refl
+  starts_from [] (room ∷ rooms) all = absurd all
+  starts_from (job ∷ jobs) [] all = absurd all
+  starts_from (job ∷ jobs) (room ∷ rooms) all = ap (λ d. d ∷ map (λ j. j.disk) jobs) (sym all.0.1) ∙ ap (λ l. room.start.value ∷ l) (starts_from jobs rooms all.1)
+
+  rooms_numbered : (jobs : List (Job D)) (rooms : List (OpenedRoom D)) → AllFrom jobs (map Ok rooms) → map room_of rooms ≡ map (λ j. j.room) jobs
+  rooms_numbered [] [] all = refl
+  rooms_numbered [] (room ∷ rooms) all = absurd all
+  rooms_numbered (job ∷ jobs) [] all = absurd all
+  rooms_numbered (job ∷ jobs) (room ∷ rooms) all = ap (λ n. n ∷ map room_of rooms) all.0.0.opened.numbered ∙ ap (λ l. job.room ∷ l) (rooms_numbered jobs rooms all.1)
+
+  its_own : (r : OpenedRoom D) (job : Job D) → From job r → IsOpened is_told seen may_leave moment left_since faults passes (room_of r) r
+  its_own r job from = subst (λ n. IsOpened is_told seen may_leave moment left_since faults passes n r) (sym from.0.opened.numbered) from.0
+
+  module _ (jobs : List (Job D)) (results : List (Result (OpenedRoom D) OpenNo)) (rooms : List (OpenedRoom D)) (count : ℕ) (numbered : map (λ j. j.room) jobs ≡ numbers 0 count) (all : AllFrom jobs results)
+      (kept : map Ok rooms ≡ results) where
+    all_kept : AllFrom jobs (map Ok rooms)
+    all_kept = subst (AllFrom jobs) (sym kept) all
+
+    pub are_opened : AreOpened is_told seen may_leave moment left_since faults passes count rooms
+    are_opened = record {
+      numbered = rooms_numbered jobs rooms all_kept ∙ numbered;
+      each = λ k d low. let at = came_at jobs rooms all_kept k 0 d low in its_own (slice_index_or rooms k d) at.0 at.2;
+    }
+
+    pub all_given : (first now next : Option (List D)) → now ≡ option_map (λ before. before ++ map (λ j. j.disk) jobs) first → next ≡ now → next ≡ option_map (λ before. before ++ starts_of rooms) first
+    all_given first now next is same = same ∙ is ∙ ap (λ l. option_map (λ before. before ++ l) first) (starts_from jobs rooms all_kept)

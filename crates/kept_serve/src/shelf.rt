@@ -1,0 +1,33 @@
+//! Where the journals of a server's rooms are.
+
+use game_sheet::Number;
+use object_journal::OpenNo;
+use room_disk::Disk;
+
+/// The journals of a server's rooms.
+pub trait Shelf {
+    ghost use Rattle.std.specs.Prelude.{◌≡◌, List, Option};
+    ghost use Rattle.kept_serve.specs.Given.{with_given};
+
+    /// A disk over the file of one room.
+    type D: Disk + Drop;
+
+    /// The disks that it has given, the first one first, if it tells them.
+    ghost given: { Self → Option (List Self.D) };
+
+    /// The disk of a room; none where it can't be had.
+    fn disk(&mut self, room: u8) -> Option<Self::D>
+        ensures { given self.new ≡ with_given result (given self.old) };
+
+    /// Is told that a room was opened, how many matches it has had, and the state number of the match that stands.
+    fn opened(&mut self, room: u8, serial: u64, number: Option<Number>)
+        ensures { given self.new ≡ given self.old };
+
+    /// Is told that a room wasn't opened, and why.
+    fn refused(&mut self, room: u8, why: &OpenNo)
+        ensures { given self.new ≡ given self.old };
+
+    /// Is told that all rooms were opened, and that links are taken now.
+    fn ready(&mut self)
+        ensures { given self.new ≡ given self.old };
+}
