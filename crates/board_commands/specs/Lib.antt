@@ -1,3 +1,4 @@
+pub mod Hosting
 pub mod KeptWords
 pub mod Modes
 pub mod Page

@@ -4,7 +4,10 @@ use Rattle.any_game.specs.GameKind.{GameKind}
 use Rattle.board_links.specs.Pieces.{told_bytes}
 use Rattle.command_words.specs.declared.serve.ServeWords.{ServeWords}
 use Rattle.door_serve.specs.Ends.{EndsBy, Reports}
-use Rattle.door_serve.specs.Rooms.{Hosted}
+use Rattle.any_game.specs.declared.any_g.AnyG.{AnyG}
+use Rattle.door_serve.specs.Rooms.{Hosted, hosted, plain}
+use Rattle.match_master.specs.Held.{Held as Book}
+use Rattle.room_keeper.specs.declared.gauged_room.GaugedRoom.{GaugedRoom}
 use Rattle.door_serve.specs.declared.serving.ServeEnd.{ServeEnd}
 use Rattle.door_serve.specs.declared.serving.ServeEnd.TheVariants as end
 use Rattle.line_runner.specs.declared.exit.Exit.{Exit}
@@ -51,3 +54,7 @@ pub record Serves {B : Type 0} (known : Hosted B) (asked : ServeWords) (exit : E
   pub exits : exit ≡ exit_of how
   pub ended : EndsBy how asked.sessions faults (held_with asked.bots links) shut faults_after (bots + given) sink_faults sink_faults_after
   pub reports : IsSome held → Reports known asked.rooms (bots + given) rooms how (told_bytes held) held_after
+
+-- rooms that keep nothing, each with a gauge
+abbrev pub gauged : Hosted (GaugedRoom GameKind (Book GameKind AnyG))
+gauged = hosted (λ r. plain.number r.room) (λ r h. plain.stands_for r.room h) (λ r. plain.has_stopped r.room)

@@ -3,6 +3,7 @@
 #![tactic(auto)]
 
 mod command;
+mod hosting;
 mod keeping;
 mod mode;
 mod page;
@@ -14,6 +15,7 @@ mod serving;
 mod workloads;
 
 pub use command::{Command, command_of};
+pub use hosting::serve_kept;
 pub use keeping::{kept, kept_path};
 pub use mode::{Mode, mode_of};
 pub use page::{HELP, VERSION, print_page};

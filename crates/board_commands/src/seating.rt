@@ -16,6 +16,7 @@ use door_serve::{ServeEnd, serve_rooms};
 use game_sheet::{MatchName, NoMemory};
 use hosted_room::HostedRoom;
 use link_rounds::Ready;
+use room_keeper::Keeper;
 use std::alloc::Global;
 use std::marker::Brand;
 use std::sync::{Arc, Wait};
@@ -90,6 +91,7 @@ pub(crate) fn serve_seated<
     K: Sink,
     R: Threads + Wait + Sync,
     Z: Rest + Send,
+    Q: Keeper + Send,
 >(
     rt: &R,
     alloc: Global,
@@ -101,6 +103,7 @@ pub(crate) fn serve_seated<
     pace: u8,
     bots: Vec<Box<dyn Bot + Send>>,
     rests: Vec<Z>,
+    keeper: Option<Q>,
     sessions: u32,
     door: D,
     sink: &mut K,
@@ -111,7 +114,7 @@ where
     requires rooms { (0 < vec_len rooms) × (vec_len rooms ≤ 64) }
     requires numbered { map (λ b. B.number b) rooms.items ≡ numbers 0 (vec_len rooms) }
     requires stand { All (λ b. (past : Calls) × B.stands_for b past) rooms.items }
-    requires nobody { All (λ b. (past : Calls) → B.stands_for b past → NobodyIn any_rules places (B.number b) past) rooms.items }
+    requires nobody { All (λ b. (past : Calls) → B.stands_for b past → NobodyIn any_rules (places + 1) (B.number b) past) rooms.items }
     requires places { (0 < places) × (places ≤ 4096) }
     requires some { 0 < vec_len readies }
     requires enough { vec_len readies ≤ places }
@@ -129,16 +132,18 @@ where
         drop(rooms);
         drop(game);
         drop(readies);
+        drop(keeper);
         return (ServeEnd::NoMemory, door, Vec::new(alloc));
     };
     let Ok(readies) = readies_for(alloc, readies, seats, pace) else {
         drop(rooms);
         drop(game);
         drop(links);
+        drop(keeper);
         return (ServeEnd::NoMemory, door, Vec::new(alloc));
     };
-    serve_bench::<B, D, BotLink<Z>, BenchReady<W>, K, R, Brand>(
-        rt, alloc, rooms, places, readies, game, seats, links, sessions, door, sink, seed,
+    serve_bench::<B, D, BotLink<Z>, BenchReady<W>, K, R, Brand, Q>(
+        rt, alloc, rooms, places, readies, game, seats, links, keeper, sessions, door, sink, seed,
     )
 }
 
@@ -151,6 +156,7 @@ fn serve_bench<
     K: Sink,
     R: Threads + Wait + Sync,
     N: Seats + Send,
+    Q: Keeper + Send,
 >(
     rt: &R,
     alloc: Global,
@@ -160,6 +166,7 @@ fn serve_bench<
     game: AnyGame,
     seats: u8,
     links: Vec<L>,
+    keeper: Option<Q>,
     sessions: u32,
     door: D,
     sink: &mut K,
@@ -171,7 +178,7 @@ where
     requires rooms { (0 < vec_len rooms) × (vec_len rooms ≤ 64) }
     requires numbered { map (λ b. B.number b) rooms.items ≡ numbers 0 (vec_len rooms) }
     requires stand { All (λ b. (past : Calls) × B.stands_for b past) rooms.items }
-    requires nobody { All (λ b. (past : Calls) → B.stands_for b past → NobodyIn any_rules places (B.number b) past) rooms.items }
+    requires nobody { All (λ b. (past : Calls) → B.stands_for b past → NobodyIn any_rules (places + 1) (B.number b) past) rooms.items }
     requires places { (0 < places) × (places ≤ 4096) }
     requires some { 0 < vec_len readies }
     requires enough { vec_len readies ≤ places }
@@ -188,7 +195,7 @@ where
     let bench: Bench<D, L, N> = Bench::new(door, links);
     let table = Some((game, seats));
     let (end, bench, rooms) = serve_rooms(
-        rt, alloc, rooms, places, readies, table, sessions, bench, sink, seed,
+        rt, alloc, rooms, places, readies, table, keeper, sessions, bench, sink, seed,
     );
     (end, bench.into_door(), rooms)
 }

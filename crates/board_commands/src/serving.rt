@@ -1,19 +1,19 @@
 //! Serves matches, as the words of `serve` ask for, with bots or without.
 
-ghost use Rattle.std.specs.Prelude.{◌≡◌, ◌≤◌, ◌<◌, All, IfSome, IsSome, None, Some, [], false, map, string_bytes, vec_len};
+ghost use Rattle.std.specs.Prelude.{◌≡◌, ◌≤◌, ◌<◌, ◌+◌, ℕ, All, IfOk, IfSome, IsSome, None, Some, [], false, map, string_bytes, vec_len};
 ghost use Rattle.any_game.specs.AnyRules.{any_rules};
 ghost use Rattle.board_links.specs.Faults.{HasRisen};
 ghost use Rattle.command_words.specs.Serve.{serve_from};
 ghost use Rattle.command_words.specs.declared.serve.ServeWords.{ServeWords as Asked};
 ghost use Rattle.link_play.specs.Ends.{IsComplete};
-ghost use Rattle.door_serve.specs.Rooms.{Calls, hosted, plain};
+ghost use Rattle.door_serve.specs.Rooms.{Calls, hosted};
 ghost use Rattle.hosted_room.specs.Calls.{NobodyIn};
 ghost use Rattle.session_pool.specs.Rooms.{numbers};
 ghost use Rattle.session_pool.specs.Sittings.{AreServed};
 ghost use Rattle.match_master.specs.Held.{may_starve};
 ghost use Rattle.line_runner.specs.declared.exit.Exit.TheVariants.{Usage};
 ghost use Rattle.board_commands.specs.Playing.{IsRefused};
-ghost use Rattle.board_commands.specs.Serving.{Serves, exit_of, seats_asked};
+ghost use Rattle.board_commands.specs.Serving.{Serves, exit_of, gauged, seats_asked};
 
 use crate::seating::serve_seated;
 use any_game::AnyGame;
@@ -26,13 +26,16 @@ use hosted_room::HostedRoom;
 use line_runner::Exit;
 use link_rounds::Ready;
 use match_master::Book;
+use room_keeper::{Clock, GaugedRoom, IdleKeeper, Keeper, watch_rooms};
+use room_object::Object;
 use session_pool::plain_rooms;
 use std::alloc::Global;
 use std::sync::Wait;
 use std::thread::Threads;
 
 /// Serves the links of a door with the rooms, the workers, the links at once and the sessions that the words ask for, until the door is shut, has
-/// given so many sessions, or fails; then closes the rooms and prints the report. The first word is `serve`.
+/// given so many sessions, or fails; then closes the rooms and prints the report. The first word is `serve`. The rooms keep nothing, whatever the
+/// words say of a folder. A match to which no session was attached for as many minutes as the words say, by this clock, is cleared.
 ///
 /// There is one of `readies` for each worker that the words ask for; each says whose turn it is at its worker. The door has given no link, hasn't
 /// answered that it is shut, and tells of none that came back; no link is out when it comes back. `Usage` comes exactly where the words are in
@@ -52,6 +55,7 @@ pub fn serve<
     K: Sink,
     R: Threads + Wait + Sync,
     Z: Rest + Send,
+    C: Clock + Send,
 >(
     rt: &R,
     alloc: Global,
@@ -62,7 +66,8 @@ pub fn serve<
     seed: [u8; 32],
     bots: Vec<Box<dyn Bot + Send>>,
     rests: Vec<Z>,
-) -> (Exit, D, Vec<Book<AnyGame>>)
+    clock: C,
+) -> (Exit, D, Vec<GaugedRoom<AnyGame, Book<AnyGame>>>)
 where
     D::L: Send,
     requires plain { D.has_bots ≡ false }
@@ -78,7 +83,7 @@ where
     ensures untouched_door { serve_from (map string_bytes words.now) ≡ None → result.1 ≡ door }
     ensures untouched_sink { serve_from (map string_bytes words.now) ≡ None → sink.new ≡ sink.old }
     ensures serves { (asked : Asked) → serve_from (map string_bytes words.now) ≡ Some asked
-        → Serves plain asked result.0 result.2.items (D.faults door) (D.left door) (D.shut result.1) (D.faults result.1) (D.given result.1)
+        → Serves gauged asked result.0 result.2.items (D.faults door) (D.left door) (D.shut result.1) (D.faults result.1) (D.given result.1)
         (K.faults sink.old) (K.faults sink.new) (K.held sink.old) (K.held sink.new) }
     ensures served { (asked : Asked) → serve_from (map string_bytes words.now) ≡ Some asked → asked.bots ≡ None
         → AreServed may_starve seed asked.links (D.returned result.1) }
@@ -86,17 +91,21 @@ where
         → (HasRisen (D.faults door) (D.faults result.1) → ⊥) → (HasRisen (K.faults sink.old) (K.faults sink.new) → ⊥) → IsComplete result.0 }
 {
     match serve_words(alloc, words) {
-        Ok(asked) => serve_plain(rt, alloc, asked, readies, door, sink, seed, bots, rests),
+        Ok(asked) => serve_plain(
+            rt, alloc, asked, readies, door, sink, seed, bots, rests, clock,
+        ),
         Err(WordsNo::Usage) => {
             drop(readies);
             drop(bots);
             drop(rests);
+            drop(clock);
             (Exit::Usage, door, Vec::new(alloc))
         }
         Err(WordsNo::NoMemory) => {
             drop(readies);
             drop(bots);
             drop(rests);
+            drop(clock);
             (Exit::NoMemory, door, Vec::new(alloc))
         }
     }
@@ -109,6 +118,7 @@ fn serve_plain<
     K: Sink,
     R: Threads + Wait + Sync,
     Z: Rest + Send,
+    C: Clock + Send,
 >(
     rt: &R,
     alloc: Global,
@@ -119,7 +129,8 @@ fn serve_plain<
     seed: [u8; 32],
     bots: Vec<Box<dyn Bot + Send>>,
     rests: Vec<Z>,
-) -> (Exit, D, Vec<Book<AnyGame>>)
+    clock: C,
+) -> (Exit, D, Vec<GaugedRoom<AnyGame, Book<AnyGame>>>)
 where
     D::L: Send,
     requires rooms { (0 < asked.rooms) × (asked.rooms ≤ 64) }
@@ -132,12 +143,12 @@ where
     ensures out { (D.out result.1 ≡ 0) × (D.bots_out result.1 ≡ 0) }
     ensures sink_never_falls { K.faults sink.old ≤ K.faults sink.new }
     ensures served { asked.bots ≡ None → AreServed may_starve seed asked.links (D.returned result.1) }
-    ensures serves { Serves plain asked result.0 result.2.items (D.faults door) (D.left door) (D.shut result.1) (D.faults result.1) (D.given result.1)
+    ensures serves { Serves gauged asked result.0 result.2.items (D.faults door) (D.left door) (D.shut result.1) (D.faults result.1) (D.given result.1)
         (K.faults sink.old) (K.faults sink.new) (K.held sink.old) (K.held sink.new) }
 {
-    match plain_rooms(alloc, asked.rooms) {
-        Ok(rooms) => serve_asked(
-            rt, alloc, asked, rooms, readies, door, sink, seed, bots, rests,
+    match watched_rooms(alloc, asked.rooms, asked.idle, clock) {
+        Ok((rooms, keeper)) => serve_asked(
+            rt, alloc, asked, rooms, readies, door, sink, seed, bots, rests, keeper,
         ),
         Err(NoMemory) => {
             drop(asked);
@@ -149,6 +160,31 @@ where
     }
 }
 
+/// So many rooms that keep nothing, each with a gauge; and a keeper that names their matches, each once nobody was attached for so many minutes, or
+/// none where they are 0.
+fn watched_rooms<C: Clock>(
+    alloc: Global,
+    rooms: u8,
+    minutes: u32,
+    clock: C,
+) -> Result<
+    (
+        Vec<GaugedRoom<AnyGame, Book<AnyGame>>>,
+        Option<IdleKeeper<C>>,
+    ),
+    NoMemory,
+>
+    requires rooms { rooms ≤ 64 }
+    ensures count { IfOk result (λ r. vec_len r.0 ≡ rooms) }
+    ensures numbered { IfOk result (λ r. map (λ b. ⟦<GaugedRoom<AnyGame, Book<AnyGame>> as Object>⟧.number b) r.0.items ≡ numbers 0 (vec_len r.0)) }
+    ensures stand { IfOk result (λ r. All (λ b. (past : Calls) × ⟦<GaugedRoom<AnyGame, Book<AnyGame>> as Object>⟧.stands_for b past) r.0.items) }
+    ensures nobody { (places : ℕ) → IfOk result (λ r. All (λ b. (past : Calls) → ⟦<GaugedRoom<AnyGame, Book<AnyGame>> as Object>⟧.stands_for b past
+        → NobodyIn any_rules places (⟦<GaugedRoom<AnyGame, Book<AnyGame>> as Object>⟧.number b) past) r.0.items) }
+{
+    let rooms = plain_rooms(alloc, rooms)?;
+    watch_rooms(alloc, rooms, minutes, clock)
+}
+
 /// Serves as was asked for, with these rooms.
 fn serve_asked<
     B: HostedRoom<AnyGame> + Send,
@@ -157,6 +193,7 @@ fn serve_asked<
     K: Sink,
     R: Threads + Wait + Sync,
     Z: Rest + Send,
+    Q: Keeper + Send,
 >(
     rt: &R,
     alloc: Global,
@@ -168,6 +205,7 @@ fn serve_asked<
     seed: [u8; 32],
     bots: Vec<Box<dyn Bot + Send>>,
     rests: Vec<Z>,
+    keeper: Option<Q>,
 ) -> (Exit, D, Vec<B>)
 where
     D::L: Send,
@@ -175,7 +213,7 @@ where
     requires rooms { (0 < asked.rooms) × (asked.rooms ≤ 64) }
     requires numbered { map (λ b. B.number b) rooms.items ≡ numbers 0 (vec_len rooms) }
     requires stand { All (λ b. (past : Calls) × B.stands_for b past) rooms.items }
-    requires nobody { All (λ b. (past : Calls) → B.stands_for b past → NobodyIn any_rules asked.links (B.number b) past) rooms.items }
+    requires nobody { All (λ b. (past : Calls) → B.stands_for b past → NobodyIn any_rules (asked.links + 1) (B.number b) past) rooms.items }
     requires workers { (0 < asked.workers) × (asked.workers ≤ asked.links) × (asked.links ≤ 4096) }
     requires readies { vec_len readies ≡ asked.workers }
     requires plain { D.has_bots ≡ false }
@@ -195,8 +233,10 @@ where
         links,
         sessions,
         silence: _,
+        idle: _,
         origin,
         page,
+        keep,
         ws: _,
         bots: table,
         pace,
@@ -204,19 +244,20 @@ where
     drop(listen);
     drop(origin);
     drop(page);
+    drop(keep);
     match table {
         None => {
             drop(bots);
             drop(rests);
             let (end, door, rooms) = serve_rooms(
-                rt, alloc, rooms, links, readies, None, sessions, door, sink, seed,
+                rt, alloc, rooms, links, readies, None, keeper, sessions, door, sink, seed,
             );
             (exit_of(end), door, rooms)
         }
         Some((game, seats)) => {
             let (end, door, rooms) = serve_seated(
-                rt, alloc, rooms, links, readies, game, seats, pace, bots, rests, sessions, door,
-                sink, seed,
+                rt, alloc, rooms, links, readies, game, seats, pace, bots, rests, keeper, sessions,
+                door, sink, seed,
             );
             (exit_of(end), door, rooms)
         }

@@ -6,9 +6,11 @@ ghost use Rattle.board_commands.specs.Serving.{seats_asked};
 ghost use Rattle.command_words.specs.Serve.{serve_from};
 ghost use Rattle.command_words.specs.declared.serve.ServeWords.{ServeWords as Asked};
 
+use crate::journals::Journals;
 use crate::outspoken::Outspoken;
+use crate::seconds::Seconds;
 use board_bots::{Bot, DiceBot, NoRest};
-use board_commands::{kept, kept_path, play, print_page, run, seats_of, serve};
+use board_commands::{kept, kept_path, play, print_page, run, seats_of, serve, serve_kept};
 use board_drawing::DrawingSink;
 use board_links::{Door, ReaderSource, WriterSink};
 use command_words::{ServeWords, WordsNo, play_words, serve_words};
@@ -95,7 +97,7 @@ pub fn kept_here(rt: &HostRuntime, words: &[String]) -> Exit {
 
 /// Opens the file of a journal for this process alone, and makes it where there is none. Nobody but its owner may read it, since it has the
 /// players' keys.
-fn open_journal(rt: &HostRuntime, path: &str) -> io::Result<File> {
+pub fn open_journal(rt: &HostRuntime, path: &str) -> io::Result<File> {
     let mut options = File::options();
     options.read(true).write(true).create(true).mode(0o600);
     let file = options.open(rt, path)?;
@@ -179,8 +181,10 @@ pub fn serve_there<R: Threads + Wait + Sync>(
         links,
         sessions,
         silence,
+        idle: _,
         origin,
         page,
+        keep,
         ws,
         bots: table,
         pace: _,
@@ -212,12 +216,34 @@ pub fn serve_there<R: Threads + Wait + Sync>(
     );
     match opened {
         Ok((door, readies)) => {
-            announce(rt, door.addr());
+            let journals = match keep {
+                Some(folder) => Some(Journals::new(*rt, folder, door.addr())),
+                None => {
+                    announce(rt, &door.addr());
+                    None
+                }
+            };
             if ws {
                 let door = WsDoor::with_pages(rt.alloc(), PollStreams::over(door), origin, pages);
-                serve_at(leave, rt, words, seats, readies, Outspoken::new(*rt, door))
+                serve_at(
+                    leave,
+                    rt,
+                    words,
+                    seats,
+                    journals,
+                    readies,
+                    Outspoken::new(*rt, door),
+                )
             } else {
-                serve_at(leave, rt, words, seats, readies, Outspoken::new(*rt, door))
+                serve_at(
+                    leave,
+                    rt,
+                    words,
+                    seats,
+                    journals,
+                    readies,
+                    Outspoken::new(*rt, door),
+                )
             }
         }
         Err(error) => fault(&error, Exit::DoorFault),
@@ -245,12 +271,13 @@ fn pages_in(rt: &HostRuntime, folder: Option<Text>) -> io::Result<Option<Arc<Pag
     }
 }
 
-/// Serves matches at this door, with so many bots.
+/// Serves matches at this door, with so many bots, or in rooms that these journals keep.
 fn serve_at<D: Door + Send, W: Ready<D::L> + Send, R: Threads + Wait + Sync>(
     leave: &R,
     rt: &HostRuntime,
     words: &[String],
     seats: u8,
+    journals: Option<Journals>,
     readies: Vec<W>,
     door: D,
 ) -> Exit
@@ -265,17 +292,58 @@ where
     requires shut { D.shut door ≡ false }
     requires none_back { IfSome (D.returned door) (λ told. told ≡ []) }
 {
-    match seed(rt) {
-        Ok(seed) => match serve_seeded(leave, rt, words, seats, readies, door, seed) {
+    match (seed(rt), journals) {
+        (Ok(seed), None) => match serve_seeded(leave, rt, words, seats, readies, door, seed) {
             Ok(exit) => exit,
             Err(NoMemory) => Exit::NoMemory,
         },
-        Err(error) => {
+        (Ok(seed), Some(journals)) => serve_over(leave, rt, words, journals, readies, door, seed),
+        (Err(error), journals) => {
+            drop(journals);
             drop(readies);
             drop(door);
             fault(&error, Exit::DoorFault)
         }
     }
+}
+
+/// Serves matches at this door, in rooms that these journals keep, with the words of this seed.
+fn serve_over<D: Door + Send, W: Ready<D::L> + Send, R: Threads + Wait + Sync>(
+    leave: &R,
+    rt: &HostRuntime,
+    words: &[String],
+    journals: Journals,
+    readies: Vec<W>,
+    door: D,
+    seed: [u8; 32],
+) -> Exit
+where
+    D::L: Send,
+    requires workers { (asked : Asked) → serve_from (map string_bytes words.now) ≡ Some asked → vec_len readies ≡ asked.workers }
+    requires given { D.given door ≡ 0 }
+    requires out { D.out door ≡ 0 }
+    requires bots_out { D.bots_out door ≡ 0 }
+    requires shut { D.shut door ≡ false }
+    requires none_back { IfSome (D.returned door) (λ told. told ≡ []) }
+{
+    let mut journals = journals;
+    let mut sink = WriterSink::new(rt.stdout());
+    let (exit, door, closed) = serve_kept(
+        leave,
+        rt.alloc(),
+        words,
+        &mut journals,
+        readies,
+        door,
+        &mut sink,
+        seed,
+        Seconds::new(*rt),
+    );
+    drop(door);
+    // The process ends with this run, and its files are closed with it.
+    mem::forget(closed);
+    drop(journals);
+    exit
 }
 
 /// Serves matches at this door, with so many bots, and with the words of this seed. A bot never rests, since it gets a turn only where it may have
@@ -311,7 +379,16 @@ where
     }
     let mut sink = WriterSink::new(rt.stdout());
     let (exit, door, books) = serve(
-        leave, alloc, words, readies, door, &mut sink, seed, bots, rests,
+        leave,
+        alloc,
+        words,
+        readies,
+        door,
+        &mut sink,
+        seed,
+        bots,
+        rests,
+        Seconds::new(*rt),
     );
     drop(door);
     // The process ends with this run, and its memory goes with it.
@@ -320,7 +397,7 @@ where
 }
 
 /// Says on standard error where the door listens. A line that can't be written is lost.
-fn announce(rt: &HostRuntime, addr: io::Result<SocketAddr>) {
+pub fn announce(rt: &HostRuntime, addr: &io::Result<SocketAddr>) {
     if let Ok(addr) = addr {
         let _said = eprintln!(rt; "listening on {addr}");
     }

@@ -4,7 +4,9 @@
 #![tactic(auto)]
 
 mod edge;
+mod journals;
 mod outspoken;
+mod seconds;
 
 use board_commands::{HELP, Mode, VERSION, after_name, mode_of};
 use edge::{keep_standard, kept_here, play_there, print_here, run_here, serve_there};

@@ -1,10 +1,10 @@
-//! The words of `serve`: where it listens, how many rooms, workers, links at once and sessions it has, whom it lets in, which page it gives, and
-//! which bots it seats, at which pace.
+//! The words of `serve`: where it listens, how many rooms, workers, links at once and sessions it has, whom it lets in, which page it gives, where
+//! it keeps its rooms, and which bots it seats, at which pace.
 
 ghost use Rattle.std.specs.Prelude.{◌≡◌, ◌≤◌, IfOk, codes, map, option_map, string_bytes};
 ghost use Rattle.clap.specs.Words.{FailsBy, HasMatchesOf, fault_of, first_value, found_of};
 ghost use Rattle.command_words.specs.Answers.{Answers};
-ghost use Rattle.command_words.specs.Serve.{guests, is_said, serve_app, serve_from, serve_of};
+ghost use Rattle.command_words.specs.Serve.{go_together, guests, is_said, serve_app, serve_from, serve_of};
 
 use crate::games::{bots_of, pace_of};
 use crate::numbers::number_or;
@@ -30,10 +30,14 @@ pub struct ServeWords {
     pub sessions: u32,
     /// For how many seconds a peer may send nothing, up to 86,400; 0 for good.
     pub silence: u32,
+    /// After how many minutes in which nobody looks at it a match is cleared, 0 to 10,080; 0: never.
+    pub idle: u32,
     /// The only origin of a page whose WebSockets are taken, if there is one.
     pub origin: Option<Text>,
     /// The folder of the page that browsers are given, if they are given one.
     pub page: Option<Text>,
+    /// The folder of the rooms' journals, if the rooms are kept; never with bots.
+    pub keep: Option<Text>,
     /// Whether its links are WebSockets.
     pub ws: bool,
     /// The game of a match at whose seats bots sit, and how many there are: fewer than the links; none where it seats no bots.
@@ -45,9 +49,10 @@ pub struct ServeWords {
 /// What the words of `serve` ask for; the first word is the command's own.
 ///
 /// `Usage` comes exactly where the words are in no form: an option that isn't there or stands twice, no `--listen`, a
-/// number that has a sign or a leading zero or is out of its bounds, an origin or a page without WebSockets, a game of bots without its seats or the
-/// reverse, a pace without bots, a game that nobody knows, seats that aren't within its bounds or as many as the links at once, or more than
-/// 32 links with bots.
+/// number that has a sign or a leading zero or is out of its bounds, an origin or a page without WebSockets, rooms that are kept with bots, a game of
+/// bots without its seats or the reverse, a pace without bots, a game that nobody knows, seats that aren't within its bounds or as many as the links
+/// at once, or more than 32 links with bots. Rooms with bots aren't kept, since a match of bots is made anew at each start, and kept rooms may hold
+/// an older one.
 pub fn serve_words(alloc: Global, words: &[String]) -> Result<ServeWords, WordsNo>
     ensures asked { Answers (serve_from (map string_bytes words.now)) result }
     ensures bounds { IfOk result (λ asked. (1 ≤ asked.rooms) × (asked.rooms ≤ 64) × (1 ≤ asked.workers) × (asked.workers ≤ 32) × (asked.workers ≤ asked.links) × (asked.links ≤ 4096)) }
@@ -70,8 +75,10 @@ fn matches_of<'a>(alloc: Global, words: &'a [String]) -> Result<ArgMatches<'a>, 
         .arg(option(alloc, "links"))?
         .arg(option(alloc, "sessions"))?
         .arg(option(alloc, "silence"))?
+        .arg(option(alloc, "idle"))?
         .arg(option(alloc, "origin"))?
         .arg(option(alloc, "page"))?
+        .arg(option(alloc, "keep"))?
         .arg(option(alloc, "bots"))?
         .arg(option(alloc, "seats"))?
         .arg(option(alloc, "pace"))?
@@ -83,8 +90,8 @@ fn matches_of<'a>(alloc: Global, words: &'a [String]) -> Result<ArgMatches<'a>, 
 fn words_in(alloc: Global, matches: &ArgMatches) -> Result<ServeWords, WordsNo>
     ensures asked { Answers (serve_of (first_value (found_of matches.now) (codes "listen")) (first_value (found_of matches.now) (codes "rooms"))
         (first_value (found_of matches.now) (codes "workers")) (first_value (found_of matches.now) (codes "links")) (first_value (found_of matches.now) (codes "sessions"))
-        (first_value (found_of matches.now) (codes "silence")) (guests (first_value (found_of matches.now) (codes "origin")) (first_value (found_of matches.now) (codes "page"))
-        (is_said (first_value (found_of matches.now) (codes "ws")))
+        (first_value (found_of matches.now) (codes "silence")) (first_value (found_of matches.now) (codes "idle")) (guests (first_value (found_of matches.now) (codes "origin")) (first_value (found_of matches.now) (codes "page"))
+        (first_value (found_of matches.now) (codes "keep")) (is_said (first_value (found_of matches.now) (codes "ws")))
         (first_value (found_of matches.now) (codes "bots")) (first_value (found_of matches.now) (codes "seats")) (first_value (found_of matches.now) (codes "pace")))) result }
     ensures bounds { IfOk result (λ asked. (1 ≤ asked.rooms) × (asked.rooms ≤ 64) × (1 ≤ asked.workers) × (asked.workers ≤ 32) × (asked.workers ≤ asked.links) × (asked.links ≤ 4096)) }
 {
@@ -96,16 +103,19 @@ fn words_in(alloc: Global, matches: &ArgMatches) -> Result<ServeWords, WordsNo>
         WordsNo::Usage,
     )?;
     let silence = number_or(matches.get_str("silence"), 0, 86_400, 0).ok_or(WordsNo::Usage)?;
+    let idle = number_or(matches.get_str("idle"), 0, 10_080, 0).ok_or(WordsNo::Usage)?;
     let origin = matches.get_str("origin");
     let page = matches.get_str("page");
+    let keep = matches.get_str("keep");
     let ws = is_said(matches.get_str("ws"));
-    if (origin.is_some() || page.is_some()) && !ws {
+    if !go_together(origin, page, keep, ws, matches.get_str("bots")) {
         return Err(WordsNo::Usage);
     }
     let pace = pace_of(matches.get_str("bots"), matches.get_str("pace")).ok_or(WordsNo::Usage)?;
     let listen = Text::from_str(alloc, listen)?;
     let origin = copy_of(alloc, origin)?;
     let page = copy_of(alloc, page)?;
+    let keep = copy_of(alloc, keep)?;
     let bots = bots_of(
         alloc,
         matches.get_str("bots"),
@@ -119,12 +129,28 @@ fn words_in(alloc: Global, matches: &ArgMatches) -> Result<ServeWords, WordsNo>
         links: links as u16,
         sessions,
         silence,
+        idle,
         origin,
         page,
+        keep,
         ws,
         bots,
         pace: pace as u8,
     })
+}
+
+/// Whether these go together: an origin or a page has WebSockets, and rooms that are kept have no bots.
+fn go_together(
+    origin: Option<&str>,
+    page: Option<&str>,
+    keep: Option<&str>,
+    ws: bool,
+    bots: Option<&str>,
+) -> bool
+    ensures { result ≡ go_together (option_map (λ text. text.now) origin.entry) (option_map (λ text. text.now) page.entry) (option_map (λ text. text.now) keep.entry)
+        ws (option_map (λ text. text.now) bots.entry) }
+{
+    (ws || (origin.is_none() && page.is_none())) && (keep.is_none() || bots.is_none())
 }
 
 /// A copy of a text, if there is one.

@@ -2,7 +2,7 @@
 
 ghost use Rattle.std.specs.Prelude.{◌≡◌, [], IfOk, Some, false};
 
-use crate::serves::{link, readies, rests, seats};
+use crate::serves::{NoClock, link, readies, rests, seats};
 use any_game::AnyGame;
 use board_bots::{Bot, FirstBot, Glance};
 use board_commands::serve;
@@ -176,6 +176,7 @@ fn plays<R: Abort + Threads + Wait + Sync>(
         [0; 32],
         bots,
         rests,
+        NoClock,
     );
     drop(door);
     assert_eq!(rt; exit, table.exit);
@@ -188,7 +189,7 @@ fn plays<R: Abort + Threads + Wait + Sync>(
     books.reverse();
     let ends = match books.pop() {
         Some(book) => {
-            let mut book = book;
+            let mut book = book.into_room();
             let ends = ends_so(&mut book, table.ends);
             drop(book);
             ends

@@ -5,6 +5,8 @@
 #[cfg(test)]
 mod bots;
 #[cfg(test)]
+mod keeps;
+#[cfg(test)]
 mod plays;
 #[cfg(test)]
 mod puts;

@@ -13,18 +13,19 @@ use command_words::{WordsNo, serve_words};
 use game_sheet::{List, NoMemory};
 use line_runner::Exit;
 use link_rounds::InTurn;
+use room_keeper::Clock;
 use std::alloc::Global;
 use std::process::Abort;
 use std::sync::Wait;
 use std::test::Fail;
 use std::thread::Threads;
 
-const CREATE: &[u8] = b"{\"game\":\"pig\",\"seats\":2,\"type\":\"create\"}";
+pub(crate) const CREATE: &[u8] = b"{\"game\":\"pig\",\"seats\":2,\"type\":\"create\"}";
 
 /// A player who sits down. The key is the one that the first words of the seed of zeros give behind those of a match's seed.
-const JOIN: &[u8] = b"{\"match\":\"0-1\",\"name\":\"ann\",\"seat\":0,\"type\":\"join\"}";
+pub(crate) const JOIN: &[u8] = b"{\"match\":\"0-1\",\"name\":\"ann\",\"seat\":0,\"type\":\"join\"}";
 
-const LEAVE: &[u8] =
+pub(crate) const LEAVE: &[u8] =
     b"{\"key\":\"da41597c5157488d7724e03fb8d84a37\",\"match\":\"0-1\",\"seat\":0,\"type\":\"leave\"}";
 
 /// A wish for a seat of the match.
@@ -36,6 +37,16 @@ const SECOND: [&[u8]; 3] = [
     b"",
     b"{\"match\":\"0-1\",\"name\":\"bob\",\"seat\":1,\"type\":\"join\"}",
 ];
+
+/// A clock that says nothing.
+#[derive(Drop)]
+pub(crate) struct NoClock;
+
+impl Clock for NoClock {
+    fn seconds(&mut self) -> Option<u64> {
+        None
+    }
+}
 
 /// A run, and what comes of it.
 #[derive(Clone, Copy)]
@@ -80,7 +91,7 @@ pub(crate) fn link(alloc: Global, lines: &[&[u8]]) -> Result<MemoryLink, NoMemor
 }
 
 /// A door of two links, of which the last comes first. Its calls of these numbers fail.
-fn door(
+pub(crate) fn door(
     alloc: Global,
     first: &[&[u8]],
     second: &[&[u8]],
@@ -99,7 +110,7 @@ fn door(
 }
 
 /// The words of a server with one worker, and these.
-fn words(alloc: Global, more: &[&str]) -> Result<Vec<String>, NoMemory> {
+pub(crate) fn words(alloc: Global, more: &[&str]) -> Result<Vec<String>, NoMemory> {
     let mut words = Vec::new(alloc);
     for word in ["serve", "--listen", "x", "--workers", "1"] {
         words.push(String::from_str(alloc, word)?)?;
@@ -180,7 +191,7 @@ fn served<R: Threads + Wait + Sync>(
         bots.push_reserved(bot);
     }
     let (exit, door, books) = serve(
-        rt, alloc, words, readies, door, &mut sink, seed, bots, rests,
+        rt, alloc, words, readies, door, &mut sink, seed, bots, rests, NoClock,
     );
     drop(books);
     Ok((exit, door, sink))

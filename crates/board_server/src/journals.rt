@@ -1,0 +1,84 @@
+//! The journals of a server's rooms, one file a room, in a folder.
+
+use crate::edge::{announce, open_journal};
+use game_sheet::{Number, Text};
+use kept_serve::Shelf;
+use object_journal::OpenNo;
+use room_disk::FileDisk;
+use std::io;
+use std::net::SocketAddr;
+
+/// The journals in a folder. What becomes of each room is said on standard error, and then where the door listens; a line that can't be written is
+/// lost. No clause says which disks it gave.
+pub struct Journals {
+    rt: HostRuntime,
+    folder: Text,
+    addr: io::Result<SocketAddr>,
+}
+
+impl Drop for Journals {
+    fn drop(self) {
+        let Journals {
+            rt: _,
+            folder,
+            addr,
+        } = self;
+        drop(folder);
+        drop(addr);
+    }
+}
+
+impl Journals {
+    /// Those in this folder, of a server whose door listens there.
+    pub fn new(rt: HostRuntime, folder: Text, addr: io::Result<SocketAddr>) -> Journals {
+        Journals { rt, folder, addr }
+    }
+}
+
+impl Shelf for Journals {
+    ghost use Rattle.std.specs.Prelude.{None};
+
+    type D = FileDisk;
+
+    ghost given = { λ j. None };
+
+    fn disk(&mut self, room: u8) -> Option<FileDisk> {
+        let Ok(path) = format!(in self.rt.alloc(); "{}/room-{room}.journal", self.folder.as_str())
+        else {
+            return None;
+        };
+        let opened = open_journal(&self.rt, path.as_str());
+        drop(path);
+        match opened {
+            Ok(file) => Some(FileDisk::new(file)),
+            Err(error) => {
+                let _said = eprintln!(self.rt; "room {room}: {error}");
+                drop(error);
+                None
+            }
+        }
+    }
+
+    fn opened(&mut self, room: u8, serial: u64, number: Option<Number>) {
+        if serial == 0 {
+            return;
+        }
+        let _said = match number {
+            Some(number) => eprintln!(self.rt; "room {room} serial {serial} number {number}"),
+            None => eprintln!(self.rt; "room {room} serial {serial} number -"),
+        };
+    }
+
+    fn refused(&mut self, room: u8, why: &OpenNo) {
+        let _said = match why {
+            OpenNo::DiskFault => eprintln!(self.rt; "room {room}: store fault"),
+            OpenNo::Long => eprintln!(self.rt; "room {room}: long journal"),
+            OpenNo::Damaged { place } => eprintln!(self.rt; "room {room}: bad record {place}"),
+            OpenNo::NoMemory => eprintln!(self.rt; "room {room}: no memory"),
+        };
+    }
+
+    fn ready(&mut self) {
+        announce(&self.rt, &self.addr);
+    }
+}
