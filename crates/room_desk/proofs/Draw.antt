@@ -33,10 +33,11 @@ module _ {C O : Type 0} (number : O → ℕ) (stands_for : O → List (Entry C) 
       let next : (get_or s.words 0 0 + 1) % 2 ^ 64 ≡ (g.drawn + 1) % 2 ^ 64 = ap (λ k. (k + 1) % 2 ^ 64) first ∙ mod-add-mod g.drawn (2 ^ 64) 1 in
       let views' = set s.views id w in
       let others : (j : ℕ) (u : View C) → j ≢ id → get_elem? s.views j ≡ some u → Fits g.name g.past g.log g.turns (g.drawn + 1) g.seat_of j u =
-      λ j u ne e. let f = g.fits j u e in record { named = f.named; own = f.own; ticket = λ t is. ((f.ticket t is).0, let lt = (f.ticket t is).1 in omega arith); owned = f.owned; turn = f.turn } in
+      λ j u ne e. let f = g.fits j u e in record { named = f.named; own = f.own; distinct = f.distinct; ticket = λ t is. ((f.ticket t is).0, let lt = (f.ticket t is).1 in omega arith); owned = f.owned; turn = f.turn } in
       let mine : Fits g.name g.past g.log g.turns (g.drawn + 1) g.seat_of id w = record {
         named = fit.named;
         own = fit.own;
+        distinct = fit.distinct;
         ticket = λ t is. let eq : g.drawn ≡ t = cc (is) in let sum = g.tickets in (omega arith, omega arith);
         owned = holds;
         turn = λ is. absurd (cc (is));

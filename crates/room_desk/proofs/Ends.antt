@@ -6,7 +6,7 @@ use lib.ListN.{get_elem?}
 use Rattle.atomic_table.specs.Table.{State, Me, Allows, step, stepped, takes, gives, rest}
 use Rattle.room_object.specs.Entry.{Entry}
 use Rattle.room_desk.specs.History.{DeskId, held, dealt, of_pass}
-use Rattle.room_desk.specs.Turns.{Past, View, Fits, Turns, Desked, Has, total, pasts_of, tickets_of, past, view, fresh, told, untold, seen_in}
+use Rattle.room_desk.specs.Turns.{Past, View, Fits, Turns, Desked, Has, Distinct, total, pasts_of, tickets_of, past, view, fresh, told, untold, seen_in}
 use Rattle.room_desk.specs.Plays.{Reaches, Opens}
 use Rattle.room_desk.proofs.Totals.{only_one, only_place}
 
@@ -31,8 +31,12 @@ module _ {C : Type 0} (seen : List (Entry C)) where
   pub fresh_next : (k n : ℕ) → k < n → fresh seen k (n - k) ≡ past k seen seen ∷ fresh seen (k + 1) (n - (k + 1))
   fresh_next k n lt = let next : n - k ≡ suc (n - (k + 1)) = omega arith in ap (λ m. fresh seen k m) next
 
-  pub fresh_apart : (k n : ℕ) (x : Past C) → Has (fresh seen (k + 1) n) x → x.number ≢ k
+  fresh_apart : (k n : ℕ) (x : Past C) → Has (fresh seen (k + 1) n) x → x.number ≢ k
   fresh_apart k n x has is = let above = fresh_above (k + 1) n x has in omega arith
+
+  fresh_each : (k n : ℕ) → Distinct (fresh seen k n)
+  fresh_each k zero = tt
+  fresh_each k (suc n) = (fresh_apart k n, fresh_each (k + 1) n)
 
   pub dealt_next : (d : DeskId) (k : ℕ) → dealt seen d (k + 1) ≡ dealt seen d k ++ held d k seen seen ∷ []
   dealt_next d k = let next : k + 1 ≡ suc k = omega arith in ap (λ m. dealt seen d m) next
@@ -88,6 +92,7 @@ module _ {C O : Type 0} (number : O → ℕ) (stands_for : O → List (Entry C) 
         named = λ _. refl;
         own = λ x has. let seen = fresh_seen before 0 count x has in
             (refl, ([], sym seen), ap (λ (l : List (Entry C)). of_pass x.number l) (sym seen), ([], seen), fresh_before before 0 count x has);
+        distinct = fresh_each before 0 count;
         ticket = λ t is. absurd (cc (is));
         owned = omega arith;
         turn = λ is. absurd (cc (is));

@@ -2,6 +2,7 @@ pub mod Totals
 pub mod Seats
 pub mod Histories
 pub mod Draw
+pub mod Looking
 pub mod Trying
 pub mod PassOn
 pub mod Parts

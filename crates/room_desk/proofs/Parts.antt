@@ -8,19 +8,27 @@ use Rattle.atomic_table.specs.Table.{Splits, Joins}
 use Rattle.atomic_table.proofs.Lists.{set_here, set_else, at_longer, at_last}
 use Rattle.room_object.specs.Entry.{Entry}
 use Rattle.room_desk.specs.History.{of_pass, Begins}
-use Rattle.room_desk.specs.Turns.{Past, View, Fits, Desked, Holder, Has, pasts_of, tickets_of, how_many, past}
+use Rattle.room_desk.specs.Turns.{Past, View, Fits, Desked, Holder, Has, Distinct, pasts_of, tickets_of, how_many, past}
 use Rattle.room_desk.specs.Plays.{left_of, right_of, other_pasts, first_past, joined, spent}
 use Rattle.room_desk.proofs.Totals.{total_set, total_snoc, length_at, has_first, has_second, has_either}
 use Rattle.room_desk.proofs.Seats.{elsewhere, each_set, each_snoc, kept_at, at_once, apart_set, apart_snoc, holder_set}
 use Rattle.room_desk.proofs.Draw.{opened}
 
+module _ {C : Type 0} where
+  -- passes of two seats, no number of which both have
+  distinct_both : (l m : List (Past C)) → Distinct l → Distinct m → ((x y : Past C) → Has l x → Has m y → x.number ≢ y.number) → Distinct (l ++ m)
+  distinct_both [] m a b ne = b
+  distinct_both (x ∷ xs) m a b ne =
+      (λ y has. ⊎_elim (a.0 y) (λ t is. ne x y (inl refl) t (sym is)) (has_either xs m y has), distinct_both xs m a.1 b (λ y z has there. ne y z (inr has) there))
+
 module _ {C O : Type 0} (number : O → ℕ) (stands_for : O → List (Entry C) → Type 0) where
   -- the first pass of a seat gets a seat of its own
   pub splits : (count id n p : ℕ) (before h : List (Entry C)) (more : List (Past C)) (v : View C) → v.object ≡ Some n → v.ticket ≡ None → v.turn ≡ false → v.pasts ≡ past p before h ∷ more
-      → ((x : Past C) → Has more x → x.number ≢ p) → Splits (Desked number stands_for count) id v (left_of v) (right_of v)
-  splits count id n p before h more v named idle still first others s rule at =
+      → Splits (Desked number stands_for count) id v (left_of v) (right_of v)
+  splits count id n p before h more v named idle still first s rule at =
       let g = opened number stands_for count s id n v rule at named in
       let fit = g.fits id v at in
+      let distinct : Distinct (past p before h ∷ more) = subst (λ (l : List (Past C)). Distinct l) first fit.distinct in
       let left = left_of v in
       let right = right_of v in
       let views' = set s.views id left in
@@ -44,7 +52,8 @@ module _ {C O : Type 0} (number : O → ℕ) (stands_for : O → List (Entry C) 
         named = λ some_past. fit.named (omega arith);
         own = λ x has. let there = subst (λ (l : List (Past C)). Has l x) known_left has in
             let f = fit.own x (subst (λ (l : List (Past C)). Has l x) (sym first) (inr there)) in
-            (place_else x.number (others x there) ∙ f.0, f.1, f.2, f.3, f.4);
+            (place_else x.number (distinct.0 x there) ∙ f.0, f.1, f.2, f.3, f.4);
+        distinct = subst (λ (l : List (Past C)). Distinct l) (sym known_left) distinct.1;
         ticket = fit.ticket;
         owned = omega arith;
         turn = λ is. absurd (cc (sym is ∙ still));
@@ -53,6 +62,7 @@ module _ {C O : Type 0} (number : O → ℕ) (stands_for : O → List (Entry C) 
       λ j u ne e. let f = g.fits j u e in record {
         named = f.named;
         own = λ x has. let f' = f.own x has in (place_else x.number (λ is. ne (sym f'.0 ∙ (ap g.seat_of is ∙ p_own.0))) ∙ f'.0, f'.1, f'.2, f'.3, f'.4);
+        distinct = f.distinct;
         ticket = f.ticket;
         owned = f.owned;
         turn = f.turn;
@@ -62,6 +72,7 @@ module _ {C O : Type 0} (number : O → ℕ) (stands_for : O → List (Entry C) 
         own = λ x has. ⊎_elim (λ is. subst (λ (y : Past C). (place y.number ≡ new) × Begins g.log y.seen × (of_pass y.number g.log ≡ of_pass y.number y.seen) × Begins y.seen g.past × (y.before ≡ g.past)) is
             (place_p p refl, p_own.1, p_own.2, p_own.3, p_own.4)) (λ f. absurd f)
             (subst (λ (l : List (Past C)). Has l x) known_right has);
+        distinct = subst (λ (l : List (Past C)). Distinct l) (sym known_right) (λ y has. absurd has, tt);
         ticket = λ t is. absurd (cc (is));
         owned = omega arith;
         turn = λ is. absurd (cc (is));
@@ -122,6 +133,7 @@ module _ {C O : Type 0} (number : O → ℕ) (stands_for : O → List (Entry C) 
             (λ t. let f = fit_w.own x t in (place_moved x.number f.0, f.1, f.2, f.3, f.4))
             (λ t. let f = fit.own x t in (place_kept x.number (λ is. ne (sym is ∙ f.0)) ∙ f.0, f.1, f.2, f.3, f.4))
             (has_either w.pasts v.pasts x has);
+        distinct = distinct_both w.pasts v.pasts fit_w.distinct fit.distinct (λ x y has there is. ne (sym (fit_w.own x has).0 ∙ (ap g.seat_of is ∙ (fit.own y there).0)));
         ticket = fit.ticket;
         owned = omega arith;
         turn = λ is. absurd (cc (sym is ∙ still));
@@ -131,6 +143,7 @@ module _ {C O : Type 0} (number : O → ℕ) (stands_for : O → List (Entry C) 
       (λ i x _ d not_other. let f = g.fits i x d in record {
         named = f.named;
         own = λ y has. let f' = f.own y has in (place_kept y.number (λ is. not_other (sym f'.0 ∙ is)) ∙ f'.0, f'.1, f'.2, f'.3, f'.4);
+        distinct = f.distinct;
         ticket = f.ticket;
         owned = f.owned;
         turn = f.turn;
@@ -138,6 +151,7 @@ module _ {C O : Type 0} (number : O → ℕ) (stands_for : O → List (Entry C) 
       let spents : Fits g.name g.past g.log g.turns g.drawn place other spent = record {
         named = λ has. absurd (omega arith);
         own = λ x has. absurd has;
+        distinct = tt;
         ticket = λ t is. absurd (cc (is));
         owned = omega arith;
         turn = λ is. absurd (cc (is));

@@ -50,6 +50,7 @@ module _ {C O : Type 0} (number : O → ℕ) (stands_for : O → List (Entry C) 
         own = λ x h. let f' = f.own x h in
             let not : e.pass ≢ x.number = λ is. ne (sym f'.0 ∙ (ap g.seat_of (sym is ∙ by) ∙ place)) in
             (f'.0, begins_more e g.log x.seen f'.1, other_entry x.number e g.log not ∙ f'.2, f'.3, f'.4);
+        distinct = f.distinct;
         ticket = λ t is. let range = f.ticket t is in
             let not : t ≢ g.turns = λ eq. ne (g.apart j id u v g.turns d at (is ∙ ap (λ (i : ℕ). Some i) eq) mine.0) in
             (omega arith, range.1);
@@ -60,6 +61,7 @@ module _ {C O : Type 0} (number : O → ℕ) (stands_for : O → List (Entry C) 
         named = λ some_past. fit.named (omega arith);
         own = λ x h. ⊎_elim (λ is. subst (λ (y : Past C). (g.seat_of y.number ≡ id) × Begins log' y.seen × (of_pass y.number log' ≡ of_pass y.number y.seen) × Begins y.seen g.past × (y.before ≡ g.past)) is
             (place, ([], ap (λ (l : List (Entry C)). e ∷ l) (sym seen)), ap (λ (l : List (Entry C)). of_pass p (e ∷ l)) (sym seen), begins_more e (seen_in v.pasts) g.past (g.later, seen ∙ g.split), own_before.4)) (λ f. absurd f) h;
+        distinct = (λ y has. absurd has, tt);
         ticket = λ t is. absurd (cc (is));
         owned = omega arith;
         turn = λ t. absurd (cc (t));

@@ -73,6 +73,7 @@ module _ {C O : Type 0} (number : O → ℕ) (stands_for : O → List (Entry C) 
         named = λ some_past. fit.named (omega arith);
         own = λ x h. ⊎_elim (λ e. subst (λ (y : Past C). (g.seat_of y.number ≡ id) × Begins g.log y.seen × (of_pass y.number g.log ≡ of_pass y.number y.seen) × Begins y.seen g.past × (y.before ≡ g.past)) e
             (mine_own.0, ([], refl), refl, (g.later, g.split), mine_own.4)) (λ f. absurd f) h;
+        distinct = (λ y has. absurd has, tt);
         ticket = fit.ticket;
         owned = let owned = fit.owned in omega arith;
         turn = λ e. (ticket, refl);

@@ -59,6 +59,11 @@ module _ {C O : Type 0} where
   abbrev pub Draws : Step (Option O) → Me (Option O) (View C) → ℕ → Me (Option O) (View C) → Type 0
   Draws st m found n = (t : ℕ) × (found ≡ t % 2 ^ 64) × (n ≡ (view m.0.object m.0.pasts (Some t) false, m.1))
 
+  -- the first of a seat's passes sees the whole history, which begins as what it had seen, and as what the second had
+  abbrev pub Looks : Step (Option O) → Me (Option O) (View C) → ℕ → Me (Option O) (View C) → Type 0
+  Looks st m found n = (log : List (Entry C)) × Begins log (seen_in m.0.pasts) × Begins log (seen_in (other_pasts m.0.pasts))
+      × (n ≡ (view m.0.object (past (number_in m.0.pasts) (before_in m.0.pasts) log ∷ other_pasts m.0.pasts) m.0.ticket m.0.turn, m.1))
+
   -- The turn is taken, and the slot with it: other passes' entries came on top of what the pass had seen, and the object stands for the whole history.
   abbrev pub Takes : (O → ℕ) → (O → List (Entry C) → Type 0) → Me (Option O) (View C) → Me (Option O) (View C) → Type 0
   Takes number stands_for m n = (o : O) × (newer : List (Entry C)) × (m.0.object ≡ Some (number o)) × (of_pass (number_in m.0.pasts) newer ≡ []) × stands_for o (newer ++ seen_in m.0.pasts)

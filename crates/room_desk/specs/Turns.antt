@@ -1,5 +1,5 @@
 -- What a desk's table keeps between any two steps: one history, the tickets that are out, and who may add to the history.
-use Rattle.std.specs.Prelude.{ℕ, zero, suc, ◌≡◌, ◌+◌, ◌%◌, ◌^◌, ◌<◌, ◌≤◌, ◌⊎◌, Bool, true, false, List, [], ◌∷◌, ◌++◌, length, Option, Some, None}
+use Rattle.std.specs.Prelude.{ℕ, zero, suc, ◌≡◌, ◌≢◌, ◌+◌, ◌%◌, ◌^◌, ◌<◌, ◌≤◌, ◌⊎◌, Bool, true, false, List, [], ◌∷◌, ◌++◌, length, Option, Some, None}
 use mathlib.Core.Option.{some, none}
 use mathlib.Core.Option as maybe
 use lib.ListN.{get_elem?}
@@ -75,13 +75,19 @@ module _ {C : Type 0} where
   seen_in [] = []
   seen_in (x ∷ xs) = x.seen
 
-  -- The seat j fits the history. The object's number is noted; each of its passes is at this seat alone, knows what came before the desk was open, and has seen
+  -- no two of these have one number
+  abbrev pub Distinct : List (Past C) → Type 0
+  Distinct [] = Unit {0}
+  Distinct (x ∷ xs) = ((y : Past C) → Has xs y → y.number ≢ x.number) × Distinct xs
+
+  -- The seat j fits the history. The object's number is noted; each of its passes is at this seat alone, once, knows what came before the desk was open, and has seen
   -- a beginning of the history, which has in it all that came before and all of the pass's entries; a ticket is one that is out; and who holds the turn has the
   -- ticket that is next, and has seen the whole history.
   pub record Fits (name : ℕ) (before log : List (Entry C)) (turns drawn : ℕ) (seat_of : ℕ → ℕ) (j : ℕ) (v : View C) : Type 0 where
     pub named : 0 < pasts_of v → v.object ≡ Some name
     pub own : (x : Past C) → Has v.pasts x
         → (seat_of x.number ≡ j) × Begins log x.seen × (of_pass x.number log ≡ of_pass x.number x.seen) × Begins x.seen before × (x.before ≡ before)
+    pub distinct : Distinct v.pasts
     pub ticket : (t : ℕ) → v.ticket ≡ Some t → (turns ≤ t) × (t < drawn)
     pub owned : tickets_of v ≤ pasts_of v
     pub turn : v.turn ≡ true → (v.ticket ≡ Some turns) × (v.pasts ≡ past (number_in v.pasts) (before_in v.pasts) log ∷ [])

@@ -3,6 +3,7 @@
 
 mod desk;
 mod pass;
+mod show;
 mod turn;
 mod turns;
 mod view;

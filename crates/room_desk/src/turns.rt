@@ -53,6 +53,15 @@ impl<O: Object> Play<Option<O>, View<O::Call>> for Draw {
     ghost then = { Draws };
 }
 
+/// The whole history is seen.
+pub struct Look;
+
+impl<O: Object> Play<Option<O>, View<O::Call>> for Look {
+    ghost use Rattle.room_desk.specs.Plays.{Looks};
+
+    ghost then = { Looks };
+}
+
 /// The turn is tried for.
 pub struct Try;
 

@@ -97,6 +97,25 @@ fn a_desk_goes_on_from_where_another_was_closed(rt: HostRuntime) -> Result<(), F
     Ok(())
 }
 
+#[test]
+fn a_pass_is_shown_to_another(rt: HostRuntime) -> Result<(), Fail> {
+    let (desk, mut passes) = Desk::set_up(rt.alloc(), Counter { calls: 0 }, 2)?;
+    let witness = passes.pop().ok_or("two passes")?;
+    let mut shown = passes.pop().ok_or("two passes")?;
+    assert_eq!(rt; desk.call(&rt, &mut shown, ()), 1);
+    let mut witness = desk.show(&mut shown, witness);
+    assert!(rt; shown.number() == 0 && witness.number() == 1);
+    assert_eq!(rt; desk.call(&rt, &mut witness, ()), 2);
+    assert_eq!(rt; desk.call(&rt, &mut shown, ()), 3);
+    passes.push(witness)?;
+    passes.push(shown)?;
+    let Ok(counter) = desk.close(passes) else {
+        panic!(rt; "no pass is missing")
+    };
+    assert_eq!(rt; counter.calls, 3);
+    Ok(())
+}
+
 /// Makes a thousand calls.
 fn count<R: Wait>(rt: &R, desk: &Desk<Counter>, pass: &mut Pass<Counter>)
     requires { pass.old.desk ≡ desk.now.desk }

@@ -3,7 +3,7 @@ use Rattle.atomic_table.specs.Table.{Me}
 use Rattle.room_desk.specs.History.{SetUp, Held, held}
 use Rattle.room_desk.specs.Turns.{Past, View, fresh, past, view, before_in, seen_in}
 use Rattle.room_desk.specs.Plays.{Rests, noted, left_of, right_of}
-use Rattle.room_desk.proofs.Ends.{fresh_next, fresh_apart, dealt_next}
+use Rattle.room_desk.proofs.Ends.{fresh_next, dealt_next}
 use Rattle.room_desk.proofs.Parts.{splits}
 use Rattle.room_desk.proofs.desk.Desk.deal.Goals as goal
 
@@ -19,7 +19,7 @@ split_seat-seat-requires g c =
     ap (λ x. x.0.pasts) kept.1 ∙ fresh_next seen k n (omega arith) in (
       kept.0 ∙ sym (ap (λ (d : SetUp). d.desk.table) c.self.view_is),
       let two = c.self.invariant.0 in omega arith,
-      splits g.O.Object.number g.O.Object.stands_for _ _ _ k seen seen (fresh seen (k + 1) (n - (k + 1))) c.loop-number.seat.me.0 (ap (λ x. x.0.object) kept.1) (ap (λ x. x.0.ticket) kept.1) (ap (λ x. x.0.turn) kept.1) first (fresh_apart seen k (n - (k + 1))),
+      splits g.O.Object.number g.O.Object.stands_for _ _ _ k seen seen (fresh seen (k + 1) (n - (k + 1))) c.loop-number.seat.me.0 (ap (λ x. x.0.object) kept.1) (ap (λ x. x.0.ticket) kept.1) (ap (λ x. x.0.turn) kept.1) first,
     )
 
 pub invariant_of-push : goal.invariant_of-push
