@@ -66,10 +66,11 @@ module _ {L : Type 0} where
   IsOver next.Over end = is_some end ≡ true
   IsOver answer end = Unit {0}
 
-module _ {S : Type 0} (turn : S → List Came → List ℕ → Option SessionEnd → S → Option (List Came) → Option (List ℕ) → Type 0) (leave : S → S → Type 0) (rests : S → Type 0) where
-  -- of a link that came back: all that it tells was told in turns of its own, from its first byte to its end, by a service that had no session before
+module _ {S : Type 0} (turn : S → List Came → List ℕ → Option SessionEnd → S → Option (List Came) → Option (List ℕ) → Type 0) (leave : S → S → Type 0) (rests : S → Type 0) (known : S → Type 0) where
+  -- of a link that came back: where the service that served it stood in the end is known, and all that the link tells was told in turns of its
+  -- own, from its first byte to its end, by a service that had no session before
   abbrev pub WasServed : SessionEnd → Option (List Came) → Option (List ℕ) → Type 0
-  WasServed why answers sent = (last : S) × (IsSome answers → IsSome sent → (first : S) × rests first × Session turn leave first [] [] why last answers sent)
+  WasServed why answers sent = (last : S) × known last × (IsSome answers → IsSome sent → (first : S) × rests first × Session turn leave first [] [] why last answers sent)
 
   abbrev pub WereServed : Option (List Returned) → Type 0
   WereServed None = Unit {0}

@@ -124,26 +124,30 @@ fn take_link<S: Service, D: Door, J: Shift, B: Ledger, R: Wait>(
     gate.lock(rt).take(rt, share, bots)
 }
 
-/// Gives a link back that this service served.
+/// Gives a link back that this service served, which shows where it stands.
 fn give_back<S: Service, D: Door, J: Shift, B: Ledger, R: Wait>(
     rt: &R,
+    hall: &S::Hall,
     gate: &Mutex<Gate<S, D, J, B>>,
+    service: &mut S,
     share: &mut Share<J>,
     bots: &mut Share<B>,
-    _service: &S,
     link: D::L,
     end: SessionEnd,
 )
     requires parts { (share.old.parts ≡ 1) × (bots.old.parts ≡ 1) }
+    requires fits { S.fits hall.now service.old }
     requires out { IsOut (sort_of D.has_bots D.L.Link.is_bot link) bots.old.amount share.old.amount }
     requires shows { Shows end (D.L.Link.stage link) (D.L.Link.faults link) (D.L.Link.sent link) }
     requires finished { D.L.Link.finished link ≡ Some end }
-    requires served { Served S.turn S.leave (about D.L.Link.answers D.L.Link.sent D.L.Link.faults D.L.Link.stage D.L.Link.clear D.L.Link.is_bot) S.rests _service.now end link }
+    requires served { Served S.turn S.leave (about D.L.Link.answers D.L.Link.sent D.L.Link.faults D.L.Link.stage D.L.Link.clear D.L.Link.is_bot) S.rests service.old end link }
+    ensures same { service.new ≡ service.old }
     ensures parts { (share.new.parts ≡ 1) × (bots.new.parts ≡ 1) }
     ensures others { share.new.amount + one_other (sort_of D.has_bots D.L.Link.is_bot link) ≡ share.old.amount }
     ensures bots { bots.new.amount + one_bot (sort_of D.has_bots D.L.Link.is_bot link) ≡ bots.old.amount }
 {
-    gate.lock(rt).back(rt, share, bots, link, end);
+    gate.lock(rt)
+        .back(rt, hall, service, share, bots, link, end);
 }
 
 /// Gives a free place a link.
@@ -247,10 +251,11 @@ fn dismiss<S: Service, D: Door, J: Shift, B: Ledger, R: Wait>(
     if place >= places.len() {
         return false;
     }
-    let Some((link, end)) = places[place].hand_out() else {
+    let place = &mut places[place];
+    let Some((link, end)) = place.hand_out() else {
         return false;
     };
-    give_back(rt, gate, share, bots, places[place].service(), link, end);
+    give_back(rt, hall, gate, place.service_mut(), share, bots, link, end);
     let _listed = free.push(number);
     true
 }

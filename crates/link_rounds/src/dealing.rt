@@ -106,8 +106,8 @@ fn gather<S: Service, L: Link, W: Ready<L>>(mut benches: Vec<Bench<S, L, W>>, se
 ///
 /// There is a worker, a thread, for each of `readies`, and at least one. The services are dealt out to the workers in order, as evenly as can
 /// be: the first workers get one more. The door has given no link, and hasn't answered that it is shut. With every end comes the count of the
-/// links that the door gave. A door that tells what came back tells only links that were served. Without memory for the workers the end is
-/// `NoMemory`, and no link was asked for.
+/// links that the door gave. A door that tells what came back tells only links that were served, and the witness was shown where each of their
+/// sessions ended. Without memory for the workers the end is `NoMemory`, and no link was asked for.
 pub fn serve_places<
     S: Service + Send,
     D: Door + Send,
@@ -118,36 +118,42 @@ pub fn serve_places<
     alloc: Global,
     hall: &S::Hall,
     mut services: Vec<S>,
+    witness: S::Witness,
     readies: Vec<W>,
     door: D,
     sessions: u32,
-) -> (DoorEnd, u32, Vec<S>, D)
+) -> (DoorEnd, u32, Vec<S>, S::Witness, D)
 where
     D::L: Send,
     S::Hall: Sync,
+    S::Witness: Send,
     requires some { 0 < vec_len readies }
     requires enough { vec_len readies ≤ vec_len services }
     requires few { vec_len services < 4294967296 }
     requires fit { All (S.fits hall.now) services.items }
     requires rest { All S.rests services.items }
     requires fresh { (D.given door ≡ 0) × (D.out door ≡ 0) × (D.bots_out door ≡ 0) × (D.shut door ≡ false) }
-    requires served { WereServed S.turn S.leave S.rests (D.returned door) }
-    ensures out { (D.out result.3 ≡ 0) × (D.bots_out result.3 ≡ 0) }
-    ensures given { D.given result.3 ≡ result.1 }
-    ensures ended { Ended sessions (D.faults door) (D.left door) (D.shut result.3) (D.faults result.3) result.1 (Some result.0) }
-    ensures served { WereServed S.turn S.leave S.rests (D.returned result.3) }
+    requires attends { S.attends witness }
+    requires served { WereServed S.turn S.leave S.rests (S.knows witness) (D.returned door) }
+    ensures out { (D.out result.4 ≡ 0) × (D.bots_out result.4 ≡ 0) }
+    ensures given { D.given result.4 ≡ result.1 }
+    ensures ended { Ended sessions (D.faults door) (D.left door) (D.shut result.4) (D.faults result.4) result.1 (Some result.0) }
+    ensures attends { S.attends result.3 }
+    ensures served { WereServed S.turn S.leave S.rests (S.knows result.3) (D.returned result.4) }
     ensures fit { All (S.fits hall.now) result.2.items }
     ensures rest { All S.rests result.2.items }
     ensures numbers { map S.number result.2.items ≡ map S.number services.items }
 {
     let Ok(mut benches) = Vec::with_capacity(alloc, readies.len()) else {
-        return (DoorEnd::NoMemory, 0, services, door);
+        return (DoorEnd::NoMemory, 0, services, witness, door);
     };
     if !deal(alloc, hall, &mut services, readies, &mut benches) {
         gather(benches, &mut services);
-        return (DoorEnd::NoMemory, 0, services, door);
+        return (DoorEnd::NoMemory, 0, services, witness, door);
     }
-    let (end, count, benches, door) = serve_door(rt, alloc, hall, benches, door, sessions);
+    let (end, count, benches, witness, door) = serve_door(
+        rt, alloc, hall, benches, witness, door, sessions,
+    );
     gather(benches, &mut services);
-    (end, count, services, door)
+    (end, count, services, witness, door)
 }

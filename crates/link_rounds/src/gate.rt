@@ -2,7 +2,8 @@
 
 ghost use Rattle.std.specs.Prelude.{◌≡◌, ◌+◌, ◌<◌, ◌≤◌, None, Some, false, true, is_some};
 ghost use Rattle.board_links.specs.Doors.{IsOut, Shows, one_bot, one_other, sort_of};
-ghost use Rattle.link_rounds.specs.Gate.{Ended, GateState, IsOver, TakesFresh, WasServed, WereServed, takes_bot, takes_other};
+ghost use Rattle.link_rounds.specs.Gate.{Ended, GateState, IsOver, TakesFresh, WereServed, takes_bot, takes_other};
+ghost use Rattle.link_rounds.specs.Places.{Served, about};
 
 use crate::service::Service;
 use board_links::{Door, SessionEnd, Visit};
@@ -56,10 +57,12 @@ impl Shift for Brand {
     ghost held = { None };
 }
 
-/// A door, and what is known of it: each link that it was given back was served by a service of this kind. `J` is the ledger of the links that are out and count as no bot's, `B` that of bots' links.
+/// A door, and what is known of it: each link that it was given back was served by a service of this kind, and the witness was shown where its
+/// session ended. `J` is the ledger of the links that are out and count as no bot's, `B` that of bots' links.
 #[derive(Drop)]
 pub struct Gate<S: Service, D: Door, J: Shift, B: Ledger> {
     service: PhantomData<S>,
+    witness: S::Witness,
     door: D,
     links: Book<J>,
     bots: Book<B>,
@@ -77,21 +80,29 @@ impl<S: Service, D: Door, J: Shift, B: Ledger> Model for Gate<S, D, J, B> {
     ghost view = { λ g. record { total = g.links.total; bots = g.bots.total; count = g.count; end = g.end } };
 
     ghost invariant = { λ g. Counted J.sessions J.faults J.held (D.given g.door) (D.out g.door) (D.bots_out g.door) (D.shut g.door) (D.faults g.door) (D.left g.door) g.links.total g.bots.total g.count g.sessions g.end
-        × WereServed S.turn S.leave S.rests (D.returned g.door) };
+        × S.attends g.witness × WereServed S.turn S.leave S.rests (S.knows g.witness) (D.returned g.door) };
 }
 
 impl<S: Service, D: Door, J: Shift, B: Ledger> Gate<S, D, J, B> {
     /// A door that has given no link.
-    pub fn new(door: D, links: Book<J>, bots: Book<B>, sessions: u32) -> Gate<S, D, J, B>
+    pub fn new(
+        witness: S::Witness,
+        door: D,
+        links: Book<J>,
+        bots: Book<B>,
+        sessions: u32,
+    ) -> Gate<S, D, J, B>
         requires sessions { J.sessions ≡ sessions }
         requires faults { J.faults ≡ D.faults door }
         requires held { J.held ≡ D.left door }
-        requires served { WereServed S.turn S.leave S.rests (D.returned door) }
+        requires attends { S.attends witness }
+        requires served { WereServed S.turn S.leave S.rests (S.knows witness) (D.returned door) }
         requires none { (D.given door ≡ 0) × (D.out door ≡ 0) × (D.bots_out door ≡ 0) × (D.shut door ≡ false) × (links.total ≡ 0) × (bots.total ≡ 0) }
         ensures { result ≡ record { total = 0; bots = 0; count = 0; end = None } }
     {
         Gate {
             service: PhantomData,
+            witness,
             door,
             links,
             bots,
@@ -150,20 +161,23 @@ impl<S: Service, D: Door, J: Shift, B: Ledger> Gate<S, D, J, B> {
         Next::Over
     }
 
-    /// Takes back a link that was served, and finished with this end.
-    #[tactic(auto, using(crate::proofs::Returns::were_more))]
+    /// Takes back a link that this service served, and that was finished with this end. The witness is shown where the service stands.
     pub fn back<R: Wait>(
         &mut self,
         rt: &R,
+        hall: &S::Hall,
+        service: &mut S,
         mine: &mut Share<J>,
         bots: &mut Share<B>,
         link: D::L,
         end: SessionEnd,
     )
+        requires fits { S.fits hall.now service.old }
         requires out { IsOut (sort_of D.has_bots D.L.Link.is_bot link) bots.old.amount mine.old.amount }
         requires shows { Shows end (D.L.Link.stage link) (D.L.Link.faults link) (D.L.Link.sent link) }
         requires finished { D.L.Link.finished link ≡ Some end }
-        requires served { WasServed S.turn S.leave S.rests end (D.L.Link.answers link) (D.L.Link.sent link) }
+        requires served { Served S.turn S.leave (about D.L.Link.answers D.L.Link.sent D.L.Link.faults D.L.Link.stage D.L.Link.clear D.L.Link.is_bot) S.rests service.old end link }
+        ensures same { service.new ≡ service.old }
         ensures parts { (mine.new.parts ≡ mine.old.parts) × (bots.new.parts ≡ bots.old.parts) }
         ensures others { mine.new.amount + one_other (sort_of D.has_bots D.L.Link.is_bot link) ≡ mine.old.amount }
         ensures bots { bots.new.amount + one_bot (sort_of D.has_bots D.L.Link.is_bot link) ≡ bots.old.amount }
@@ -175,21 +189,24 @@ impl<S: Service, D: Door, J: Shift, B: Ledger> Gate<S, D, J, B> {
             self.links.audit(mine);
             self.links.sub(mine, 1);
         }
+        service.show(hall, &mut self.witness);
         self.door.back(rt, link, end);
     }
 
-    /// The door, how its serving ended, and how many links it gave. All of them have come back.
-    pub fn close(self, all: &mut Share<J>, bots: &mut Share<B>) -> (DoorEnd, u32, D)
+    /// The witness, the door, how its serving ended, and how many links it gave. All of them have come back.
+    pub fn close(self, all: &mut Share<J>, bots: &mut Share<B>) -> (DoorEnd, u32, S::Witness, D)
         requires whole { (all.old.parts ≡ J.parts) × (bots.old.parts ≡ B.parts) }
         requires none_out { (all.old.amount ≡ 0) × (bots.old.amount ≡ 0) }
-        ensures out { (D.out result.2 ≡ 0) × (D.bots_out result.2 ≡ 0) }
-        ensures served { WereServed S.turn S.leave S.rests (D.returned result.2) }
-        ensures given { D.given result.2 ≡ result.1 }
-        ensures never_falls { J.faults ≤ D.faults result.2 }
-        ensures ended { Ended J.sessions J.faults J.held (D.shut result.2) (D.faults result.2) result.1 (Some result.0) }
+        ensures out { (D.out result.3 ≡ 0) × (D.bots_out result.3 ≡ 0) }
+        ensures attends { S.attends result.2 }
+        ensures served { WereServed S.turn S.leave S.rests (S.knows result.2) (D.returned result.3) }
+        ensures given { D.given result.3 ≡ result.1 }
+        ensures never_falls { J.faults ≤ D.faults result.3 }
+        ensures ended { Ended J.sessions J.faults J.held (D.shut result.3) (D.faults result.3) result.1 (Some result.0) }
     {
         let Gate {
             service: _,
+            witness,
             door,
             mut links,
             bots: mut bots_book,
@@ -204,6 +221,6 @@ impl<S: Service, D: Door, J: Shift, B: Ledger> Gate<S, D, J, B> {
             Some(end) => end,
             None => DoorEnd::NoMemory,
         };
-        (end, count, door)
+        (end, count, witness, door)
     }
 }

@@ -1,6 +1,7 @@
 //! A place of a worker, with the link that it serves.
 
 ghost use Rattle.std.specs.Prelude.{◌≡◌, Some, None, IsSome, is_some, IfSome, IfNone, not, option_map};
+ghost use Rattle.std.specs.Borrow.{Lends, sem};
 ghost use Rattle.board_links.specs.Doors.{IsNew, Shows};
 ghost use Rattle.board_links.specs.Pieces.{told_bytes};
 ghost use Rattle.link_rounds.specs.Places.{Served, Sits, Step, about, goes_on, seat};
@@ -61,6 +62,8 @@ fn serve<S: Service, L: Link, R: Wait>(
 }
 
 impl<S: Service, L: Link> Place<S, L> {
+    ghost use Rattle.link_rounds.specs.contracts.place.Place.{the_row};
+
     /// A place of a service that has no session.
     pub fn new(service: S) -> Place<S, L>
         ensures { result ≡ seat service None None }
@@ -153,11 +156,12 @@ impl<S: Service, L: Link> Place<S, L> {
         self.link.is_none()
     }
 
-    /// What serves there.
-    pub fn service(&self) -> &S
-        ensures { result.now ≡ self.now.service }
+    /// What serves there, for a change.
+    pub(crate) fn service_mut(&mut self) -> &mut S
+        ensures value { result.now ≡ self.old.service }
+        ensures* lends { sem 𝓛 (Lends (the_row S.row L.row S.Hall.row S.Witness.row S.Service L.Link) S.row self.entry result (λ w. seat w self.old.link self.old.end)) }
     {
-        &self.service
+        &mut self.service
     }
 
     /// What served there, without the place and its link.

@@ -29,6 +29,9 @@ pub trait Service: Drop {
     /// What services share.
     type Hall;
 
+    /// What is shown where each session ended.
+    type Witness: Drop;
+
     /// Whether a service is one of this hall, and stands between two turns.
     ghost fits: { Self.Hall → Self → Type 0 };
 
@@ -44,6 +47,12 @@ pub trait Service: Drop {
 
     /// What it does where its session has ended.
     ghost leave: { Self → Self → Type 0 };
+
+    /// Whether a witness is one to which services of this kind can be shown.
+    ghost attends: { Self.Witness → Type 0 };
+
+    /// Whether it was shown that a service stood so.
+    ghost knows: { Self.Witness → Self → Type 0 };
 
     /// One turn. Some where it ended the session.
     fn turn<L: Link, R: Wait>(
@@ -74,4 +83,13 @@ pub trait Service: Drop {
         ensures rests { rests self.new }
         ensures number { number self.new ≡ number self.old }
         ensures leave { leave self.old self.new };
+
+    /// Shows a witness where the service stands, which has no session.
+    fn show(&mut self, hall: &Self::Hall, witness: &mut Self::Witness)
+        requires fits { fits hall.now self.old }
+        requires attends { attends witness.old }
+        ensures same { self.new ≡ self.old }
+        ensures attends { attends witness.new }
+        ensures knows { knows witness.new self.new }
+        ensures keeps { (s : Self) → knows witness.old s → knows witness.new s };
 }

@@ -36,6 +36,7 @@ pub fn run_all<
 where
     D::L: Send,
     S::Hall: Sync,
+    S::Witness: Send,
     requires some { 0 < length workers.old }
     requires fit { All (λ w. All (λ p. S.fits hall.now p.service) w.bench.places.items) workers.old }
     requires sit { All (λ w. All (Sits S.turn S.leave (about D.L.Link.answers D.L.Link.sent D.L.Link.faults D.L.Link.stage D.L.Link.clear D.L.Link.is_bot) S.rests) w.bench.places.items) workers.old }
@@ -136,10 +137,11 @@ fn serve_by<
     mut all: Share<J>,
     mut all_bots: Share<B>,
     mut back: Vec<Bench<S, D::L, W>>,
-) -> (DoorEnd, u32, Vec<Bench<S, D::L, W>>, D)
+) -> (DoorEnd, u32, Vec<Bench<S, D::L, W>>, S::Witness, D)
 where
     D::L: Send,
     S::Hall: Sync,
+    S::Witness: Send,
     requires some { 0 < vec_len workers }
     requires fit { All (λ w. All (λ p. S.fits hall.now p.service) w.bench.places.items) workers.items }
     requires sit { All (λ w. All (Sits S.turn S.leave (about D.L.Link.answers D.L.Link.sent D.L.Link.faults D.L.Link.stage D.L.Link.clear D.L.Link.is_bot) S.rests) w.bench.places.items) workers.items }
@@ -150,10 +152,11 @@ where
     requires none_left { (all.amount ≡ 0) × (all_bots.amount ≡ 0) }
     requires room { vec_len workers ≤ vec_capacity back }
     requires empty { back.items ≡ [] }
-    ensures out { (D.out result.3 ≡ 0) × (D.bots_out result.3 ≡ 0) }
-    ensures given { D.given result.3 ≡ result.1 }
-    ensures ended { Ended J.sessions J.faults J.held (D.shut result.3) (D.faults result.3) result.1 (Some result.0) }
-    ensures served { WereServed S.turn S.leave S.rests (D.returned result.3) }
+    ensures out { (D.out result.4 ≡ 0) × (D.bots_out result.4 ≡ 0) }
+    ensures given { D.given result.4 ≡ result.1 }
+    ensures ended { Ended J.sessions J.faults J.held (D.shut result.4) (D.faults result.4) result.1 (Some result.0) }
+    ensures attends { S.attends result.3 }
+    ensures served { WereServed S.turn S.leave S.rests (S.knows result.3) (D.returned result.4) }
     ensures fit { All (λ b. All (λ p. S.fits hall.now p.service) b.places.items) result.2.items }
     ensures sit { All (λ b. All (Sits S.turn S.leave (about D.L.Link.answers D.L.Link.sent D.L.Link.faults D.L.Link.stage D.L.Link.clear D.L.Link.is_bot) S.rests) b.places.items) result.2.items }
     ensures numbers { map (λ b. map (λ p. S.number p.service) b.places.items) result.2.items ≡ map (λ w. map (λ p. S.number p.service) w.bench.places.items) workers.items }
@@ -162,10 +165,10 @@ where
     let gate = Mutex::new(gate);
     run_all(rt, hall, &gate, workers.as_mut_slice());
     dismiss(workers, &mut all, &mut all_bots, &mut back);
-    let (end, count, door) = gate.into_inner().close(&mut all, &mut all_bots);
+    let (end, count, witness, door) = gate.into_inner().close(&mut all, &mut all_bots);
     drop(all);
     drop(all_bots);
-    (end, count, back, door)
+    (end, count, back, witness, door)
 }
 
 /// Serves the door at these benches, as `J` has it too, which names what the lock has to know of this call.
@@ -181,14 +184,16 @@ fn run<
     alloc: Global,
     hall: &S::Hall,
     benches: Vec<Bench<S, D::L, W>>,
+    witness: S::Witness,
     door: D,
     sessions: u32,
     blank: Blank,
     bots_blank: Blank,
-) -> (DoorEnd, u32, Vec<Bench<S, D::L, W>>, D)
+) -> (DoorEnd, u32, Vec<Bench<S, D::L, W>>, S::Witness, D)
 where
     D::L: Send,
     S::Hall: Sync,
+    S::Witness: Send,
     requires name { (blank.name ≡ J.name) × (bots_blank.name ≡ B.name) }
     requires parts { (blank.parts ≡ J.parts) × (blank.parts ≡ vec_len benches) }
     requires bots_parts { (bots_blank.parts ≡ B.parts) × (bots_blank.parts ≡ vec_len benches) }
@@ -198,27 +203,29 @@ where
     requires sit { All (λ b. All (Sits S.turn S.leave (about D.L.Link.answers D.L.Link.sent D.L.Link.faults D.L.Link.stage D.L.Link.clear D.L.Link.is_bot) S.rests) b.places.items) benches.items }
     requires free { All (λ b. All (λ p. is_some p.link ≡ false) b.places.items) benches.items }
     requires fresh { (D.given door ≡ 0) × (D.out door ≡ 0) × (D.bots_out door ≡ 0) × (D.shut door ≡ false) }
-    requires served { WereServed S.turn S.leave S.rests (D.returned door) }
-    ensures out { (D.out result.3 ≡ 0) × (D.bots_out result.3 ≡ 0) }
-    ensures given { D.given result.3 ≡ result.1 }
-    ensures ended { Ended sessions (D.faults door) (D.left door) (D.shut result.3) (D.faults result.3) result.1 (Some result.0) }
-    ensures served { WereServed S.turn S.leave S.rests (D.returned result.3) }
+    requires attends { S.attends witness }
+    requires served { WereServed S.turn S.leave S.rests (S.knows witness) (D.returned door) }
+    ensures out { (D.out result.4 ≡ 0) × (D.bots_out result.4 ≡ 0) }
+    ensures given { D.given result.4 ≡ result.1 }
+    ensures ended { Ended sessions (D.faults door) (D.left door) (D.shut result.4) (D.faults result.4) result.1 (Some result.0) }
+    ensures attends { S.attends result.3 }
+    ensures served { WereServed S.turn S.leave S.rests (S.knows result.3) (D.returned result.4) }
     ensures fit { All (λ b. All (λ p. S.fits hall.now p.service) b.places.items) result.2.items }
     ensures sit { All (λ b. All (Sits S.turn S.leave (about D.L.Link.answers D.L.Link.sent D.L.Link.faults D.L.Link.stage D.L.Link.clear D.L.Link.is_bot) S.rests) b.places.items) result.2.items }
     ensures numbers { map (λ b. map (λ p. S.number p.service) b.places.items) result.2.items ≡ map (λ b. map (λ p. S.number p.service) b.places.items) benches.items }
     ensures free { All (λ b. All (λ p. is_some p.link ≡ false) b.places.items) result.2.items }
 {
     let Ok(back) = Vec::with_capacity(alloc, benches.len()) else {
-        return (DoorEnd::NoMemory, 0, benches, door);
+        return (DoorEnd::NoMemory, 0, benches, witness, door);
     };
     let (book, mut all) = blank.open::<J>();
     let (bots, mut all_bots) = bots_blank.open::<B>();
     match hire(alloc, benches, &mut all, &mut all_bots) {
         Ok(workers) => {
-            let gate = Gate::new(door, book, bots, sessions);
+            let gate = Gate::new(witness, door, book, bots, sessions);
             serve_by(rt, hall, workers, gate, all, all_bots, back)
         }
-        Err(benches) => (DoorEnd::NoMemory, 0, benches, door),
+        Err(benches) => (DoorEnd::NoMemory, 0, benches, witness, door),
     }
 }
 
@@ -226,7 +233,8 @@ where
 /// link is out then, and the benches come back in their order.
 ///
 /// There is at least one bench, and no place has a link; so they are afterwards. The door has given no link, and hasn't answered that it is shut.
-/// With every end comes the count of the links that the door gave. The benches have the same services, by their numbers. A door that tells what came back tells only links that were served.
+/// With every end comes the count of the links that the door gave. The benches have the same services, by their numbers. A door that tells what
+/// came back tells only links that were served, and the witness was shown where each of their sessions ended.
 pub fn serve_door<
     S: Service + Send,
     D: Door + Send,
@@ -237,22 +245,26 @@ pub fn serve_door<
     alloc: Global,
     hall: &S::Hall,
     benches: Vec<Bench<S, D::L, W>>,
+    witness: S::Witness,
     door: D,
     sessions: u32,
-) -> (DoorEnd, u32, Vec<Bench<S, D::L, W>>, D)
+) -> (DoorEnd, u32, Vec<Bench<S, D::L, W>>, S::Witness, D)
 where
     D::L: Send,
     S::Hall: Sync,
+    S::Witness: Send,
     requires some { 0 < vec_len benches }
     requires fit { All (λ b. All (λ p. S.fits hall.now p.service) b.places.items) benches.items }
     requires sit { All (λ b. All (Sits S.turn S.leave (about D.L.Link.answers D.L.Link.sent D.L.Link.faults D.L.Link.stage D.L.Link.clear D.L.Link.is_bot) S.rests) b.places.items) benches.items }
     requires free { All (λ b. All (λ p. is_some p.link ≡ false) b.places.items) benches.items }
     requires fresh { (D.given door ≡ 0) × (D.out door ≡ 0) × (D.bots_out door ≡ 0) × (D.shut door ≡ false) }
-    requires served { WereServed S.turn S.leave S.rests (D.returned door) }
-    ensures out { (D.out result.3 ≡ 0) × (D.bots_out result.3 ≡ 0) }
-    ensures given { D.given result.3 ≡ result.1 }
-    ensures ended { Ended sessions (D.faults door) (D.left door) (D.shut result.3) (D.faults result.3) result.1 (Some result.0) }
-    ensures served { WereServed S.turn S.leave S.rests (D.returned result.3) }
+    requires attends { S.attends witness }
+    requires served { WereServed S.turn S.leave S.rests (S.knows witness) (D.returned door) }
+    ensures out { (D.out result.4 ≡ 0) × (D.bots_out result.4 ≡ 0) }
+    ensures given { D.given result.4 ≡ result.1 }
+    ensures ended { Ended sessions (D.faults door) (D.left door) (D.shut result.4) (D.faults result.4) result.1 (Some result.0) }
+    ensures attends { S.attends result.3 }
+    ensures served { WereServed S.turn S.leave S.rests (S.knows result.3) (D.returned result.4) }
     ensures fit { All (λ b. All (λ p. S.fits hall.now p.service) b.places.items) result.2.items }
     ensures sit { All (λ b. All (Sits S.turn S.leave (about D.L.Link.answers D.L.Link.sent D.L.Link.faults D.L.Link.stage D.L.Link.clear D.L.Link.is_bot) S.rests) b.places.items) result.2.items }
     ensures numbers { map (λ b. map (λ p. S.number p.service) b.places.items) result.2.items ≡ map (λ b. map (λ p. S.number p.service) b.places.items) benches.items }
@@ -264,6 +276,7 @@ where
         alloc,
         hall,
         benches,
+        witness,
         door,
         sessions,
         Blank::new(parts),

@@ -33,8 +33,14 @@ fn with_newline(alloc: Global, line: &Bytes) -> Result<Vec<u8>, NoMemory>
     Ok(bytes)
 }
 
+/// What takes note of nothing that it is shown.
+#[derive(Drop)]
+pub struct Unmoved;
+
 impl Service for Echo {
     type Hall = ();
+
+    type Witness = Unmoved;
 
     ghost fits = { λ hall s. Unit };
 
@@ -43,6 +49,10 @@ impl Service for Echo {
     ghost turn = { λ s heard sent why t answers after. Unit };
 
     ghost leave = { λ s t. Unit };
+
+    ghost attends = { λ w. Unit };
+
+    ghost knows = { λ w s. Unit };
 
     fn turn<L: Link, R: Wait>(&mut self, rt: &R, _hall: &(), link: &mut L) -> Option<SessionEnd> {
         self.more = false;
@@ -77,4 +87,6 @@ impl Service for Echo {
     }
 
     fn leave<R: Wait>(&mut self, _rt: &R, _hall: &()) {}
+
+    fn show(&mut self, _hall: &(), _witness: &mut Unmoved) {}
 }

@@ -2,7 +2,7 @@
 
 ghost use Rattle.std.specs.Prelude.{◌≡◌, ◌≤◌, ◌<◌, ◌∷◌, [], All, IfOk, IfSome, None, false, vec_len};
 
-use crate::echo::Echo;
+use crate::echo::{Echo, Unmoved};
 use board_links::Door;
 use game_sheet::NoMemory;
 use link_rounds::{Bench, DoorEnd, Ready, Service, serve_door};
@@ -42,6 +42,7 @@ fn serve_by<S: Service + Send, D: Door + Send, W: Ready<D::L> + Send, R: Threads
     alloc: Global,
     hall: &S::Hall,
     services: (Vec<S>, Vec<S>),
+    witness: S::Witness,
     readies: (W, W),
     door: D,
     sessions: u32,
@@ -49,9 +50,11 @@ fn serve_by<S: Service + Send, D: Door + Send, W: Ready<D::L> + Send, R: Threads
 where
     D::L: Send,
     S::Hall: Sync,
+    S::Witness: Send,
     requires few { (vec_len services.0 < 4294967296) × (vec_len services.1 < 4294967296) }
     requires fit { All (S.fits hall.now) services.0.items × All (S.fits hall.now) services.1.items }
     requires rest { All S.rests services.0.items × All S.rests services.1.items }
+    requires attends { S.attends witness }
     requires fresh { (D.given door ≡ 0) × (D.out door ≡ 0) × (D.bots_out door ≡ 0) × (D.shut door ≡ false) }
     requires returned { D.returned door ≡ None }
 {
@@ -64,8 +67,11 @@ where
     let Some(benches) = pair(alloc, first, second) else {
         return None;
     };
-    let (end, count, benches, door) = serve_door(rt, alloc, hall, benches, door, sessions);
+    let (end, count, benches, witness, door) = serve_door(
+        rt, alloc, hall, benches, witness, door, sessions,
+    );
     drop(benches);
+    drop(witness);
     drop(door);
     Some((end, count))
 }
@@ -87,5 +93,5 @@ where
     let services = (echoes(alloc, places).ok()?, echoes(alloc, places).ok()?);
     let both = (readies.pop()?, readies.pop()?);
     drop(readies);
-    serve_by(rt, alloc, &(), services, both, door, sessions)
+    serve_by(rt, alloc, &(), services, Unmoved, both, door, sessions)
 }

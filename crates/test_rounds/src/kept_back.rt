@@ -3,7 +3,7 @@
 ghost use Rattle.std.specs.Prelude.{◌≡◌, ◌==◌, [], Some, IfOk, false};
 ghost use Rattle.board_links.specs.Doors.{IsFresh};
 
-use crate::echo::Echo;
+use crate::echo::{Echo, Unmoved};
 use crate::rounds::{Everyone, echoes, link, serve};
 use board_links::{Came, Door, Link, MemoryDoor, MemoryLink, Out, SessionEnd};
 use game_sheet::{List, MatchName, NoMemory, Seat};
@@ -124,7 +124,7 @@ fn a_link_that_keeps_bytes_back_gets_no_turn(rt: HostRuntime) -> Result<(), Fail
     let alloc = rt.alloc();
     let services: Vec<Echo> = echoes(alloc)?;
     let door = door(alloc)?;
-    let (end, count, door) = serve(&rt, alloc, &(), services, Everyone, door)?;
+    let (end, count, door) = serve(&rt, alloc, &(), services, Unmoved, Everyone, door)?;
     assert!(rt; end == DoorEnd::Done && count == 2);
     for (place, (link, end)) in door.ended().iter().enumerate() {
         assert!(rt; is_served(link, *end), "link {place}");

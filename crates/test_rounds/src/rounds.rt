@@ -3,7 +3,7 @@
 ghost use Rattle.std.specs.Prelude.{◌≡◌, ◌<◌, ◌≤◌, [], All, Some, IfOk, false, vec_len};
 ghost use Rattle.board_links.specs.Doors.{IsFresh};
 
-use crate::echo::Echo;
+use crate::echo::{Echo, Unmoved};
 use board_links::{AtEnd, Door, Link, MemoryDoor, MemoryLink, Scripted, SessionEnd};
 use game_sheet::{List, NoMemory};
 use link_rounds::{Bench, DoorEnd, InTurn, Ready, Service, Stir, serve_door, serve_places};
@@ -82,15 +82,18 @@ pub fn serve<S: Service + Send, D: Door + Send, W: Ready<D::L> + Send, R: Thread
     alloc: Global,
     hall: &S::Hall,
     services: Vec<S>,
+    witness: S::Witness,
     ready: W,
     door: D,
 ) -> Result<(DoorEnd, u32, D), NoMemory>
 where
     D::L: Send,
     S::Hall: Sync,
+    S::Witness: Send,
     requires few { vec_len services < 4294967296 }
     requires fit { All (S.fits hall.now) services.items }
     requires rest { All S.rests services.items }
+    requires attends { S.attends witness }
     requires fresh { (D.given door ≡ 0) × (D.out door ≡ 0) × (D.bots_out door ≡ 0) × (D.shut door ≡ false) }
     requires returned { D.returned door ≡ Some [] }
 {
@@ -99,12 +102,16 @@ where
         Ok(bench) => benches.push_reserved(bench),
         Err(services) => {
             drop(services);
+            drop(witness);
             drop(door);
             return Err(NoMemory);
         }
     }
-    let (end, count, benches, door) = serve_door(rt, alloc, hall, benches, door, 1000);
+    let (end, count, benches, witness, door) = serve_door(
+        rt, alloc, hall, benches, witness, door, 1000,
+    );
     drop(benches);
+    drop(witness);
     Ok((end, count, door))
 }
 
@@ -131,7 +138,7 @@ fn links_are_served_turn_by_turn_and_come_back(rt: HostRuntime) -> Result<(), Fa
     let alloc = rt.alloc();
     let services = echoes(alloc)?;
     let door = door(alloc, &SAID)?;
-    let (end, count, door) = serve(&rt, alloc, &(), services, Everyone, door)?;
+    let (end, count, door) = serve(&rt, alloc, &(), services, Unmoved, Everyone, door)?;
     assert!(rt; end == DoorEnd::Done && count == 5);
     for (place, (link, end)) in door.ended().iter().enumerate() {
         assert!(rt; is_answered(link, *end, place), "link {place}");
@@ -146,22 +153,25 @@ fn serve_dealt<S: Service + Send, D: Door + Send, R: Threads + Wait + Sync>(
     alloc: Global,
     hall: &S::Hall,
     services: Vec<S>,
+    witness: S::Witness,
     door: D,
-) -> Result<(DoorEnd, u32, Vec<S>, D), NoMemory>
+) -> Result<(DoorEnd, u32, Vec<S>, S::Witness, D), NoMemory>
 where
     D::L: Send,
     S::Hall: Sync,
+    S::Witness: Send,
     requires enough { 2 ≤ vec_len services }
     requires few { vec_len services < 4294967296 }
     requires fit { All (S.fits hall.now) services.items }
     requires rest { All S.rests services.items }
+    requires attends { S.attends witness }
     requires fresh { (D.given door ≡ 0) × (D.out door ≡ 0) × (D.bots_out door ≡ 0) × (D.shut door ≡ false) }
     requires returned { D.returned door ≡ Some [] }
 {
     let mut readies = Vec::with_capacity(alloc, 2)?;
     readies.push_reserved(InTurn::new(2));
     readies.push_reserved(InTurn::new(1));
-    Ok(serve_places(rt, alloc, hall, services, readies, door, 1000))
+    Ok(serve_places(rt, alloc, hall, services, witness, readies, door, 1000))
 }
 
 /// Whether a link that came back ended with its peer, and was sent what one of them said.
@@ -180,8 +190,16 @@ fn services_are_dealt_out_and_come_back(rt: HostRuntime) -> Result<(), Fail> {
     let mut services = echoes(alloc)?;
     services.push(Echo::new(alloc))?;
     let door = door(alloc, &SAID)?;
-    let (end, count, services, door) = serve_dealt(&rt, alloc, &(), services, door)?;
+    let (end, count, services, witness, door) = serve_dealt(
+        &rt,
+        alloc,
+        &(),
+        services,
+        Unmoved,
+        door,
+    )?;
     assert!(rt; end == DoorEnd::Done && count == 5);
+    drop(witness);
     assert_eq!(rt; services.len(), 3);
     for (place, (link, end)) in door.ended().iter().enumerate() {
         assert!(rt; is_echoed(link, *end), "link {place}");
