@@ -2,12 +2,15 @@
 
 use game_sheet::Number;
 use room_history::RoomReply;
-use std::sync::atomic::{AtomicU64, Ordering};
+use std::sync::atomic::{AtomicBool, AtomicU32, AtomicU64, Ordering};
 
 /// What a room shows of itself. Its room alone writes it, and any thread may read it.
 #[derive(Drop)]
 pub struct Gauge {
     serial: AtomicU64,
+    matches: AtomicU64,
+    number: AtomicU32,
+    stopped: AtomicBool,
     attached: AtomicU64,
     attaches: AtomicU64,
 }
@@ -17,6 +20,12 @@ pub struct Gauge {
 pub struct Seen {
     /// The serial of the match that stands, from 1; 0 where none does, or the room has stopped.
     pub serial: u64,
+    /// How many matches the room has had.
+    pub matches: u64,
+    /// The state number of the match that stands; 0 where none does.
+    pub number: Number,
+    /// Whether the room has stopped for good.
+    pub stopped: bool,
     /// How many sessions are attached.
     pub attached: u64,
     /// How many sessions were ever attached.
@@ -24,19 +33,25 @@ pub struct Seen {
 }
 
 impl Gauge {
-    /// Of a room without a match, to which no session was ever attached.
+    /// Of a room that has had no match, to which no session was ever attached.
     pub fn new() -> Gauge {
         Gauge {
             serial: AtomicU64::new(0),
+            matches: AtomicU64::new(0),
+            number: AtomicU32::new(0),
+            stopped: AtomicBool::new(false),
             attached: AtomicU64::new(0),
             attaches: AtomicU64::new(0),
         }
     }
 
-    /// What it shows. The three numbers are read one after another, so a call that is made meanwhile may show in some of them alone.
+    /// What it shows. It is read one after another, so a call that is made meanwhile may show in a part of it alone.
     pub fn seen(&self) -> Seen {
         Seen {
             serial: self.serial(),
+            matches: self.matches.load(Ordering::SeqCst),
+            number: self.number.load(Ordering::SeqCst),
+            stopped: self.stopped.load(Ordering::SeqCst),
             attached: self.attached(),
             attaches: self.attaches(),
         }
@@ -78,12 +93,19 @@ impl Gauge {
             .store(self.attached().saturating_sub(1), Ordering::SeqCst);
     }
 
-    /// Shows the match that stands, by the room's row after a call.
+    /// Shows how many matches there were and the state number of the one that stands, by the room's row after a call.
     pub fn show(&self, row: Option<(u64, Option<Number>)>) {
-        let serial = match row {
-            Some((serial, Some(_))) => serial,
-            _ => 0,
-        };
-        self.serial.store(serial, Ordering::SeqCst);
+        match row {
+            Some((serial, number)) => {
+                let stands = if number.is_some() { serial } else { 0 };
+                self.matches.store(serial, Ordering::SeqCst);
+                self.number.store(number.unwrap_or(0), Ordering::SeqCst);
+                self.serial.store(stands, Ordering::SeqCst);
+            }
+            None => {
+                self.stopped.store(true, Ordering::SeqCst);
+                self.serial.store(0, Ordering::SeqCst);
+            }
+        }
     }
 }

@@ -1,14 +1,21 @@
-//! Who clears matches that nobody plays: what a room shows of itself, and a keeper that names the matches which were left alone for long.
+//! Who looks after the rooms beside the sessions: what a room shows of itself, and a keeper that names the matches which were left alone for long, and
+//! tells who asks from outside what goes on.
 #![tactic(auto)]
 
 mod gauge;
 mod gauged_room;
-mod idle;
+mod hall;
 mod keeper;
+mod outside;
+mod request;
+mod status;
 mod watching;
 
 pub use gauge::{Gauge, Seen};
 pub use gauged_room::GaugedRoom;
-pub use idle::{Clock, IdleKeeper};
-pub use keeper::{Keeper, NoKeeper};
+pub use hall::HallKeeper;
+pub use keeper::{Errand, Keeper, NoKeeper};
+pub use outside::Outside;
+pub use request::{Request, request_of};
+pub use status::{Counts, MatchStatus, RoomStatus, status_text};
 pub use watching::watch_rooms;

@@ -6,11 +6,11 @@ use crate::players::{connect, creates, creates_again};
 use crate::tables::{LIMIT, any};
 use board_links::{Door, MemorySink};
 use door_serve::{ServeEnd, serve_rooms};
-use game_sheet::{Bye, Bytes, List};
+use game_sheet::{Bye, Bytes, List, NoMemory};
 use link_rounds::Ready;
 use poll_links::open;
 use room_history::RoomReply;
-use room_keeper::{Clock, Gauge, IdleKeeper, Keeper};
+use room_keeper::{Errand, Gauge, HallKeeper, Keeper, Outside, RoomStatus};
 use session_pool::plain_rooms;
 use std::alloc::{AllocError, Global};
 use std::sync::atomic::{AtomicBool, Ordering};
@@ -25,13 +25,23 @@ struct Told {
     says: Arc<Gauge, Global>,
 }
 
-impl Clock for Told {
+impl Outside for Told {
     fn seconds(&mut self) -> Option<u64> {
         match self.says.serial() {
             0 => None,
             seconds => Some(seconds),
         }
     }
+
+    fn is_watched(&self) -> bool {
+        false
+    }
+
+    fn asked(&mut self) -> bool {
+        false
+    }
+
+    fn answer(&mut self, _rooms: Result<&[RoomStatus], NoMemory>) {}
 }
 
 /// What happens in a room before a look.
@@ -115,14 +125,21 @@ fn right_looks(alloc: Global) -> Result<usize, AllocError> {
     let told = Told {
         says: Arc::try_clone(&clock)?,
     };
-    let Ok(mut keeper) = IdleKeeper::new(alloc, gauges, 10, told) else {
+    let Ok(mut keeper) = HallKeeper::new(alloc, gauges, Some(10), told) else {
         return Err(AllocError);
     };
     let mut right = 0;
     for (second, happens, named) in LOOKS {
         clock.show(Some((second, Some(0))));
         happen(&room, happens);
-        let wanted = if named == 0 { None } else { Some((1, named)) };
+        let wanted = if named == 0 {
+            None
+        } else {
+            Some(Errand::Clear {
+                room: 1,
+                serial: named,
+            })
+        };
         if keeper.next() == wanted && right < LOOKS.len() {
             right += 1;
         }
@@ -141,16 +158,20 @@ fn a_match_is_named_once_nobody_was_attached_for_long(rt: HostRuntime) -> Result
 #[derive(Drop)]
 struct Names<'a> {
     begin: &'a AtomicBool,
-    names: Vec<(u8, u64)>,
+    names: Vec<Errand>,
 }
 
 impl<'a> Keeper for Names<'a> {
-    fn next(&mut self) -> Option<(u8, u64)> {
+    fn next(&mut self) -> Option<Errand> {
         if self.begin.load(Ordering::SeqCst) {
             self.names.pop()
         } else {
             None
         }
+    }
+
+    fn told(&mut self, reply: RoomReply) {
+        drop(reply);
     }
 }
 
@@ -203,8 +224,8 @@ fn a_match_that_a_keeper_names_is_cleared(rt: HostRuntime) -> Result<(), Fail> {
     let alloc = rt.alloc();
     let begin = AtomicBool::new(false);
     let mut names = Vec::new(alloc);
-    names.push((7, 1))?;
-    names.push((0, 1))?;
+    names.push(Errand::Clear { room: 7, serial: 1 })?;
+    names.push(Errand::Clear { room: 0, serial: 1 })?;
     let (door, readies) = open(rt, alloc, any(), LIMIT, None, 1, 3, 1)?;
     let mut peer = connect(&rt, door.addr()?)?;
     let system = &rt;

@@ -6,4 +6,4 @@ of_ok : {A E : Type 0} (P : A → Type 0) (found : Result A E) (a : A) → found
 of_ok P found a is holds = subst (λ r. IfOk r P) is holds
 
 pub serve_rooms-end-requires-clause-nobody : goal.serve_rooms-end-requires-clause-nobody
-serve_rooms-end-requires-clause-nobody g c κs inside = of_ok _ c.plain_rooms.result c.in-Ok.rooms c.in-Ok.is (c.plain_rooms.ensures.nobody 301)
+serve_rooms-end-requires-clause-nobody g c κs inside = of_ok _ c.plain_rooms.result c.in-Ok.rooms c.in-Ok.is (c.plain_rooms.ensures.nobody 302)
