@@ -1,14 +1,13 @@
 -- Rooms that stand for histories, and their numbers.
 use Rattle.std.proofs.Common.{◌≡◌, ◌<◌, ◌+◌, ◌-◌, ℕ, suc, zero, List, [], ◌∷◌, ◌++◌, Bool, true, false, map, take, drop, refl, sym, ap, ◌∙◌, subst, arith, slice_index_or, length, length-append}
-use Rattle.std.specs.Prelude.{All, Option, None, Some, if◌then◌else◌, is_some, not}
+use Rattle.std.specs.Prelude.{Option, None, Some, if◌then◌else◌, is_some, not}
 use Rattle.std.proofs.lemmas.List.{append_assoc, length-drop, length-map, map-append, take_all}
-use Rattle.std.proofs.lemmas.List.Elements.{All-append}
 use Rattle.any_game.specs.AnyRules.{any_rules}
 use Rattle.hosted_room.specs.Calls.{IsRowOf}
 use Rattle.room_history.specs.Room.{number, serials}
 use Rattle.session_pool.specs.Rooms.{numbers}
 use Rattle.door_serve.specs.Report.{line_text, room_text, row_text}
-use Rattle.door_serve.specs.Rooms.{Calls, Hosted, IsARoom, Numbered, Stand, row_of, rows_of}
+use Rattle.door_serve.specs.Rooms.{Calls, Hosted, Numbered, Stand, row_of, rows_of}
 
 -- numbers from one on begin with it
 numbers_first : (k n : ℕ) → numbers k (suc n) ≡ k ∷ numbers (k + 1) n
@@ -40,14 +39,6 @@ says_row room k false h (Some row) at stops is =
     ∙ ap (λ r. row_text k (serials any_rules r h) (number any_rules r h)) at)
 
 module _ {B : Type 0} where
-  -- each has its history
-  pub all_stand : (stands_for : B → Calls → Type 0) (rooms : List B) → All (IsARoom stands_for) rooms → (histories : List Calls) × Stand stands_for rooms histories
-  all_stand stands_for [] h = ([], tt)
-  all_stand stands_for (room ∷ rooms) h =
-      let first : IsARoom stands_for room = h 0 room (omega arith) in
-      let more = all_stand stands_for rooms (λ k d low. h (suc k) d (omega (arith, low))) in
-      (first.0 ∷ more.0, (first.1, more.1))
-
   -- rooms with such numbers are numbered so
   pub numbered : (number : B → ℕ) (rooms : List B) (k n : ℕ) → map number rooms ≡ numbers k n → Numbered number k rooms
   numbered number [] k n e = tt
@@ -84,15 +75,6 @@ module _ {B : Type 0} where
   pub line_of_room : (known : Hosted B) (room : B) (h : Calls) (k : ℕ) (row : Option (ℕ × Option ℕ)) → known.number room ≡ k → is_some row ≡ not (known.has_stopped room)
       → IsRowOf any_rules (known.number room) h row → line_text k row ≡ room_text k (row_of known room h)
   line_of_room known room h k row at stops is = says_row (known.number room) k (known.has_stopped room) h row at stops is
-
-  -- one room more
-  pub one_room_more : (stands_for : B → Calls → Type 0) (rooms after : List B) (room : B) → after ≡ rooms ++ room ∷ [] → All (IsARoom stands_for) rooms → IsARoom stands_for room
-      → All (IsARoom stands_for) after
-  one_room_more stands_for rooms after room push all here = subst (All (IsARoom stands_for)) (sym push) (All-append (IsARoom stands_for) rooms (room ∷ []) all (one room here))
-    where
-      one : (b : B) → IsARoom stands_for b → All (IsARoom stands_for) (b ∷ [])
-      one b h zero d low = h
-      one b h (suc k) d low = absurd (omega arith)
 
   -- the rooms are numbered on by the last desk's
   pub numbers_on : {D : Type 0} (number : B → ℕ) (object : D → ℕ) (old between after : List B) (desks left : List D) (d : D) (room : B) → desks ≡ left ++ d ∷ []

@@ -3,3 +3,4 @@ pub mod Booking
 pub mod Printing
 pub mod Created
 pub mod OwnPasses
+pub mod Watching

@@ -1,5 +1,5 @@
 -- The rooms of a server: the desks of their passes, what is known of the rooms that come back from them, and what they have come to.
-use Rattle.std.specs.Prelude.{◌≡◌, ◌+◌, ℕ, Bool, false, List, [], ◌∷◌, map, Option, Some, None, if◌then◌else◌}
+use Rattle.std.specs.Prelude.{◌≡◌, ◌+◌, ◌<◌, ℕ, Bool, false, List, [], ◌∷◌, ◌++◌, length, map, slice_index_or, Option, Some, None, if◌then◌else◌}
 use Rattle.any_game.specs.AnyRules.{any_rules}
 use Rattle.any_game.specs.GameKind.{GameKind}
 use Rattle.any_game.specs.declared.any_g.AnyG.{AnyG}
@@ -16,6 +16,11 @@ Calls = List (Entry (RoomCall GameKind))
 abbrev pub desks_of : List (Held (RoomCall GameKind)) → List DeskId
 desks_of passes = map (λ p. p.desk) passes
 
+-- each row of passes lost its last one, and these are they, in the order of the rows
+abbrev pub LoseLast : {Row : Type 0} → (Row → List (Held (RoomCall GameKind))) → List Row → List Row → List (Held (RoomCall GameKind)) → Type 0
+LoseLast {Row} items before after taken = (k : ℕ) (r : Row) (p : Held (RoomCall GameKind)) → k < length before
+    → items (slice_index_or before k r) ≡ items (slice_index_or after k r) ++ slice_index_or taken k p ∷ []
+
 -- what is known of rooms of one kind: the number of each, the calls that it stands for, and whether it has stopped
 pub record Hosted (B : Type 0) : Type 1 where
   pub number : B → ℕ
@@ -24,10 +29,6 @@ pub record Hosted (B : Type 0) : Type 1 where
 
 abbrev pub hosted : {B : Type 0} → (B → ℕ) → (B → Calls → Type 0) → (B → Bool) → Hosted B
 hosted number stands_for has_stopped = record { number = number; stands_for = stands_for; has_stopped = has_stopped }
-
--- a room stands for one history
-abbrev pub IsARoom : {B : Type 0} → (B → Calls → Type 0) → B → Type 0
-IsARoom stands_for room = (h : Calls) × stands_for room h
 
 -- rooms stand for these histories, one by one
 abbrev pub Stand : {B : Type 0} → (B → Calls → Type 0) → List B → List Calls → Type 0

@@ -1,10 +1,11 @@
-//! Has a keeper clear matches beside the sessions, until serving is over.
+//! Runs a keeper's errands beside the sessions, until serving is over.
 
 ghost use Rattle.std.specs.Prelude.{◌≡◌, ◌<◌, ◌≤◌, [], All, IfSome, None, Some, false, length, map, vec_len};
 ghost use Rattle.link_rounds.specs.Gate.{Ended};
 ghost use Rattle.session_pool.specs.Passes.{Belong, number_of, unseen};
 ghost use Rattle.session_pool.specs.Placed.{AttachedBy};
 ghost use Rattle.session_pool.specs.Sittings.{AreServed};
+ghost use Rattle.session_pool.specs.Watched.{StandsIn, seen_of};
 ghost use Rattle.door_serve.specs.Rooms.{desks_of};
 
 use any_game::AnyGame;
@@ -13,8 +14,8 @@ use board_links::Door;
 use hosted_room::HostedRoom;
 use link_rounds::{DoorEnd, Ready};
 use room_desk::{Desk, Pass};
-use room_history::RoomCall;
-use room_keeper::Keeper;
+use room_history::{RoomCall, RoomReply};
+use room_keeper::{Errand, Keeper};
 use session_pool::serve_door;
 use std::alloc::Global;
 use std::sync::Wait;
@@ -23,20 +24,31 @@ use std::thread;
 use std::thread::Threads;
 use std::time::Duration;
 
-/// Clears the match of this serial in a room by the room's pass, if it stands. Nothing happens where there is no such room.
-fn clear<B: HostedRoom<AnyGame>, R: Wait>(
+/// Makes the call of an errand by the pass of its room. The reply is `NoMatch` where there is no such room.
+fn run_errand<B: HostedRoom<AnyGame>, R: Wait>(
     rt: &R,
     desks: &[Desk<B>],
     passes: &mut [Pass<B>],
-    room: u8,
-    serial: u64,
-)
+    errand: Errand,
+) -> RoomReply
     requires own { desks_of passes.old ≡ map (λ d. d.desk) desks.now }
     ensures own { desks_of passes.new ≡ desks_of passes.old }
 {
+    let (room, call) = match errand {
+        Errand::Clear { room, serial } => (room, RoomCall::Clear { serial }),
+        Errand::Look { room, serial } => (
+            room,
+            RoomCall::Look {
+                serial: Some(serial),
+            },
+        ),
+    };
     let place = usize::from(room);
     if place < desks.len() {
-        drop(desks[place].call(rt, &mut passes[place], RoomCall::Clear { serial }));
+        desks[place].call(rt, &mut passes[place], call)
+    } else {
+        drop(call);
+        RoomReply::NoMatch
     }
 }
 
@@ -84,10 +96,11 @@ fn keep<B: HostedRoom<AnyGame>, H: Lends<Vec<Desk<B>>>, Q: Keeper, R: Wait>(
             return passes;
         }
         match keeper.next() {
-            Some((room, serial)) => {
-                clear(rt, desks.as_slice(), passes.as_mut_slice(), room, serial);
+            Some(errand) => {
+                let reply = run_errand(rt, desks.as_slice(), passes.as_mut_slice(), errand);
+                keeper.told(reply);
             }
-            None => over.park_timeout(rt, 0, Duration::from_secs(1)),
+            None => over.park_timeout(rt, 0, Duration::from_millis(100)),
         }
     }
     unreachable!()
@@ -107,12 +120,20 @@ fn serve_until_over<
     passes: Vec<Vec<Pass<B>>>,
     bench: &Desk<Wishes>,
     bench_passes: Vec<Pass<Wishes>>,
+    watch: Vec<Pass<B>>,
     readies: Vec<W>,
     seed: [u8; 32],
     door: D,
     sessions: u32,
     over: &AtomicU64,
-) -> (DoorEnd, u32, Vec<Vec<Pass<B>>>, Vec<Pass<Wishes>>, D)
+) -> (
+    DoorEnd,
+    u32,
+    Vec<Vec<Pass<B>>>,
+    Vec<Pass<Wishes>>,
+    Vec<Pass<B>>,
+    D,
+)
 where
     D::L: Send,
     requires rooms { (0 < length (H.lent desks.now).items) × (length (H.lent desks.now).items ≤ 64) }
@@ -123,12 +144,14 @@ where
     requires free { All (λ p. AttachedBy p.items None) passes.items }
     requires within { All (λ p. number_of p.items < vec_len passes) passes.items }
     requires bench { (vec_len bench_passes ≡ vec_len passes) × All (λ p. p.desk ≡ bench.now.desk) bench_passes.items }
+    requires watch { desks_of watch.items ≡ map (λ d. d.desk) (H.lent desks.now).items }
     requires fresh { (D.given door ≡ 0) × (D.out door ≡ 0) × (D.bots_out door ≡ 0) × (D.shut door ≡ false) }
     requires none_back { IfSome (D.returned door) (λ told. told ≡ []) }
-    ensures out { (D.out result.4 ≡ 0) × (D.bots_out result.4 ≡ 0) }
-    ensures given { D.given result.4 ≡ result.1 }
-    ensures ended { Ended sessions (D.faults door) (D.left door) (D.shut result.4) (D.faults result.4) result.1 (Some result.0) }
-    ensures served { AreServed B.may_starve seed (vec_len passes) (D.returned result.4) }
+    ensures out { (D.out result.5 ≡ 0) × (D.bots_out result.5 ≡ 0) }
+    ensures given { D.given result.5 ≡ result.1 }
+    ensures ended { Ended sessions (D.faults door) (D.left door) (D.shut result.5) (D.faults result.5) result.1 (Some result.0) }
+    ensures watch { desks_of result.4.items ≡ map (λ d. d.desk) (H.lent desks.now).items }
+    ensures served { AreServed B.may_starve seed (vec_len passes) (StandsIn (seen_of result.4.items)) (D.returned result.5) }
     ensures handed { map (λ p. map unseen p.items) result.2.items ≡ map (λ p. map unseen p.items) passes.items }
 {
     let served = serve_door(
@@ -138,6 +161,7 @@ where
         passes,
         bench,
         bench_passes,
+        watch,
         readies,
         seed,
         door,
@@ -165,12 +189,20 @@ fn serve_beside<
     keeper: Q,
     bench: &Desk<Wishes>,
     bench_passes: Vec<Pass<Wishes>>,
+    watch: Vec<Pass<B>>,
     readies: Vec<W>,
     seed: [u8; 32],
     door: D,
     sessions: u32,
 ) -> (
-    (DoorEnd, u32, Vec<Vec<Pass<B>>>, Vec<Pass<Wishes>>, D),
+    (
+        DoorEnd,
+        u32,
+        Vec<Vec<Pass<B>>>,
+        Vec<Pass<Wishes>>,
+        Vec<Pass<B>>,
+        D,
+    ),
     Vec<Pass<B>>,
 )
 where
@@ -184,12 +216,14 @@ where
     requires within { All (λ p. number_of p.items < vec_len passes) passes.items }
     requires own { desks_of own.items ≡ map (λ d. d.desk) (H.lent desks.now).items }
     requires bench { (vec_len bench_passes ≡ vec_len passes) × All (λ p. p.desk ≡ bench.now.desk) bench_passes.items }
+    requires watch { desks_of watch.items ≡ map (λ d. d.desk) (H.lent desks.now).items }
     requires fresh { (D.given door ≡ 0) × (D.out door ≡ 0) × (D.bots_out door ≡ 0) × (D.shut door ≡ false) }
     requires none_back { IfSome (D.returned door) (λ told. told ≡ []) }
-    ensures out { (D.out result.0.4 ≡ 0) × (D.bots_out result.0.4 ≡ 0) }
-    ensures given { D.given result.0.4 ≡ result.0.1 }
-    ensures ended { Ended sessions (D.faults door) (D.left door) (D.shut result.0.4) (D.faults result.0.4) result.0.1 (Some result.0.0) }
-    ensures served { AreServed B.may_starve seed (vec_len passes) (D.returned result.0.4) }
+    ensures out { (D.out result.0.5 ≡ 0) × (D.bots_out result.0.5 ≡ 0) }
+    ensures given { D.given result.0.5 ≡ result.0.1 }
+    ensures ended { Ended sessions (D.faults door) (D.left door) (D.shut result.0.5) (D.faults result.0.5) result.0.1 (Some result.0.0) }
+    ensures watch { desks_of result.0.4.items ≡ map (λ d. d.desk) (H.lent desks.now).items }
+    ensures served { AreServed B.may_starve seed (vec_len passes) (StandsIn (seen_of result.0.4.items)) (D.returned result.0.5) }
     ensures handed { map (λ p. map unseen p.items) result.0.2.items ≡ map (λ p. map unseen p.items) passes.items }
     ensures own { desks_of result.1.items ≡ desks_of own.items }
 {
@@ -200,7 +234,14 @@ where
         move || -> Vec<Pass<B>>
             requires own { desks_of own.items ≡ map (λ d. d.desk) (H.lent desks.now).items }
         { keep(rt, desks, own, keeper, over) },
-        move || -> (DoorEnd, u32, Vec<Vec<Pass<B>>>, Vec<Pass<Wishes>>, D)
+        move || -> (
+            DoorEnd,
+            u32,
+            Vec<Vec<Pass<B>>>,
+            Vec<Pass<Wishes>>,
+            Vec<Pass<B>>,
+            D,
+        )
             requires rooms { (0 < length (H.lent desks.now).items) × (length (H.lent desks.now).items ≤ 64) }
             requires some { 0 < vec_len readies }
             requires enough { vec_len readies ≤ vec_len passes }
@@ -209,12 +250,14 @@ where
             requires free { All (λ p. AttachedBy p.items None) passes.items }
             requires within { All (λ p. number_of p.items < vec_len passes) passes.items }
             requires bench { (vec_len bench_passes ≡ vec_len passes) × All (λ p. p.desk ≡ bench.now.desk) bench_passes.items }
+            requires watch { desks_of watch.items ≡ map (λ d. d.desk) (H.lent desks.now).items }
             requires fresh { (D.given door ≡ 0) × (D.out door ≡ 0) × (D.bots_out door ≡ 0) × (D.shut door ≡ false) }
             requires none_back { IfSome (D.returned door) (λ told. told ≡ []) }
-            ensures out { (D.out result.4 ≡ 0) × (D.bots_out result.4 ≡ 0) }
-            ensures given { D.given result.4 ≡ result.1 }
-            ensures ended { Ended sessions (D.faults door) (D.left door) (D.shut result.4) (D.faults result.4) result.1 (Some result.0) }
-            ensures served { AreServed B.may_starve seed (vec_len passes) (D.returned result.4) }
+            ensures out { (D.out result.5 ≡ 0) × (D.bots_out result.5 ≡ 0) }
+            ensures given { D.given result.5 ≡ result.1 }
+            ensures ended { Ended sessions (D.faults door) (D.left door) (D.shut result.5) (D.faults result.5) result.1 (Some result.0) }
+            ensures watch { desks_of result.4.items ≡ map (λ d. d.desk) (H.lent desks.entry.now).items }
+            ensures served { AreServed B.may_starve seed (vec_len passes) (StandsIn (seen_of result.4.items)) (D.returned result.5) }
             ensures handed { map (λ p. map unseen p.items) result.2.items ≡ map (λ p. map unseen p.items) passes.items }
         {
             serve_until_over(
@@ -224,6 +267,7 @@ where
                 passes,
                 bench,
                 bench_passes,
+                watch,
                 readies,
                 seed,
                 door,
@@ -235,9 +279,9 @@ where
     (served, own)
 }
 
-/// Serves the links of a door as `serve_door` does. If there is a keeper, it makes its calls by these passes of its own, one for each desk, in a
-/// thread beside; they are handed back last.
-pub(crate) fn serve_kept<
+/// Serves the links of a door as `serve_door` does, with a watch. If there is a keeper, it makes its calls by these passes of its own, one for each
+/// desk, in a thread beside; they are handed back last.
+pub(crate) fn serve_with_keeper<
     B: HostedRoom<AnyGame> + Send,
     D: Door + Send,
     W: Ready<D::L> + Send,
@@ -252,12 +296,20 @@ pub(crate) fn serve_kept<
     keeper: Option<Q>,
     bench: &Desk<Wishes>,
     bench_passes: Vec<Pass<Wishes>>,
+    watch: Vec<Pass<B>>,
     readies: Vec<W>,
     seed: [u8; 32],
     door: D,
     sessions: u32,
 ) -> (
-    (DoorEnd, u32, Vec<Vec<Pass<B>>>, Vec<Pass<Wishes>>, D),
+    (
+        DoorEnd,
+        u32,
+        Vec<Vec<Pass<B>>>,
+        Vec<Pass<Wishes>>,
+        Vec<Pass<B>>,
+        D,
+    ),
     Vec<Pass<B>>,
 )
 where
@@ -271,12 +323,14 @@ where
     requires within { All (λ p. number_of p.items < vec_len passes) passes.items }
     requires own { desks_of own.items ≡ map (λ d. d.desk) desks.now.items }
     requires bench { (vec_len bench_passes ≡ vec_len passes) × All (λ p. p.desk ≡ bench.now.desk) bench_passes.items }
+    requires watch { desks_of watch.items ≡ map (λ d. d.desk) desks.now.items }
     requires fresh { (D.given door ≡ 0) × (D.out door ≡ 0) × (D.bots_out door ≡ 0) × (D.shut door ≡ false) }
     requires none_back { IfSome (D.returned door) (λ told. told ≡ []) }
-    ensures out { (D.out result.0.4 ≡ 0) × (D.bots_out result.0.4 ≡ 0) }
-    ensures given { D.given result.0.4 ≡ result.0.1 }
-    ensures ended { Ended sessions (D.faults door) (D.left door) (D.shut result.0.4) (D.faults result.0.4) result.0.1 (Some result.0.0) }
-    ensures served { AreServed B.may_starve seed (vec_len passes) (D.returned result.0.4) }
+    ensures out { (D.out result.0.5 ≡ 0) × (D.bots_out result.0.5 ≡ 0) }
+    ensures given { D.given result.0.5 ≡ result.0.1 }
+    ensures ended { Ended sessions (D.faults door) (D.left door) (D.shut result.0.5) (D.faults result.0.5) result.0.1 (Some result.0.0) }
+    ensures watch { desks_of result.0.4.items ≡ map (λ d. d.desk) desks.now.items }
+    ensures served { AreServed B.may_starve seed (vec_len passes) (StandsIn (seen_of result.0.4.items)) (D.returned result.0.5) }
     ensures handed { map (λ p. map unseen p.items) result.0.2.items ≡ map (λ p. map unseen p.items) passes.items }
     ensures own { desks_of result.1.items ≡ desks_of own.items }
 {
@@ -290,6 +344,7 @@ where
             keeper,
             bench,
             bench_passes,
+            watch,
             readies,
             seed,
             door,
@@ -303,6 +358,7 @@ where
                 passes,
                 bench,
                 bench_passes,
+                watch,
                 readies,
                 seed,
                 door,

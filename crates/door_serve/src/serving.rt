@@ -8,11 +8,12 @@ ghost use Rattle.session_pool.specs.Passes.{Belong, number_of, unseen};
 ghost use Rattle.session_pool.specs.Placed.{AttachedBy};
 ghost use Rattle.session_pool.specs.Rooms.{numbers, rows_from};
 ghost use Rattle.session_pool.specs.Sittings.{AreServed};
+ghost use Rattle.session_pool.specs.Watched.{StandsIn};
 ghost use Rattle.door_serve.specs.Ends.{AreGiven, EndsBy, Reports, end_of};
 ghost use Rattle.door_serve.specs.Rooms.{Calls, desks_of, hosted};
 
 use crate::closing::close_all;
-use crate::keeping::serve_kept;
+use crate::keeping::serve_with_keeper;
 use crate::opening::open_match;
 use crate::reporting::print_report;
 use any_game::AnyGame;
@@ -41,8 +42,8 @@ pub enum ServeEnd {
     NoMemory,
 }
 
-/// What it takes to close rooms, taken before they are served: a list for the passes of each room, of which there is one more than there are places;
-/// one for the passes of all places and of the keeper; and one for the rooms.
+/// What it takes to close rooms, taken before they are served: a list for the passes of each room, of which there are two more than there are places;
+/// one for the passes of all places, of the keeper and of the watch; and one for the rooms.
 #[derive(Drop)]
 struct Spare<B: HostedRoom<AnyGame>> {
     rooms: u8,
@@ -51,9 +52,9 @@ struct Spare<B: HostedRoom<AnyGame>> {
     all: Vec<Vec<Pass<B>>>,
     back: Vec<B>,
     ghost many: { vec_len lists ≡ rooms },
-    ghost empty: { All (λ v. (v.items ≡ []) × (places + 1 ≤ vec_capacity v)) lists.items },
+    ghost empty: { All (λ v. (v.items ≡ []) × (places + 2 ≤ vec_capacity v)) lists.items },
     ghost all_empty: { all.items ≡ [] },
-    ghost all_room: { places + 1 ≤ vec_capacity all },
+    ghost all_room: { places + 2 ≤ vec_capacity all },
     ghost none: { back.items ≡ [] },
     ghost room: { rooms ≤ vec_capacity back },
 }
@@ -75,7 +76,7 @@ fn lists_for<B: HostedRoom<AnyGame>>(
     Ok(lists)
 }
 
-/// What it takes to close so many rooms, of a pass for each of so many places and one for the keeper.
+/// What it takes to close so many rooms, of a pass for each of so many places, one for the keeper and one for the watch.
 fn spare_for<B: HostedRoom<AnyGame>>(
     alloc: Global,
     rooms: u8,
@@ -84,7 +85,7 @@ fn spare_for<B: HostedRoom<AnyGame>>(
     ensures rooms { IfOk result (λ s. s.rooms ≡ rooms) }
     ensures places { IfOk result (λ s. s.places ≡ places) }
 {
-    let passes = usize::from(places) + 1;
+    let passes = usize::from(places) + 2;
     let lists = lists_for(alloc, rooms, passes)?;
     let all = Vec::with_capacity(alloc, passes)?;
     let back = Vec::with_capacity(alloc, rooms as usize)?;
@@ -97,36 +98,41 @@ fn spare_for<B: HostedRoom<AnyGame>>(
     })
 }
 
-/// Takes the keeper's passes, those of the last number, out of the rows of all passes of these desks.
+/// Takes the watch's passes, those of the last number, and the keeper's, those of the number before, out of the rows of all passes of these desks.
 fn split_own<B: HostedRoom<AnyGame>>(
     desks: &Vec<Desk<B>>,
     mut rows: Vec<Vec<Pass<B>>>,
     places: u32,
-) -> (Vec<Vec<Pass<B>>>, Vec<Pass<B>>)
+) -> (Vec<Vec<Pass<B>>>, Vec<Pass<B>>, Vec<Pass<B>>)
     requires some { 0 < length desks.now.items }
-    requires rows { map (λ v. map unseen v.items) rows.items ≡ rows_from desks.now.items 0 (places + 1) }
+    requires rows { map (λ v. map unseen v.items) rows.items ≡ rows_from desks.now.items 0 (places + 2) }
     requires free { All (λ p. AttachedBy p.items None) rows.items }
     ensures many { vec_len result.0 ≡ places }
     ensures belong { All (λ p. Belong desks.now.items (number_of p.items) p.items) result.0.items }
     ensures free { All (λ p. AttachedBy p.items None) result.0.items }
     ensures within { All (λ p. number_of p.items < places) result.0.items }
     ensures own { desks_of result.1.items ≡ map (λ d. d.desk) desks.now.items }
+    ensures watch { desks_of result.2.items ≡ map (λ d. d.desk) desks.now.items }
 {
+    let Some(watch) = rows.pop() else {
+        unreachable!()
+    };
     let Some(own) = rows.pop() else {
         unreachable!()
     };
-    (rows, own)
+    (rows, own, watch)
 }
 
-/// The rows of all places and then the keeper's passes, in a list that has room for them.
+/// The rows of all places, then the keeper's passes and then the watch's, in a list that has room for them.
 fn put_back<B: HostedRoom<AnyGame>>(
     mut rows: Vec<Vec<Pass<B>>>,
     own: Vec<Pass<B>>,
+    watch: Vec<Pass<B>>,
     mut all: Vec<Vec<Pass<B>>>,
 ) -> Vec<Vec<Pass<B>>>
     requires empty { all.items ≡ [] }
-    requires room { vec_len rows + 1 ≤ vec_capacity all }
-    ensures { result.items ≡ rows.items ++ own ∷ [] }
+    requires room { vec_len rows + 2 ≤ vec_capacity all }
+    ensures { result.items ≡ rows.items ++ own ∷ watch ∷ [] }
 {
     match all.append(&mut rows) {
         Ok(()) => {}
@@ -134,6 +140,7 @@ fn put_back<B: HostedRoom<AnyGame>>(
     }
     drop(rows);
     all.push_reserved(own);
+    all.push_reserved(watch);
     all
 }
 
@@ -155,12 +162,13 @@ fn end_of(end: DoorEnd, printed: Put) -> ServeEnd
 /// door is shut, has given so many sessions, or fails. Then closes the rooms, and reports. The rooms come back in their order, or none where there
 /// was no memory to set them up: they are dropped then.
 ///
-/// The rooms are numbered from 0. Each may have had calls before; at their end no pass of these places is attached, nor the pass after them. Each that
-/// comes back stands for one history. The report says of a room that hasn't stopped what its calls came to, and of one that has that it has stopped.
+/// The rooms are numbered from 0. Each may have had calls before; at their end no pass of these places is attached, nor the two passes after them. Each
+/// room that comes back stands for one history. What each session whose link came back was told came from calls that are in these histories: its passes
+/// had seen beginnings of them. The report says of a room that hasn't stopped what its calls came to, and of one that has that it has stopped.
 ///
-/// A keeper, if there is one, runs in a thread of its own from the first link on until serving is over. Each match that it names is cleared by the pass
-/// after those of the places, if it stands then: an ordinary call of its room. When that is no clause says. The keeper ends within a second or two of
-/// what it names last.
+/// A keeper, if there is one, runs in a thread of its own from the first link on until serving is over. Each match that it names is cleared by the
+/// first pass after those of the places, if it stands then: an ordinary call of its room. When that is no clause says. The keeper ends within a second
+/// or two of what it names last. The second pass after those of the places is shown where each session ended.
 ///
 /// A match of `table` is made first, if there is one: of this game, with so many seats, in room 0, by the first place's pass, with words 0 to 7 of
 /// stream 32 of the seed. Without memory for it no link is asked for; after any other reply the serving goes on.
@@ -193,17 +201,18 @@ where
     requires rooms { (0 < vec_len rooms) × (vec_len rooms ≤ 64) }
     requires numbered { map (λ b. B.number b) rooms.items ≡ numbers 0 (vec_len rooms) }
     requires stand { All (λ b. (past : Calls) × B.stands_for b past) rooms.items }
-    requires nobody { All (λ b. (past : Calls) → B.stands_for b past → NobodyIn any_rules (places + 1) (B.number b) past) rooms.items }
+    requires nobody { All (λ b. (past : Calls) → B.stands_for b past → NobodyIn any_rules (places + 2) (B.number b) past) rooms.items }
     requires places { (0 < places) × (places ≤ 4096) }
     requires some { 0 < vec_len readies }
     requires enough { vec_len readies ≤ places }
     requires fresh { (D.given door ≡ 0) × (D.out door ≡ 0) × (D.bots_out door ≡ 0) × (D.shut door ≡ false) }
     requires none_back { IfSome (D.returned door) (λ told. told ≡ []) }
     ensures out { (D.out result.1 ≡ 0) × (D.bots_out result.1 ≡ 0) }
-    ensures served { AreServed B.may_starve seed places (D.returned result.1) }
+    ensures served { AreServed B.may_starve seed places (λ s. Unit {0}) (D.returned result.1) }
     ensures sink_never_falls { K.faults sink.old ≤ K.faults sink.new }
     ensures ended { EndsBy result.0 sessions (D.faults door) (D.left door) (D.shut result.1) (D.faults result.1) (D.given result.1) (K.faults sink.old) (K.faults sink.new) }
-    ensures closed { AreGiven (hosted B.number B.stands_for B.has_stopped) (vec_len rooms) result.0 result.2.items }
+    ensures closed { AreGiven (hosted B.number B.stands_for B.has_stopped) (vec_len rooms) result.0 result.2.items
+        (λ histories. AreServed B.may_starve seed places (StandsIn histories) (D.returned result.1)) }
     ensures reports { let known = hosted B.number B.stands_for B.has_stopped in IsSome (K.held sink.old)
         → Reports known (vec_len rooms) (D.given result.1) result.2.items result.0 (told_bytes (K.held sink.old)) (K.held sink.new) }
 {
@@ -258,7 +267,7 @@ where
     requires rooms { (0 < vec_len rooms) × (vec_len rooms ≤ 64) }
     requires numbered { map (λ b. B.number b) rooms.items ≡ numbers 0 (vec_len rooms) }
     requires stand { All (λ b. (past : Calls) × B.stands_for b past) rooms.items }
-    requires nobody { All (λ b. (past : Calls) → B.stands_for b past → NobodyIn any_rules (places + 1) (B.number b) past) rooms.items }
+    requires nobody { All (λ b. (past : Calls) → B.stands_for b past → NobodyIn any_rules (places + 2) (B.number b) past) rooms.items }
     requires places { (0 < places) × (places ≤ 4096) }
     requires some { 0 < vec_len readies }
     requires enough { vec_len readies ≤ places }
@@ -266,10 +275,11 @@ where
     requires fresh { (D.given door ≡ 0) × (D.out door ≡ 0) × (D.bots_out door ≡ 0) × (D.shut door ≡ false) }
     requires none_back { IfSome (D.returned door) (λ told. told ≡ []) }
     ensures out { (D.out result.1 ≡ 0) × (D.bots_out result.1 ≡ 0) }
-    ensures served { AreServed B.may_starve seed places (D.returned result.1) }
+    ensures served { AreServed B.may_starve seed places (λ s. Unit {0}) (D.returned result.1) }
     ensures sink_never_falls { K.faults sink.old ≤ K.faults sink.new }
     ensures ended { EndsBy result.0 sessions (D.faults door) (D.left door) (D.shut result.1) (D.faults result.1) (D.given result.1) (K.faults sink.old) (K.faults sink.new) }
-    ensures closed { AreGiven (hosted B.number B.stands_for B.has_stopped) (vec_len rooms) result.0 result.2.items }
+    ensures closed { AreGiven (hosted B.number B.stands_for B.has_stopped) (vec_len rooms) result.0 result.2.items
+        (λ histories. AreServed B.may_starve seed places (StandsIn histories) (D.returned result.1)) }
     ensures reports { let known = hosted B.number B.stands_for B.has_stopped in IsSome (K.held sink.old)
         → Reports known (vec_len rooms) (D.given result.1) result.2.items result.0 (told_bytes (K.held sink.old)) (K.held sink.new) }
 {
@@ -281,9 +291,9 @@ where
         drop(keeper);
         return (ServeEnd::NoMemory, door, Vec::new(alloc));
     };
-    match set_up_rooms(alloc, rooms, u32::from(places) + 1) {
+    match set_up_rooms(alloc, rooms, u32::from(places) + 2) {
         Ok((desks, rows)) => {
-            let (rows, own) = split_own(&desks, rows, u32::from(places));
+            let (rows, own, watch) = split_own(&desks, rows, u32::from(places));
             serve_table(
                 rt,
                 alloc,
@@ -292,6 +302,7 @@ where
                 own,
                 bench,
                 bench_passes,
+                watch,
                 readies,
                 spare,
                 table,
@@ -330,6 +341,7 @@ fn serve_table<
     own: Vec<Pass<B>>,
     bench: Desk<Wishes>,
     bench_passes: Vec<Pass<Wishes>>,
+    watch: Vec<Pass<B>>,
     readies: Vec<W>,
     spare: Spare<B>,
     table: Option<(AnyGame, u8)>,
@@ -346,19 +358,21 @@ where
     requires enough { (vec_len readies ≤ spare.places) × (spare.places ≤ 4096) }
     requires many { (vec_len desks ≡ spare.rooms) × (vec_len rows ≡ spare.places) }
     requires objects { map (λ d. d.desk.object) desks.items ≡ numbers 0 spare.rooms }
-    requires counts { All (λ d. d.passes ≡ spare.places + 1) desks.items }
+    requires counts { All (λ d. d.passes ≡ spare.places + 2) desks.items }
     requires belong { All (λ p. Belong desks.items (number_of p.items) p.items) rows.items }
     requires free { All (λ p. AttachedBy p.items None) rows.items }
     requires within { All (λ p. number_of p.items < spare.places) rows.items }
     requires own { desks_of own.items ≡ map (λ d. d.desk) desks.items }
     requires bench { (vec_len bench_passes ≡ spare.places) × All (λ p. p.desk ≡ bench.desk) bench_passes.items }
+    requires watch { desks_of watch.items ≡ map (λ d. d.desk) desks.items }
     requires fresh { (D.given door ≡ 0) × (D.out door ≡ 0) × (D.bots_out door ≡ 0) × (D.shut door ≡ false) }
     requires none_back { IfSome (D.returned door) (λ told. told ≡ []) }
     ensures out { (D.out result.1 ≡ 0) × (D.bots_out result.1 ≡ 0) }
-    ensures served { AreServed B.may_starve seed spare.places (D.returned result.1) }
+    ensures served { AreServed B.may_starve seed spare.places (λ s. Unit {0}) (D.returned result.1) }
     ensures sink_never_falls { K.faults sink.old ≤ K.faults sink.new }
     ensures ended { EndsBy result.0 sessions (D.faults door) (D.left door) (D.shut result.1) (D.faults result.1) (D.given result.1) (K.faults sink.old) (K.faults sink.new) }
-    ensures closed { AreGiven (hosted B.number B.stands_for B.has_stopped) spare.rooms result.0 result.2.items }
+    ensures closed { AreGiven (hosted B.number B.stands_for B.has_stopped) spare.rooms result.0 result.2.items
+        (λ histories. AreServed B.may_starve seed spare.places (StandsIn histories) (D.returned result.1)) }
     ensures reports { let known = hosted B.number B.stands_for B.has_stopped in IsSome (K.held sink.old)
         → Reports known spare.rooms (D.given result.1) result.2.items result.0 (told_bytes (K.held sink.old)) (K.held sink.new) }
 {
@@ -372,6 +386,7 @@ where
             own,
             bench,
             bench_passes,
+            watch,
             readies,
             spare,
             keeper,
@@ -383,6 +398,7 @@ where
     } else {
         drop(rows);
         drop(own);
+        drop(watch);
         drop(desks);
         drop(bench_passes);
         drop(bench);
@@ -409,6 +425,7 @@ fn serve_hall<
     own: Vec<Pass<B>>,
     bench: Desk<Wishes>,
     bench_passes: Vec<Pass<Wishes>>,
+    watch: Vec<Pass<B>>,
     readies: Vec<W>,
     spare: Spare<B>,
     keeper: Option<Q>,
@@ -424,19 +441,21 @@ where
     requires enough { (vec_len readies ≤ spare.places) × (spare.places ≤ 4096) }
     requires many { (vec_len desks ≡ spare.rooms) × (vec_len rows ≡ spare.places) }
     requires objects { map (λ d. d.desk.object) desks.items ≡ numbers 0 spare.rooms }
-    requires counts { All (λ d. d.passes ≡ spare.places + 1) desks.items }
+    requires counts { All (λ d. d.passes ≡ spare.places + 2) desks.items }
     requires belong { All (λ p. Belong desks.items (number_of p.items) p.items) rows.items }
     requires free { All (λ p. AttachedBy p.items None) rows.items }
     requires within { All (λ p. number_of p.items < spare.places) rows.items }
     requires own { desks_of own.items ≡ map (λ d. d.desk) desks.items }
     requires bench { (vec_len bench_passes ≡ spare.places) × All (λ p. p.desk ≡ bench.desk) bench_passes.items }
+    requires watch { desks_of watch.items ≡ map (λ d. d.desk) desks.items }
     requires fresh { (D.given door ≡ 0) × (D.out door ≡ 0) × (D.bots_out door ≡ 0) × (D.shut door ≡ false) }
     requires none_back { IfSome (D.returned door) (λ told. told ≡ []) }
     ensures out { (D.out result.1 ≡ 0) × (D.bots_out result.1 ≡ 0) }
-    ensures served { AreServed B.may_starve seed spare.places (D.returned result.1) }
+    ensures served { AreServed B.may_starve seed spare.places (λ s. Unit {0}) (D.returned result.1) }
     ensures sink_never_falls { K.faults sink.old ≤ K.faults sink.new }
     ensures ended { EndsBy result.0 sessions (D.faults door) (D.left door) (D.shut result.1) (D.faults result.1) (D.given result.1) (K.faults sink.old) (K.faults sink.new) }
-    ensures closed { AreGiven (hosted B.number B.stands_for B.has_stopped) spare.rooms result.0 result.2.items }
+    ensures closed { AreGiven (hosted B.number B.stands_for B.has_stopped) spare.rooms result.0 result.2.items
+        (λ histories. AreServed B.may_starve seed spare.places (StandsIn histories) (D.returned result.1)) }
     ensures reports { let known = hosted B.number B.stands_for B.has_stopped in IsSome (K.held sink.old)
         → Reports known spare.rooms (D.given result.1) result.2.items result.0 (told_bytes (K.held sink.old)) (K.held sink.new) }
 {
@@ -448,7 +467,7 @@ where
         all,
         mut back,
     } = spare;
-    let (served, own) = serve_kept(
+    let (served, own) = serve_with_keeper(
         rt,
         alloc,
         &desks,
@@ -457,15 +476,16 @@ where
         keeper,
         &bench,
         bench_passes,
+        watch,
         readies,
         seed,
         door,
         sessions,
     );
-    let (end, count, rows, bench_passes, door) = served;
+    let (end, count, rows, bench_passes, watch, door) = served;
     drop(bench_passes);
     drop(bench);
-    let mut rows = put_back(rows, own, all);
+    let mut rows = put_back(rows, own, watch, all);
     close_all(&mut desks, rows.as_mut_slice(), &mut lists, &mut back);
     drop(desks);
     drop(rows);

@@ -13,3 +13,4 @@ pub mod Replies
 pub mod Saying
 pub mod Sends
 pub mod Turns
+pub mod Watching

@@ -128,9 +128,17 @@ all_free items desks bench seed places sittings back e fit rest =
     (All-map (λ p. AttachedBy p None) (λ s. s.passes) sittings (λ k d low. free_at desks bench seed places (slice_index_or sittings k d) (fit k d low) (rest k d low)))
 
 -- a door that tells of no link that came back
-pub none_served : (may_refuse : RoomCall GameKind → Bool) (seed : List ℕ) (places : ℕ) (told : Option (List Returned)) → IfSome told (λ links. links ≡ []) → AreServed may_refuse seed places told
-none_served may_refuse seed places None none = tt
-none_served may_refuse seed places (Some links) none = subst (λ l. AreServed may_refuse seed places (Some l)) (sym none) (λ k d low. absurd (omega arith))
+pub none_served : (may_refuse : RoomCall GameKind → Bool) (seed : List ℕ) (places : ℕ) (known : Stand → Type 0) (told : Option (List Returned)) → IfSome told (λ links. links ≡ []) → AreServed may_refuse seed places known told
+none_served may_refuse seed places known None none = tt
+none_served may_refuse seed places known (Some links) none = subst (λ l. AreServed may_refuse seed places known (Some l)) (sym none) (λ k d low. absurd (omega arith))
+
+-- what is known of where sessions stood in the end says something else too
+pub served_as : (may_refuse : RoomCall GameKind → Bool) (seed : List ℕ) (places : ℕ) (known other : Stand → Type 0) → ((s : Stand) → known s → other s) → (told : Option (List Returned))
+    → AreServed may_refuse seed places known told → AreServed may_refuse seed places other told
+served_as may_refuse seed places known other says None served = tt
+served_as may_refuse seed places known other says (Some links) served = λ k d low.
+    let was = served k d low in
+    (was.0, says was.0 was.1, was.2)
 
 -- places whose passes at the bench are of its desk
 at_the_bench : (desks : List SetUp) (bench : DeskId) (seed : List ℕ) (places : ℕ) (sittings : List Stand) → All (Fits desks bench seed places) sittings → All (λ (s : Stand). s.bench.desk ≡ bench) sittings

@@ -6,3 +6,4 @@ pub mod Rooms
 pub mod Sittings
 pub mod Taken
 pub mod Turn
+pub mod Watched

@@ -58,6 +58,6 @@ Leaves may_refuse s t = (m : Side (List Pass)) × (p : Seen) × Detaches may_ref
 -- ---- the links of a door
 
 -- Each link that came back, where the door tells them: all that it tells was told in turns of one session, from its first byte to its end, at one of
--- so many places, which had no session then and whose words come from the stream of its number of this seed.
-abbrev pub AreServed : (RoomCall GameKind → Bool) → List ℕ → ℕ → Option (List Returned) → Type 0
-AreServed may_refuse seed places told = WereServed (Turn may_refuse) (Leaves may_refuse) (Rests seed places) told
+-- so many places, which had no session then and whose words come from the stream of its number of this seed; and where it stood in the end is known.
+abbrev pub AreServed : (RoomCall GameKind → Bool) → List ℕ → ℕ → (Stand → Type 0) → Option (List Returned) → Type 0
+AreServed may_refuse seed places known told = WereServed (Turn may_refuse) (Leaves may_refuse) (Rests seed places) known told

@@ -5,8 +5,10 @@ ghost use Rattle.link_rounds.specs.Gate.{Ended};
 ghost use Rattle.session_pool.specs.Passes.{Belong, number_of, unseen};
 ghost use Rattle.session_pool.specs.Placed.{AttachedBy};
 ghost use Rattle.session_pool.specs.Sittings.{AreServed, Fits, Rests};
+ghost use Rattle.session_pool.specs.Watched.{AllKnow, StandsIn, desk_at, seen_of};
 
 use crate::sitting::{Hall, Seeded, Sitting};
+use crate::watch::{set_out, take_back};
 use any_game::AnyGame;
 use bench_wishes::Wishes;
 use board_links::Door;
@@ -15,7 +17,7 @@ use hosted_room::HostedRoom;
 use link_rounds::{DoorEnd, Ready, serve_places};
 use room_desk::{Desk, Pass};
 use std::alloc::Global;
-use std::marker::Brand;
+use std::marker::{Brand, PhantomData};
 use std::sync::Wait;
 use std::thread::Threads;
 
@@ -76,17 +78,29 @@ fn raise<'a, B: HostedRoom<AnyGame>, K: Seeded>(
     Ok(sittings)
 }
 
-/// Empty lists with room for the passes of so many places, and for those at the bench.
+/// Empty lists with room for the passes of so many places, for those at the bench, and for those of a watch over so many rooms, both as it goes out
+/// and as it comes back.
 fn lists_for<B: HostedRoom<AnyGame>>(
     alloc: Global,
     places: usize,
-) -> Result<(Vec<Vec<Pass<B>>>, Vec<Pass<Wishes>>), NoMemory>
-    ensures room { IfOk result (λ r. (places ≤ vec_capacity r.0) × (places ≤ vec_capacity r.1)) }
-    ensures empty { IfOk result (λ r. (r.0.items ≡ []) × (r.1.items ≡ [])) }
+    rooms: usize,
+) -> Result<
+    (
+        Vec<Vec<Pass<B>>>,
+        Vec<Pass<Wishes>>,
+        Vec<Option<Pass<B>>>,
+        Vec<Pass<B>>,
+    ),
+    NoMemory,
+>
+    ensures room { IfOk result (λ r. (places ≤ vec_capacity r.0) × (places ≤ vec_capacity r.1) × (rooms ≤ vec_capacity r.2) × (rooms ≤ vec_capacity r.3)) }
+    ensures empty { IfOk result (λ r. (r.0.items ≡ []) × (r.1.items ≡ []) × (r.2.items ≡ []) × (r.3.items ≡ [])) }
 {
     let back = Vec::with_capacity(alloc, places)?;
     let bench_back = Vec::with_capacity(alloc, places)?;
-    Ok((back, bench_back))
+    let out = Vec::with_capacity(alloc, rooms)?;
+    let watch_back = Vec::with_capacity(alloc, rooms)?;
+    Ok((back, bench_back, out, watch_back))
 }
 
 /// The places' passes, and those at the bench, in order.
@@ -111,7 +125,7 @@ fn dismiss<'a, B: HostedRoom<AnyGame>, K: Seeded>(
 fn serve_at<
     'a,
     B: HostedRoom<AnyGame> + Send,
-    K: Seeded + Send,
+    K: Seeded + Send + Sync,
     D: Door + Send,
     W: Ready<D::L> + Send,
     R: Threads + Wait + Sync,
@@ -121,12 +135,21 @@ fn serve_at<
     desks: &'a [Desk<B>],
     bench: &'a Desk<Wishes>,
     sittings: Vec<Sitting<'a, B, K>>,
+    watch: Vec<Option<Pass<B>>>,
     readies: Vec<W>,
     door: D,
     sessions: u32,
     mut back: Vec<Vec<Pass<B>>>,
     mut bench_back: Vec<Pass<Wishes>>,
-) -> (DoorEnd, u32, Vec<Vec<Pass<B>>>, Vec<Pass<Wishes>>, D)
+    mut watch_back: Vec<Pass<B>>,
+) -> (
+    DoorEnd,
+    u32,
+    Vec<Vec<Pass<B>>>,
+    Vec<Pass<Wishes>>,
+    Vec<Pass<B>>,
+    D,
+)
 where
     D::L: Send,
     requires some { 0 < vec_len readies }
@@ -135,34 +158,39 @@ where
     requires fit { All (Fits desks.now bench.now.desk K.seed K.places) sittings.items }
     requires rest { All (Rests K.seed K.places) sittings.items }
     requires fresh { (D.given door ≡ 0) × (D.out door ≡ 0) × (D.bots_out door ≡ 0) × (D.shut door ≡ false) }
-    requires served { AreServed B.may_starve K.seed K.places (D.returned door) }
-    requires room { (vec_len sittings ≤ vec_capacity back) × (vec_len sittings ≤ vec_capacity bench_back) }
-    requires empty { (back.items ≡ []) × (bench_back.items ≡ []) }
-    ensures out { (D.out result.4 ≡ 0) × (D.bots_out result.4 ≡ 0) }
-    ensures given { D.given result.4 ≡ result.1 }
-    ensures ended { Ended sessions (D.faults door) (D.left door) (D.shut result.4) (D.faults result.4) result.1 (Some result.0) }
-    ensures served { AreServed B.may_starve K.seed K.places (D.returned result.4) }
+    requires named { map (λ d. d.desk) desks.now ≡ K.desks }
+    requires watch { map desk_at watch.items ≡ map Some K.desks }
+    requires served { AreServed B.may_starve K.seed K.places (λ s. AllKnow watch.items s.passes) (D.returned door) }
+    requires room { (vec_len sittings ≤ vec_capacity back) × (vec_len sittings ≤ vec_capacity bench_back) × (vec_len watch ≤ vec_capacity watch_back) }
+    requires empty { (back.items ≡ []) × (bench_back.items ≡ []) × (watch_back.items ≡ []) }
+    ensures out { (D.out result.5 ≡ 0) × (D.bots_out result.5 ≡ 0) }
+    ensures given { D.given result.5 ≡ result.1 }
+    ensures ended { Ended sessions (D.faults door) (D.left door) (D.shut result.5) (D.faults result.5) result.1 (Some result.0) }
+    ensures served { AreServed B.may_starve K.seed K.places (StandsIn (seen_of result.4.items)) (D.returned result.5) }
     ensures handed { map (λ p. map unseen p.items) result.2.items ≡ map (λ s. map unseen s.passes) sittings.entry.items }
     ensures free { All (λ p. AttachedBy p.items None) result.2.items }
+    ensures watch { map (λ p. p.desk) result.4.items ≡ map (λ d. d.desk) desks.now }
     ensures benched { (vec_len result.3 ≡ vec_len sittings.entry) × All (λ p. p.desk ≡ bench.now.desk) result.3.items }
 {
     let hall = Hall {
         alloc,
         desks,
         bench,
+        of: PhantomData,
     };
-    let (end, count, sittings, door) = serve_places(
-        rt, alloc, &hall, sittings, readies, door, sessions,
+    let (end, count, sittings, watch, door) = serve_places(
+        rt, alloc, &hall, sittings, watch, readies, door, sessions,
     );
     drop(hall);
     dismiss(sittings, &mut back, &mut bench_back);
-    (end, count, back, bench_back, door)
+    take_back(watch, &mut watch_back);
+    (end, count, back, bench_back, watch_back, door)
 }
 
 /// Serves the door at places of these passes, whose seed `K` has too.
 fn run<
     B: HostedRoom<AnyGame> + Send,
-    K: Seeded + Send,
+    K: Seeded + Send + Sync,
     D: Door + Send,
     W: Ready<D::L> + Send,
     R: Threads + Wait + Sync,
@@ -173,14 +201,22 @@ fn run<
     passes: Vec<Vec<Pass<B>>>,
     bench: &Desk<Wishes>,
     bench_passes: Vec<Pass<Wishes>>,
+    watch: Vec<Pass<B>>,
     readies: Vec<W>,
     seed: [u8; 32],
     door: D,
     sessions: u32,
-) -> (DoorEnd, u32, Vec<Vec<Pass<B>>>, Vec<Pass<Wishes>>, D)
+) -> (
+    DoorEnd,
+    u32,
+    Vec<Vec<Pass<B>>>,
+    Vec<Pass<Wishes>>,
+    Vec<Pass<B>>,
+    D,
+)
 where
     D::L: Send,
-    requires seeded { (K.seed ≡ seed) × (K.places ≡ vec_len passes) }
+    requires seeded { (K.seed ≡ seed) × (K.places ≡ vec_len passes) × (K.desks ≡ map (λ d. d.desk) desks.now) }
     requires rooms { (0 < length desks.now) × (length desks.now ≤ 64) }
     requires some { 0 < vec_len readies }
     requires enough { vec_len readies ≤ vec_len passes }
@@ -189,27 +225,34 @@ where
     requires free { All (λ p. AttachedBy p.items None) passes.items }
     requires within { All (λ p. number_of p.items < vec_len passes) passes.items }
     requires bench { (vec_len bench_passes ≡ vec_len passes) × All (λ p. p.desk ≡ bench.now.desk) bench_passes.items }
+    requires watch { map (λ p. p.desk) watch.items ≡ map (λ d. d.desk) desks.now }
     requires fresh { (D.given door ≡ 0) × (D.out door ≡ 0) × (D.bots_out door ≡ 0) × (D.shut door ≡ false) }
     requires none_back { IfSome (D.returned door) (λ told. told ≡ []) }
-    ensures out { (D.out result.4 ≡ 0) × (D.bots_out result.4 ≡ 0) }
-    ensures given { D.given result.4 ≡ result.1 }
-    ensures ended { Ended sessions (D.faults door) (D.left door) (D.shut result.4) (D.faults result.4) result.1 (Some result.0) }
-    ensures served { AreServed B.may_starve seed (vec_len passes) (D.returned result.4) }
+    ensures out { (D.out result.5 ≡ 0) × (D.bots_out result.5 ≡ 0) }
+    ensures given { D.given result.5 ≡ result.1 }
+    ensures ended { Ended sessions (D.faults door) (D.left door) (D.shut result.5) (D.faults result.5) result.1 (Some result.0) }
+    ensures served { AreServed B.may_starve seed (vec_len passes) (StandsIn (seen_of result.4.items)) (D.returned result.5) }
     ensures handed { map (λ p. map unseen p.items) result.2.items ≡ map (λ p. map unseen p.items) passes.items }
     ensures free { All (λ p. AttachedBy p.items None) result.2.items }
+    ensures watch { map (λ p. p.desk) result.4.items ≡ map (λ d. d.desk) desks.now }
     ensures benched { (vec_len result.3 ≡ vec_len bench_passes) × All (λ p. p.desk ≡ bench.now.desk) result.3.items }
 {
-    let Ok((back, bench_back)) = lists_for(alloc, passes.len()) else {
+    let Ok((back, bench_back, mut out, watch_back)) = lists_for(alloc, passes.len(), watch.len())
+    else {
         drop(readies);
-        return (DoorEnd::NoMemory, 0, passes, bench_passes, door);
+        return (DoorEnd::NoMemory, 0, passes, bench_passes, watch, door);
     };
     match raise::<B, K>(alloc, desks, passes, bench, bench_passes, seed) {
-        Ok(sittings) => serve_at(
-            rt, alloc, desks, bench, sittings, readies, door, sessions, back, bench_back,
-        ),
+        Ok(sittings) => {
+            set_out(watch, &mut out);
+            serve_at(
+                rt, alloc, desks, bench, sittings, out, readies, door, sessions, back, bench_back,
+                watch_back,
+            )
+        }
         Err((passes, bench_passes)) => {
             drop(readies);
-            (DoorEnd::NoMemory, 0, passes, bench_passes, door)
+            (DoorEnd::NoMemory, 0, passes, bench_passes, watch, door)
         }
     }
 }
@@ -220,9 +263,10 @@ where
 ///
 /// There are 1 to 64 desks, at least one worker, and a place or more for each. A list of passes has one for each desk, in their order, all with one
 /// number below the count of lists, and none is attached; so they are afterwards. There is a pass at the bench for each list; the place of a list
-/// has the bench pass at the list's index, and these passes are handed back too. The door has given no link, hasn't answered that it is shut, and
-/// tells of no link that came back. The place of number p draws its words from stream p of the seed, one session after another. With every end
-/// comes the count of the links that the door gave. A door that tells what came back tells only links that were served.
+/// has the bench pass at the list's index, and these passes are handed back too. A watch has a pass of each desk, in their order. The door has given
+/// no link, hasn't answered that it is shut, and tells of no link that came back. The place of number p draws its words from stream p of the seed, one session after another. With every end
+/// comes the count of the links that the door gave. A door that tells what came back tells only links that were served, each by a session whose
+/// passes had seen no more in the end than what the watch's, which are handed back before the door, have seen: that is how their histories begin.
 pub fn serve_door<
     B: HostedRoom<AnyGame> + Send,
     D: Door + Send,
@@ -235,11 +279,19 @@ pub fn serve_door<
     passes: Vec<Vec<Pass<B>>>,
     bench: &Desk<Wishes>,
     bench_passes: Vec<Pass<Wishes>>,
+    watch: Vec<Pass<B>>,
     readies: Vec<W>,
     seed: [u8; 32],
     door: D,
     sessions: u32,
-) -> (DoorEnd, u32, Vec<Vec<Pass<B>>>, Vec<Pass<Wishes>>, D)
+) -> (
+    DoorEnd,
+    u32,
+    Vec<Vec<Pass<B>>>,
+    Vec<Pass<Wishes>>,
+    Vec<Pass<B>>,
+    D,
+)
 where
     D::L: Send,
     requires rooms { (0 < length desks.now) × (length desks.now ≤ 64) }
@@ -250,14 +302,16 @@ where
     requires free { All (λ p. AttachedBy p.items None) passes.items }
     requires within { All (λ p. number_of p.items < vec_len passes) passes.items }
     requires bench { (vec_len bench_passes ≡ vec_len passes) × All (λ p. p.desk ≡ bench.now.desk) bench_passes.items }
+    requires watch { map (λ p. p.desk) watch.items ≡ map (λ d. d.desk) desks.now }
     requires fresh { (D.given door ≡ 0) × (D.out door ≡ 0) × (D.bots_out door ≡ 0) × (D.shut door ≡ false) }
     requires none_back { IfSome (D.returned door) (λ told. told ≡ []) }
-    ensures out { (D.out result.4 ≡ 0) × (D.bots_out result.4 ≡ 0) }
-    ensures given { D.given result.4 ≡ result.1 }
-    ensures ended { Ended sessions (D.faults door) (D.left door) (D.shut result.4) (D.faults result.4) result.1 (Some result.0) }
-    ensures served { AreServed B.may_starve seed (vec_len passes) (D.returned result.4) }
+    ensures out { (D.out result.5 ≡ 0) × (D.bots_out result.5 ≡ 0) }
+    ensures given { D.given result.5 ≡ result.1 }
+    ensures ended { Ended sessions (D.faults door) (D.left door) (D.shut result.5) (D.faults result.5) result.1 (Some result.0) }
+    ensures served { AreServed B.may_starve seed (vec_len passes) (StandsIn (seen_of result.4.items)) (D.returned result.5) }
     ensures handed { map (λ p. map unseen p.items) result.2.items ≡ map (λ p. map unseen p.items) passes.items }
     ensures free { All (λ p. AttachedBy p.items None) result.2.items }
+    ensures watch { map (λ p. p.desk) result.4.items ≡ map (λ d. d.desk) desks.now }
     ensures benched { (vec_len result.3 ≡ vec_len bench_passes) × All (λ p. p.desk ≡ bench.now.desk) result.3.items }
 {
     run::<B, Brand, D, W, R>(
@@ -267,6 +321,7 @@ where
         passes,
         bench,
         bench_passes,
+        watch,
         readies,
         seed,
         door,

@@ -11,6 +11,7 @@ mod say;
 mod sitting;
 mod take;
 mod turn;
+mod watch;
 
 pub use door::serve_door;
 pub use link::serve_link;

@@ -1,12 +1,13 @@
 //! A place at which sessions of rooms are served, one after another.
 
-ghost use Rattle.std.specs.Prelude.{◌≡◌, ◌≤◌, ◌<◌, length, vec_len};
+ghost use Rattle.std.specs.Prelude.{◌≡◌, ◌≤◌, ◌<◌, length, map, vec_len};
 ghost use Rattle.dice_words.specs.Strip.{live};
 ghost use Rattle.session_pool.specs.Passes.{number_of};
 ghost use Rattle.session_pool.specs.Sittings.{begins};
 
 use crate::link::detach;
 use crate::turn::take_turn;
+use crate::watch::show_all;
 use any_game::AnyGame;
 use bench_wishes::Wishes;
 use board_links::{Link, SessionEnd};
@@ -21,15 +22,19 @@ use std::alloc::Global;
 use std::marker::{Brand, Model, PhantomData};
 use std::sync::Wait;
 
-/// The seed of a server's words, and how many places it has, which proofs alone see.
+/// The seed of a server's words, how many places it has, and its desks, which proofs alone see.
 pub trait Seeded {
     ghost use Rattle.std.specs.Prelude.{ℕ, List};
+    ghost use Rattle.room_desk.specs.History.{DeskId};
 
     /// The seed.
     ghost seed: { List ℕ };
 
     /// How many places there are. Their numbers are below it.
     ghost places: { ℕ };
+
+    /// The desks of its rooms, in their order.
+    ghost desks: { List DeskId };
 }
 
 impl Seeded for Brand {
@@ -38,17 +43,22 @@ impl Seeded for Brand {
     ghost seed = { [] };
 
     ghost places = { 0 };
+
+    ghost desks = { [] };
 }
 
-/// The rooms of a server, which its sessions share.
+/// The rooms of a server, which its sessions share. Their desks are those of `K`.
 #[derive(Drop)]
-pub struct Hall<'a, B: HostedRoom<AnyGame>> {
+pub struct Hall<'a, B: HostedRoom<AnyGame>, K: Seeded> {
     /// Where its memory comes from.
     pub alloc: Global,
     /// A desk for each room, in their order.
     pub desks: &'a [Desk<B>],
     /// The desk of the bench.
     pub bench: &'a Desk<Wishes>,
+    /// Whose desks they are.
+    pub of: PhantomData<K>,
+    pub ghost named: { map (λ d. d.desk) desks.now ≡ K.desks },
 }
 
 /// A place of sessions: a pass for each room and one for the bench, the core of the session that is there, the words that its lines draw, and the
@@ -146,8 +156,12 @@ impl<'a, B: HostedRoom<AnyGame> + 'a, K: Seeded> Service for Sitting<'a, B, K> {
     ghost use Rattle.session_pool.specs.Passes.{number_of};
     ghost use Rattle.session_pool.specs.Sittings.{Fits, Leaves, Rests};
     ghost use Rattle.session_pool.specs.Turn.{Turn};
+    ghost use Rattle.session_pool.specs.Watched.{AllKnow, desk_at};
+    ghost use Rattle.std.specs.Prelude.{◌≡◌, Some, map};
 
-    type Hall = Hall<'a, B>;
+    type Hall = Hall<'a, B, K>;
+
+    type Witness = Vec<Option<Pass<B>>>;
 
     ghost fits = { λ hall s. Fits hall.desks.now hall.bench.now.desk K.seed K.places s };
 
@@ -159,10 +173,14 @@ impl<'a, B: HostedRoom<AnyGame> + 'a, K: Seeded> Service for Sitting<'a, B, K> {
 
     ghost number = { λ s. number_of s.passes };
 
+    ghost attends = { λ w. map desk_at w.items ≡ map Some K.desks };
+
+    ghost knows = { λ w s. AllKnow w.items s.passes };
+
     fn turn<L: Link, R: Wait>(
         &mut self,
         rt: &R,
-        hall: &Hall<'a, B>,
+        hall: &Hall<'a, B, K>,
         link: &mut L,
     ) -> Option<SessionEnd> {
         let Sitting {
@@ -200,7 +218,7 @@ impl<'a, B: HostedRoom<AnyGame> + 'a, K: Seeded> Service for Sitting<'a, B, K> {
         }
     }
 
-    fn leave<R: Wait>(&mut self, rt: &R, hall: &Hall<'a, B>) {
+    fn leave<R: Wait>(&mut self, rt: &R, hall: &Hall<'a, B, K>) {
         let Sitting {
             passes,
             bench,
@@ -214,5 +232,19 @@ impl<'a, B: HostedRoom<AnyGame> + 'a, K: Seeded> Service for Sitting<'a, B, K> {
         detach(rt, hall.desks, passes.as_mut_slice(), core);
         rise(rt, hall.bench, bench, seat.take(), core.has_sat());
         *core = SessionCore::new(core.pass(), hall.desks.len() as u8).with_bench();
+    }
+
+    fn show(&mut self, hall: &Hall<'a, B, K>, witness: &mut Vec<Option<Pass<B>>>) {
+        let Sitting {
+            passes,
+            bench: _,
+            core: _,
+            words: _,
+            seat: _,
+            stir: _,
+            seed: _,
+            hall: _,
+        } = self;
+        show_all(hall.desks, passes.as_mut_slice(), witness.as_mut_slice());
     }
 }

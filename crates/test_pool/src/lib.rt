@@ -6,4 +6,6 @@ mod meetings;
 #[cfg(test)]
 mod sessions;
 #[cfg(test)]
+mod watches;
+#[cfg(test)]
 mod watching;

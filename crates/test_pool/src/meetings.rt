@@ -3,6 +3,7 @@
 ghost use Rattle.std.specs.Prelude.{◌≡◌, ◌-◌, [], false, vec_len, IfOk, Some, None};
 ghost use Rattle.board_links.specs.Answers.{CameRaises, IsWithin, stage_after};
 
+use crate::watches::take_watch;
 use bench_wishes::Wishes;
 use board_links::{Came, Door, Link, MemoryDoor, Out, SessionEnd, Stage};
 use game_sheet::{Bytes, List, MatchName, NoMemory, Seat};
@@ -223,18 +224,20 @@ fn two_links_that_wait_for_each_other_are_served_by_two_workers(
         missed: AtomicBool::new(false),
     };
     let door = door(&rt, &flags, alloc)?;
-    let (desks, passes) = set_up_rooms(alloc, plain_rooms(alloc, 1)?, 2)?;
+    let (desks, rows) = set_up_rooms(alloc, plain_rooms(alloc, 1)?, 3)?;
+    let (passes, watch) = take_watch(&desks, rows, 2);
     let (bench, bench_passes) = Desk::set_up(alloc, Wishes::new(alloc), 2)?;
     let mut readies = Vec::with_capacity(alloc, 2)?;
     readies.push_reserved(InTurn::new(1));
     readies.push_reserved(InTurn::new(1));
-    let (end, count, passes, bench_passes, door) = serve_door(
+    let (end, count, passes, bench_passes, watch, door) = serve_door(
         &rt,
         alloc,
         desks.as_slice(),
         passes,
         &bench,
         bench_passes,
+        watch,
         readies,
         [0; 32],
         door,
@@ -242,6 +245,7 @@ fn two_links_that_wait_for_each_other_are_served_by_two_workers(
     );
     drop(passes);
     drop(bench_passes);
+    drop(watch);
     drop(desks);
     drop(bench);
     assert!(rt; end == DoorEnd::Done && count == 2);

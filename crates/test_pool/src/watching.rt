@@ -5,6 +5,7 @@ ghost use Rattle.std.specs.Prelude.{◌≡◌, ◌-◌, ◌<◌, ◌≤◌, [], 
 ghost use Rattle.board_links.specs.Answers.{CameRaises, IsWithin};
 
 use crate::meetings::stage_after;
+use crate::watches::take_watch;
 use bench_wishes::Wishes;
 use board_links::{Came, Door, Link, MemoryDoor, Out, SessionEnd, Stage};
 use game_sheet::{Bytes, List, MatchName, NoMemory, Seat};
@@ -363,15 +364,17 @@ fn both_served<R: Abort + Clock + Threads + Wait + Sync>(
     };
     let door = door(rt, &told, alloc)?;
     let readies = readies(rt, &told, alloc, workers)?;
-    let (desks, passes) = set_up_rooms(alloc, plain_rooms(alloc, 1)?, 2)?;
+    let (desks, rows) = set_up_rooms(alloc, plain_rooms(alloc, 1)?, 3)?;
+    let (passes, watch) = take_watch(&desks, rows, 2);
     let (bench, bench_passes) = Desk::set_up(alloc, Wishes::new(alloc), 2)?;
-    let (end, count, passes, bench_passes, door) = serve_door(
+    let (end, count, passes, bench_passes, watch, door) = serve_door(
         rt,
         alloc,
         desks.as_slice(),
         passes,
         &bench,
         bench_passes,
+        watch,
         readies,
         [0; 32],
         door,
@@ -379,6 +382,7 @@ fn both_served<R: Abort + Clock + Threads + Wait + Sync>(
     );
     drop(passes);
     drop(bench_passes);
+    drop(watch);
     drop(desks);
     drop(bench);
     assert!(rt; end == DoorEnd::Done && count == 2);

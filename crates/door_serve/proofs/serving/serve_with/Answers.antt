@@ -6,10 +6,10 @@ use Rattle.door_serve.specs.Rooms.{hosted}
 use Rattle.door_serve.proofs.serving.serve_with.Goals as goal
 
 pub returns-in-Err-clause-served : goal.returns-in-Err-clause-served
-returns-in-Err-clause-served g c = none_served g.B.Object.may_starve c.args.seed c.args.places (g.D.Door.returned c.args.door) c.requires.none_back
+returns-in-Err-clause-served g c = none_served g.B.Object.may_starve c.args.seed c.args.places (λ s. Unit {0}) (g.D.Door.returned c.args.door) c.requires.none_back
 
 pub set_up_rooms-requires-clause-nobody : goal.set_up_rooms-requires-clause-nobody
-set_up_rooms-requires-clause-nobody g c k d low past stands pass below = c.requires.nobody k d low past stands pass (subst (λ n. pass < n + 1) c.from.ensures below)
+set_up_rooms-requires-clause-nobody g c k d low past stands pass below = c.requires.nobody k d low past stands pass (subst (λ n. pass < n + 2) c.from.ensures below)
 
 pub returns-in-Ok-set_up_rooms-clause-reports : goal.returns-in-Ok-set_up_rooms-clause-reports
 returns-in-Ok-set_up_rooms-clause-reports g c tells =

@@ -1,42 +1,68 @@
-use Rattle.std.proofs.Common.{◌+◌, ap, arith, length, map, refl}
+use Rattle.std.proofs.Common.{◌+◌, ap, arith, length, map}
 use Rattle.std.specs.Prelude.{None}
 use Rattle.std.proofs.lemmas.List.{length-map}
 use Rattle.session_pool.specs.Passes.{unseen}
 use Rattle.session_pool.specs.Placed.{AttachedBy}
 use Rattle.session_pool.proofs.Dealing.{as_many_rows, rows_belong, rows_numbered}
 use Rattle.door_serve.proofs.Gathering.{all_last, own_desks}
-use Rattle.door_serve.proofs.OwnPasses.{split_rows}
+use Rattle.door_serve.proofs.OwnPasses.{split_rows, split_two}
 use Rattle.door_serve.proofs.serving.split_own.Goals as goal
 
 pub unreachable-requires : goal.unreachable-requires
 unreachable-requires g c =
     let l = ap length c.requires.rows in
-    let m = as_many_rows c.args.desks.now.items 0 (c.args.places + 1) in
+    let m = as_many_rows c.args.desks.now.items 0 (c.args.places + 2) in
     let n = length-map c.args.rows.items (λ v. map unseen v.items) in
     omega (arith, l, m, n, c.in_default.ensures.cases.0, c.args.rows.ok)
 
+pub unreachable-requires-in_default-pop : goal.unreachable-requires-in_default-pop
+unreachable-requires-in_default-pop g c =
+    let more =
+    split_rows (λ v. v.items) c.args.desks.now.items c.args.rows.items c.pop.new.self.items c.in-Some.watch (c.args.places + 1) (c.args.places + 2) (omega arith) c.in-Some.ensures.items c.requires.rows in
+    let l = ap length more.0 in
+    let m = as_many_rows c.args.desks.now.items 0 (c.args.places + 1) in
+    let n = length-map c.pop.new.self.items (λ v. map unseen v.items) in
+    omega (arith, l, m, n, c.in_default-pop.ensures.cases.0, c.pop.new.self.ok)
+
 pub returns-clause-many : goal.returns-clause-many
 returns-clause-many g c =
-    let split = split_rows (λ v. v.items) c.args.desks.now.items c.args.rows.items c.pop.new.self.items c.in-Some.own c.args.places (c.args.places + 1) refl c.in-Some.ensures.items c.requires.rows in
+    let split =
+    split_two (λ v. v.items) c.args.desks.now.items c.args.rows.items c.pop.new.self.items c.pop-2.new.self.items c.in-Some-pop.own c.in-Some.watch c.args.places (c.args.places + 2) (omega arith)
+    c.in-Some.ensures.items c.in-Some-pop.ensures.items c.requires.rows in
     let l = ap length split.0 in
     let m = as_many_rows c.args.desks.now.items 0 c.args.places in
-    let n = length-map c.pop.new.self.items (λ v. map unseen v.items) in
-    omega (arith, l, m, n, c.pop.new.self.ok)
+    let n = length-map c.pop-2.new.self.items (λ v. map unseen v.items) in
+    omega (arith, l, m, n, c.pop-2.new.self.ok)
 
 pub returns-clause-belong : goal.returns-clause-belong
 returns-clause-belong g c =
-    let split = split_rows (λ v. v.items) c.args.desks.now.items c.args.rows.items c.pop.new.self.items c.in-Some.own c.args.places (c.args.places + 1) refl c.in-Some.ensures.items c.requires.rows in
-    rows_belong (λ v. v.items) c.args.desks.now.items c.pop.new.self.items 0 c.args.places split.0
+    let split =
+    split_two (λ v. v.items) c.args.desks.now.items c.args.rows.items c.pop.new.self.items c.pop-2.new.self.items c.in-Some-pop.own c.in-Some.watch c.args.places (c.args.places + 2) (omega arith)
+    c.in-Some.ensures.items c.in-Some-pop.ensures.items c.requires.rows in
+    rows_belong (λ v. v.items) c.args.desks.now.items c.pop-2.new.self.items 0 c.args.places split.0
 
 pub returns-clause-free : goal.returns-clause-free
-returns-clause-free g c = (all_last (λ v. AttachedBy v.items None) c.args.rows.items c.pop.new.self.items c.in-Some.own c.in-Some.ensures.items c.requires.free).0
+returns-clause-free g c =
+    let more = (all_last (λ v. AttachedBy v.items None) c.args.rows.items c.pop.new.self.items c.in-Some.watch c.in-Some.ensures.items c.requires.free).0 in
+    (all_last (λ v. AttachedBy v.items None) c.pop.new.self.items c.pop-2.new.self.items c.in-Some-pop.own c.in-Some-pop.ensures.items more).0
 
 pub returns-clause-within : goal.returns-clause-within
 returns-clause-within g c =
-    let split = split_rows (λ v. v.items) c.args.desks.now.items c.args.rows.items c.pop.new.self.items c.in-Some.own c.args.places (c.args.places + 1) refl c.in-Some.ensures.items c.requires.rows in
-    rows_numbered (λ v. v.items) c.args.desks.now.items c.pop.new.self.items 0 c.args.places split.0 c.args.places (omega arith) c.requires.some
+    let split =
+    split_two (λ v. v.items) c.args.desks.now.items c.args.rows.items c.pop.new.self.items c.pop-2.new.self.items c.in-Some-pop.own c.in-Some.watch c.args.places (c.args.places + 2) (omega arith)
+    c.in-Some.ensures.items c.in-Some-pop.ensures.items c.requires.rows in
+    rows_numbered (λ v. v.items) c.args.desks.now.items c.pop-2.new.self.items 0 c.args.places split.0 c.args.places (omega arith) c.requires.some
 
 pub returns-clause-own : goal.returns-clause-own
 returns-clause-own g c =
-    let split = split_rows (λ v. v.items) c.args.desks.now.items c.args.rows.items c.pop.new.self.items c.in-Some.own c.args.places (c.args.places + 1) refl c.in-Some.ensures.items c.requires.rows in
-    own_desks c.args.desks.now.items c.args.places c.in-Some.own.items split.1
+    let split =
+    split_two (λ v. v.items) c.args.desks.now.items c.args.rows.items c.pop.new.self.items c.pop-2.new.self.items c.in-Some-pop.own c.in-Some.watch c.args.places (c.args.places + 2) (omega arith)
+    c.in-Some.ensures.items c.in-Some-pop.ensures.items c.requires.rows in
+    own_desks c.args.desks.now.items c.args.places c.in-Some-pop.own.items split.1
+
+pub returns-clause-watch : goal.returns-clause-watch
+returns-clause-watch g c =
+    let split =
+    split_two (λ v. v.items) c.args.desks.now.items c.args.rows.items c.pop.new.self.items c.pop-2.new.self.items c.in-Some-pop.own c.in-Some.watch c.args.places (c.args.places + 2) (omega arith)
+    c.in-Some.ensures.items c.in-Some-pop.ensures.items c.requires.rows in
+    own_desks c.args.desks.now.items (c.args.places + 1) c.in-Some.watch.items split.2

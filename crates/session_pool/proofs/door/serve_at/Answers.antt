@@ -1,6 +1,8 @@
-use Rattle.std.proofs.Common.{◌∙◌, arith, map}
+use Rattle.std.proofs.Common.{◌∙◌, arith, map, subst, sym}
 use Rattle.session_pool.specs.Passes.{number_of, unseen}
-use Rattle.session_pool.proofs.Places.{all_at_bench, all_free, as_many_mapped, same_passes, through}
+use Rattle.session_pool.specs.Watched.{AllKnow, StandsIn, seen_of}
+use Rattle.session_pool.proofs.Places.{all_at_bench, all_free, as_many_mapped, same_passes, served_as, through}
+use Rattle.session_pool.proofs.Watching.{all_begin, desks_back}
 use Rattle.session_pool.proofs.door.serve_at.Goals as goal
 
 pub dismiss-requires-clause-room : goal.dismiss-requires-clause-room
@@ -30,3 +32,13 @@ returns-clause-benched g c =
       omega (arith, many, handed, after.ok, back.ok, c.args.sittings.ok),
       all_at_bench (λ p. p.desk) c.args.desks.now c.args.bench.now.desk g.K.Seeded.seed g.K.Seeded.places after.items back.items c.dismiss.ensures.bench_back c.serve_places-end.ensures.fit,
     )
+
+pub returns-clause-watch : goal.returns-clause-watch
+returns-clause-watch g c =
+    desks_back c.take_back.new.passes.items c.serve_places-end.result.3.items g.K.Seeded.desks c.take_back.ensures c.serve_places-end.ensures.attends ∙ sym c.requires.named
+
+pub returns-clause-served : goal.returns-clause-served
+returns-clause-served g c =
+    let back = c.take_back.new.passes.items in
+    served_as g.B.Object.may_starve g.K.Seeded.seed g.K.Seeded.places (λ s. AllKnow c.serve_places-end.result.3.items s.passes) (StandsIn (seen_of back))
+    (λ s known. all_begin back s.passes (subst (λ l. AllKnow l s.passes) (sym c.take_back.ensures) known)) (g.D.Door.returned c.serve_places-end.result.4) c.serve_places-end.ensures.served

@@ -1,5 +1,6 @@
-use Rattle.std.specs.Prelude.{vec_len}
+use Rattle.std.specs.Prelude.{map, vec_len}
+use Rattle.room_desk.specs.History.{SetUp}
 use Rattle.session_pool.proofs.door.serve_door.Given as goal
 
 abbrev pub ghosts-run : goal.ghosts-run
-ghosts-run g a = record { seed = a.seed; places = vec_len a.passes }
+ghosts-run g a = record { seed = a.seed; places = vec_len a.passes; desks = map (λ (d : SetUp). d.desk) a.desks.now }

@@ -3,7 +3,7 @@ use Rattle.std.proofs.Math.Seq.{map-set_same}
 use Rattle.room_desk.specs.History.{SetUp}
 use Rattle.session_pool.specs.Passes.{Pass}
 use Rattle.door_serve.proofs.OwnPasses.{desk_at}
-use Rattle.door_serve.proofs.keeping.clear.Goals as goal
+use Rattle.door_serve.proofs.keeping.run_errand.Goals as goal
 
 pub call-requires : goal.call-requires
 call-requires g c = record {
