@@ -1,9 +1,11 @@
 -- What each call makes of a room behind a desk, and of its file.
-use Rattle.std.proofs.Common.{◌≡◌, inl, inr, ℕ, Bool, true, false, List, [], ◌∷◌, ◌++◌, Option, Some, None, IsSome, is_some, refl, sym, ap, ◌∙◌, subst, append_assoc}
+use Rattle.std.proofs.Common.{◌≡◌, ◌≤◌, arith, inl, inr, ℕ, Bool, true, false, List, [], ◌∷◌, ◌++◌, Option, Some, None, IsSome, is_some, refl, sym, ap, ◌∙◌, subst, append_assoc}
 use Rattle.any_game.specs.AnyRules.{any_rules}
 use Rattle.any_game.specs.GameKind.{GameKind}
+use Rattle.board_links.specs.Faults.{HasRisen}
 use Rattle.hosted_room.specs.Calls.{IsRowOf}
 use Rattle.object_journal.specs.declared.performing.Stop.{Stop}
+use Rattle.object_journal.specs.declared.performing.Stop.TheVariants as stop
 use Rattle.record_file.specs.Records.{HasRecords, IsSettled}
 use Rattle.record_file.specs.declared.append.RecordFile.{RecordFile}
 use Rattle.record_file.proofs.Composing.{and_then, weaker}
@@ -19,12 +21,12 @@ use Rattle.room_journal.specs.Kept.{room_records}
 use Rattle.room_journal.specs.declared.room_book.RoomBook.{RoomBook}
 use Rattle.room_object.specs.Entry.{Entry, entry}
 use Rattle.kept_room.specs.Asides.{is_aside, is_detach}
-use Rattle.kept_room.specs.Hosting.{IsOnDisk, IsOpenedBy, NobodyAfter, StandsFrom, StandsHosted, WasOn}
+use Rattle.kept_room.specs.Hosting.{IsOnDisk, IsOpenedBy, NobodyAfter, StandsFrom, StandsHosted, StopsBy, WasOn}
 use Rattle.kept_room.specs.Opened.{IsOpenedRoom}
-use Rattle.kept_room.specs.Journal.{Calls, HasPart, Keeps, Since, stands_in}
+use Rattle.kept_room.specs.Journal.{AllFit, Calls, FillsFile, Goes, HasPart, Keeps, Since, StopRaises, stands_in}
 use Rattle.kept_room.specs.declared.room.KeptRoom.{KeptRoom}
 use Rattle.kept_room.proofs.Asides.{is_the_detach, same_left, same_told, stays_attached}
-use Rattle.kept_room.proofs.Journals.{at_rest, more_part, over_part, some_none, true_is_false}
+use Rattle.kept_room.proofs.Journals.{at_rest, more_part, over_part, raises_from, some_none, true_is_false}
 
 same_first : {A : Type 0} (x y : A) (xs ys : List A) → x ∷ xs ≡ y ∷ ys → x ≡ y
 same_first x y xs ys e = cc
@@ -35,6 +37,9 @@ same_rest x y xs ys e = cc
 none_split : {A : Type 0} (later : List A) (e : A) (earlier : List A) → [] ≡ later ++ (e ∷ earlier) → ⊥
 none_split [] e earlier is = cc
 none_split (x ∷ later) e earlier is = cc
+
+none_some : {A : Type 0} (x : A) → None ≡ Some x → ⊥
+none_some x e = cc
 
 same_inside : {A : Type 0} (x y : A) → Some x ≡ Some y → x ≡ y
 same_inside x y e = cc
@@ -48,6 +53,12 @@ same_attached b h l pass s t =
 pub whole_not_some : (why : Option Stop) → is_some why ≡ false → why ≡ None
 whole_not_some None e = refl
 whole_not_some (Some why) e = absurd (true_is_false e)
+
+-- the cause of a stop stays one as calls are refused
+stays_cause : (room : ℕ) (past h : Calls) (e : Entry (RoomCall GameKind)) (start now : ℕ) (why : Stop) → StopsBy room past h start now why → StopsBy room past (e ∷ h) start now why
+stays_cause room past h e start now (stop.NotKept place) c = c
+stays_cause room past h e start now (stop.Full place) c = inr c
+stays_cause room past h e start now stop.NoMemory c = tt
 
 -- what may be left of a call whose change is refused is what may be left of the call
 refused_part : (records : Calls → List (List ℕ)) (g : Calls) (pass : ℕ) (call : RoomCall GameKind) (starved : Bool) (file : List ℕ)
@@ -72,6 +83,9 @@ module _ {D : Type 0} (is_told : D → Type 0) (seen : D → List ℕ) (may_leav
 
   abbrev Grew : KeptRoom D → KeptRoom D → Calls → Type 0
   Grew old new more = Since is_told seen may_leave moment left_since faults old new more
+
+  abbrev Went : Option Stop → KeptRoom D → KeptRoom D → Type 0
+  Went why old new = Goes is_told seen may_leave moment left_since faults why old new
 
   abbrev Leaves : D → D → (List ℕ → Type 0) → Type 0
   Leaves old new P = LeavesOnly moment left_since old new P
@@ -101,7 +115,8 @@ module _ {D : Type 0} (is_told : D → Type 0) (seen : D → List ℕ) (may_leav
         (subst (λ (l : Calls). Leaves old.file.disk new.file.disk (HasPart records l (e ∷ []))) is made))
 
     module _ (start : D) (on : On room past start old h) (grows : Grows) (keeps : new.stopped ≡ None → Holds new ((e ∷ h) ++ past))
-        (first_safe : e.starved ≡ false → is_detach e.call ≡ false → Was room ((e ∷ h) ++ past) [] new.file.disk) where
+        (first_safe : e.starved ≡ false → is_detach e.call ≡ false → Was room ((e ∷ h) ++ past) [] new.file.disk) (rises : new.stopped ≡ None → faults start ≤ faults new.file.disk)
+        (fits : new.stopped ≡ None → AllFit room past (e ∷ h)) (cause : (why : Stop) → new.stopped ≡ Some why → StopsBy room past (e ∷ h) (faults start) (faults new.file.disk) why) where
       safe_by : (later : Calls) (one : Entry (RoomCall GameKind)) (earlier : Calls) → e ∷ h ≡ later ++ (one ∷ earlier) → one.starved ≡ false → is_detach one.call ≡ false
           → Was room ((one ∷ earlier) ++ past) later new.file.disk
       safe_by [] one earlier is fed live =
@@ -121,7 +136,14 @@ module _ {D : Type 0} (is_told : D → Type 0) (seen : D → List ℕ) (may_leav
           }
 
       on_goes : On room past start new (e ∷ h)
-      on_goes = record { keeps = keeps; crash = λ only. grows start past h refl (on.crash only); safe = safe_by }
+      on_goes = record {
+        keeps = keeps;
+        crash = λ only. grows start past h refl (on.crash only);
+        safe = safe_by;
+        never_falls = rises;
+        fits = fits;
+        cause = cause;
+      }
 
   -- ---- a room that goes on
 
@@ -151,7 +173,10 @@ module _ {D : Type 0} (is_told : D → Type 0) (seen : D → List ℕ) (may_leav
       on_disk = λ from is told.
           let on : On number_of (past number_of) from old h = s.on_disk from is told in
           let kept : Holds new (e ∷ before_it) = since.kept is_whole before_it (on.keeps was) in
-          on_goes number_of (past number_of) h old new e from on (made_grows number_of (past number_of) h old new e (since.crash before_it was (on.keeps was))) (λ n. kept) (λ fed live. here kept);
+          on_goes number_of (past number_of) h old new e from on (made_grows number_of (past number_of) h old new e (since.crash before_it was (on.keeps was))) (λ n. kept) (λ fed live. here kept)
+          (λ n. let rose : faults old.file.disk ≤ faults new.file.disk = subst (λ (o : Option Stop). StopRaises o (faults old.file.disk) (faults new.file.disk)) n (subst (λ (o : Option Stop). Went o old new) was since.goes) in
+          omega (arith, on.never_falls was, rose))
+          (λ n. ((since.fits before_it is_whole (on.keeps was)).0, on.fits was)) (λ why n. absurd (none_some why (sym is_whole ∙ n)));
     }
       where
         was : old.stopped ≡ None
@@ -179,14 +204,28 @@ module _ {D : Type 0} (is_told : D → Type 0) (seen : D → List ℕ) (may_leav
           = weaker moment left_since old.file.disk new.file.disk (HasPart (room_records room) g (entry pass call starved ∷ [])) (HasPart (room_records room) g (entry pass call true ∷ []))
           (refused_part (room_records room) g pass call starved) (since.crash g was (on.keeps was)) in
           on_goes room (past room) h old new (entry pass call true) from on (made_grows room (past room) h old new (entry pass call true) left) (λ n. absurd (some_none new.stopped stopped n))
-          (λ fed live. absurd (true_is_false fed));
+          (λ fed live. absurd (true_is_false fed)) (λ n. absurd (some_none new.stopped stopped n)) (λ n. absurd (some_none new.stopped stopped n))
+          (λ why n. by_cause why n (subst (λ (o : Option Stop). StopRaises o (faults old.file.disk) (faults new.file.disk)) n rose) on);
     }
       where
         room : ℕ
         room = old.object.room
 
+        rose : StopRaises new.stopped (faults old.file.disk) (faults new.file.disk)
+        rose = subst (λ (o : Option Stop). Went o old new) was since.goes
+
         g : Calls
         g = h ++ past old.object.room
+
+        by_cause : (why : Stop) → new.stopped ≡ Some why → StopRaises (Some why) (faults old.file.disk) (faults new.file.disk) → {from : D} → On room (past room) from old h
+            → StopsBy room (past room) (entry pass call true ∷ h) (faults from) (faults new.file.disk) why
+        by_cause (stop.NotKept place) n r on = raises_from (Some (stop.NotKept place)) _ (faults old.file.disk) (faults new.file.disk) (on.never_falls was) r
+        by_cause (stop.Full place) n r on = over (since.full g was (on.keeps was) place n)
+          where
+            over : FillsFile room g (entry pass call starved ∷ []) → FillsFile room (past room) (entry pass call true ∷ h)
+            over (inl o) = inl (o.0, on.fits was)
+            over (inr none) = absurd none
+        by_cause stop.NoMemory n r on = tt
 
     pub stops_hosted : Stands old.object.room (past old.object.room) (start old.object.room) old h
         → Stands new.object.room (past new.object.room) (start new.object.room) new (entry pass call true ∷ h)
@@ -204,7 +243,8 @@ module _ {D : Type 0} (is_told : D → Type 0) (seen : D → List ℕ) (may_leav
     whole = λ n. absurd (some_none r.stopped stopped n);
     on_disk = λ from is told.
         on_goes room past h r r (entry pass call true) from (s.on_disk from is told) (still_grows room past h r r (entry pass call true) refl) (λ n. absurd (some_none r.stopped stopped n))
-        (λ fed live. absurd (true_is_false fed));
+        (λ fed live. absurd (true_is_false fed)) (λ n. absurd (some_none r.stopped stopped n)) (λ n. absurd (some_none r.stopped stopped n))
+        (λ why n. stays_cause room past h (entry pass call true) (faults from) (faults r.file.disk) why ((s.on_disk from is told).cause why n));
   }
 
   -- it lets a pass go
@@ -218,11 +258,16 @@ module _ {D : Type 0} (is_told : D → Type 0) (seen : D → List ℕ) (may_leav
       whole = λ n. absurd (some_none old.stopped stopped (sym same ∙ n));
       on_disk = λ from is told.
           on_goes room (past room) h old new (entry pass Detach false) from (s.on_disk from is told) (still_grows room (past room) h old new (entry pass Detach false) file)
-          (λ n. absurd (some_none old.stopped stopped (sym same ∙ n))) (λ fed live. absurd (true_is_false live));
+          (λ n. absurd (some_none old.stopped stopped (sym same ∙ n))) (λ fed live. absurd (true_is_false live)) (λ n. absurd (some_none old.stopped stopped (sym same ∙ n))) (λ n. absurd (some_none old.stopped stopped (sym same ∙ n)))
+          (λ why n. stays_cause room (past room) h (entry pass Detach false) (faults from) (faults new.file.disk) why
+          (subst (λ (m : ℕ). StopsBy room (past room) h (faults from) m why) (sym here) ((s.on_disk from is told).cause why (sym same ∙ n))));
     }
       where
         room : ℕ
         room = old.object.room
+
+        here : faults new.file.disk ≡ faults old.file.disk
+        here = ap (λ (f : RecordFile D). faults f.disk) file
 
     frees_hosted : Stands old.object.room (past old.object.room) (start old.object.room) old h
         → Stands new.object.room (past new.object.room) (start new.object.room) new (entry pass Detach false ∷ h)
@@ -285,6 +330,9 @@ module _ {D : Type 0} (is_told : D → Type 0) (seen : D → List ℕ) (may_leav
       keeps = λ n. o.journal.keeps k.0;
       crash = λ only. o.journal.crash k.0 only;
       safe = λ later e earlier is fed live. absurd (none_split later e earlier is);
+      never_falls = λ n. o.journal.never_falls;
+      fits = λ n. tt;
+      cause = λ why n. absurd (none_some why (sym o.whole ∙ n));
     });
   }
 
