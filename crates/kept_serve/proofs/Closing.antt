@@ -32,35 +32,41 @@ left_so r disk stopped d s = ap (λ x. closed_of x stopped) d ∙ ap (closed_of 
 
 module _ {D : Type 0} (is_told : D → Type 0) (seen : D → List ℕ) (may_leave : D → List ℕ → Type 0) (moment : D → ℕ) (left_since : D → ℕ → List ℕ → Type 0) (faults : D → ℕ) where
   kept_one : (start : ℕ → Option D) (k : ℕ) (r : KeptRoom D) (h : Calls) → r.object.room ≡ k → StandsFrom is_told seen may_leave moment left_since faults r.object.room (start r.object.room) r h
-      → (disk : D) → start k ≡ Some disk → is_told disk → HasKept is_told seen may_leave moment left_since faults k disk (left_of r)
+      → (disk : D) → start k ≡ Some disk → is_told disk → HasKept is_told seen may_leave moment left_since faults k disk h (left_of r)
   kept_one start k r h at s disk is told =
       let known = s.told disk (ap start at ∙ is) told in
       let on = known.2.on_disk disk refl told in
-      subst (λ (n : ℕ). HasKept is_told seen may_leave moment left_since faults n disk (left_of r)) at (record {
+      subst (λ (n : ℕ). HasKept is_told seen may_leave moment left_since faults n disk h (left_of r)) at (record {
         first = known.0;
         made = s.made;
+        past = s.past;
+        split = s.split;
         had = known.1;
         settled = λ n. (r.file.end, (on.keeps n).settled);
         crash = on.crash;
         safe = on.safe;
+        fits = on.fits;
+        cause = on.cause;
       })
 
   pub kept_all : {B : Type 0} (room_in : B → KeptRoom D) (start : ℕ → Option D) (k : ℕ) (rooms : List B) (histories : List Calls) → Numbered (λ b. (room_in b).object.room) k rooms
       → Stand (λ b h. StandsFrom is_told seen may_leave moment left_since faults (room_in b).object.room (start (room_in b).object.room) (room_in b) h) rooms histories
-      → HaveKept is_told seen may_leave moment left_since faults start k (map (λ b. left_of (room_in b)) rooms)
+      → HaveKept is_told seen may_leave moment left_since faults start k histories (map (λ b. left_of (room_in b)) rooms)
   kept_all room_in start k [] [] n s = tt
   kept_all room_in start k [] (h ∷ histories) n s = absurd s
   kept_all room_in start k (b ∷ rooms) [] n s = absurd s
   kept_all room_in start k (b ∷ rooms) (h ∷ histories) n s = (kept_one start k (room_in b) h n.0 s.0, kept_all room_in start (k + 1) rooms histories n.1 s.1)
 
   -- rooms that come back from their desks, and are closed then
-  pub leaves : {B : Type 0} (room_in : B → KeptRoom D) (has_stopped : B → Bool) (start : ℕ → Option D) (count many : ℕ) (how : ServeEnd) (rooms : List B) (closed : List (ClosedRoom D)) → count ≡ many
+  pub leaves : {B : Type 0} (room_in : B → KeptRoom D) (has_stopped : B → Bool) (start : ℕ → Option D) (served : List Calls → Type 0) (count many : ℕ) (how : ServeEnd) (rooms : List B) (closed : List (ClosedRoom D)) → count ≡ many
       → closed ≡ map (λ b. left_of (room_in b)) rooms
-      → AreGiven (hosted (λ b. (room_in b).object.room) (λ b h. StandsFrom is_told seen may_leave moment left_since faults (room_in b).object.room (start (room_in b).object.room) (room_in b) h) has_stopped) count how rooms
-      → Leave is_told seen may_leave moment left_since faults start many how closed
-  leaves room_in has_stopped start count many how rooms closed same closes (inl (histories, are)) =
+      → AreGiven (hosted (λ b. (room_in b).object.room) (λ b h. StandsFrom is_told seen may_leave moment left_since faults (room_in b).object.room (start (room_in b).object.room) (room_in b) h) has_stopped) count how rooms served
+      → Leave is_told seen may_leave moment left_since faults start many served how closed
+  leaves room_in has_stopped start served count many how rooms closed same closes (inl (histories, are, told)) =
       inl (
+        histories,
         ap length closes ∙ (length-map rooms (λ b. left_of (room_in b)) ∙ (are.many ∙ same)),
-        subst (HaveKept is_told seen may_leave moment left_since faults start 0) (sym closes) (kept_all room_in start 0 rooms histories are.numbered are.stand),
+        subst (HaveKept is_told seen may_leave moment left_since faults start 0 histories) (sym closes) (kept_all room_in start 0 rooms histories are.numbered are.stand),
+        told,
       )
-  leaves room_in has_stopped start count many how rooms closed same closes (inr (starved, none)) = inr (starved, closes ∙ ap (map (λ b. left_of (room_in b))) none)
+  leaves room_in has_stopped start served count many how rooms closed same closes (inr (starved, none)) = inr (starved, closes ∙ ap (map (λ b. left_of (room_in b))) none)

@@ -4,10 +4,11 @@ use Rattle.any_game.specs.GameKind.{GameKind}
 use Rattle.door_serve.specs.declared.serving.ServeEnd.{ServeEnd}
 use Rattle.door_serve.specs.declared.serving.ServeEnd.TheVariants.{NoMemory}
 use Rattle.kept_room.specs.Asides.{is_detach}
-use Rattle.kept_room.specs.Hosting.{WasOn}
-use Rattle.kept_room.specs.Journal.{Calls, HasPart}
+use Rattle.kept_room.specs.Hosting.{StopsBy, WasOn}
+use Rattle.kept_room.specs.Journal.{AllFit, Calls, HasPart}
 use Rattle.kept_room.specs.declared.room.KeptRoom.{KeptRoom}
 use Rattle.kept_serve.specs.declared.opened_room.ClosedRoom.{ClosedRoom}
+use Rattle.object_journal.specs.declared.performing.Stop.{Stop}
 use Rattle.record_file.specs.Records.{HasRecords, IsSettled}
 use Rattle.room_disk.specs.Disk.{LeavesOnly, Only}
 use Rattle.room_history.specs.declared.call.RoomCall.{RoomCall}
@@ -20,10 +21,13 @@ left_of r = record { disk = r.file.disk; stopped = r.stopped }
 
 -- over disks with these meanings
 module _ {D : Type 0} (is_told : D → Type 0) (seen : D → List ℕ) (may_leave : D → List ℕ → Type 0) (moment : D → ℕ) (left_since : D → ℕ → List ℕ → Type 0) (faults : D → ℕ) where
-  -- The room of this number came from the file of a disk, which had the records of the first calls, and the others were made since, the latest first.
-  pub record HasKept (room : ℕ) (start : D) (closed : ClosedRoom D) : Type 0 where
+  -- The room of this number came from the file of a disk, which had the records of the first calls, and the others were made since, the latest first:
+  -- just those that its history has on top of what the room stood for when it was opened.
+  pub record HasKept (room : ℕ) (start : D) (history : Calls) (closed : ClosedRoom D) : Type 0 where
     pub first : Calls
     pub made : Calls
+    pub past : Calls
+    pub split : history ≡ made ++ past
     pub had : HasRecords (seen start) (room_records room first)
     -- a room that hasn't stopped has the records of all of them on its disk
     pub settled : closed.stopped ≡ None → (end : ℕ) × IsSettled is_told seen may_leave closed.disk end (room_records room (made ++ first))
@@ -32,12 +36,17 @@ module _ {D : Type 0} (is_told : D → Type 0) (seen : D → List ℕ) (may_leav
     -- and from each reply on, but to a Detach or for want of memory, those of all calls up to that one at least
     pub safe : (later : Calls) (e : Entry (RoomCall GameKind)) (earlier : Calls) → made ≡ later ++ (e ∷ earlier) → e.starved ≡ false → is_detach e.call ≡ false
         → WasOn is_told seen may_leave moment left_since faults room ((e ∷ earlier) ++ first) later closed.disk
+    -- a room that hasn't stopped had room for all records; one that has stopped had a cause
+    pub fits : closed.stopped ≡ None → AllFit room first made
+    pub cause : (why : Stop) → closed.stopped ≡ Some why → StopsBy room first made (faults start) (faults closed.disk) why
 
-  -- so each of these rooms did, numbered from one on, whose disk is known, and went by the model when the room was opened
-  abbrev pub HaveKept : (ℕ → Option D) → ℕ → List (ClosedRoom D) → Type 0
-  HaveKept start room [] = Unit {0}
-  HaveKept start room (closed ∷ rooms) = ((disk : D) → start room ≡ Some disk → is_told disk → HasKept room disk closed) × HaveKept start (room + 1) rooms
+  -- so each of these rooms did, numbered from one on, by its history, where its disk is known, and went by the model when the room was opened
+  abbrev pub HaveKept : (ℕ → Option D) → ℕ → List Calls → List (ClosedRoom D) → Type 0
+  HaveKept start room [] [] = Unit {0}
+  HaveKept start room (history ∷ histories) (closed ∷ rooms) =
+      ((disk : D) → start room ≡ Some disk → is_told disk → HasKept room disk history closed) × HaveKept start (room + 1) histories rooms
+  HaveKept start room histories rooms = ⊥
 
-  -- so many rooms come back so, or there was no memory to serve them
-  abbrev pub Leave : (ℕ → Option D) → ℕ → ServeEnd → List (ClosedRoom D) → Type 0
-  Leave start many how closed = ((length closed ≡ many) × HaveKept start 0 closed) ⊎ ((how ≡ NoMemory) × (closed ≡ []))
+  -- so many rooms come back so, each by its history, and what was served was served by these histories; or there was no memory to serve them
+  abbrev pub Leave : (ℕ → Option D) → ℕ → (List Calls → Type 0) → ServeEnd → List (ClosedRoom D) → Type 0
+  Leave start many served how closed = ((histories : List Calls) × (length closed ≡ many) × HaveKept start 0 histories closed × served histories) ⊎ ((how ≡ NoMemory) × (closed ≡ []))

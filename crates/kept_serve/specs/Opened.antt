@@ -1,12 +1,14 @@
 -- Rooms that were opened from their journals.
-use Rattle.std.specs.Prelude.{◌≡◌, ℕ, true, false, List, [], ◌∷◌, map, All, Option, option_map, slice_get, IfOk, Result}
+use Rattle.std.specs.Prelude.{◌≡◌, ℕ, true, false, List, [], ◌∷◌, map, All, Option, option_map, slice_get, IfErr, IfOk, Result}
 use Rattle.any_game.specs.AnyRules.{any_rules}
 use Rattle.hosted_room.specs.Calls.{NobodyIn}
 use Rattle.kept_room.specs.Journal.{Calls}
 use Rattle.kept_room.specs.Opened.{IsOpenedRoom}
 use Rattle.kept_serve.specs.declared.opened_room.OpenedRoom.{OpenedRoom}
 use Rattle.kept_serve.specs.declared.opening.Job.{Job}
+use Rattle.object_journal.specs.Opening.{IsRefused}
 use Rattle.object_journal.specs.declared.replaying.OpenNo.{OpenNo}
+use Rattle.room_journal.specs.Kept.{may_follow}
 use Rattle.session_pool.specs.Rooms.{numbers}
 
 abbrev pub room_of : {D : Type 0} → OpenedRoom D → ℕ
@@ -25,10 +27,14 @@ module _ {D : Type 0} (is_told : D → Type 0) (seen : D → List ℕ) (may_leav
   abbrev pub IsOpenedFrom : ℕ → Job D → OpenedRoom D → Type 0
   IsOpenedFrom passes job r = IsOpened passes job.room r × (r.start.value ≡ job.disk)
 
+  -- or its file was refused
+  abbrev pub IsRefusedFrom : Job D → OpenNo → Type 0
+  IsRefusedFrom job why = (after : D) × IsRefused (may_follow job.room) is_told seen faults job.disk after why
+
   -- what came of each job
   abbrev pub AreOpenedFrom : ℕ → List (Job D) → List (Result (OpenedRoom D) OpenNo) → Type 0
   AreOpenedFrom passes [] [] = Unit {0}
-  AreOpenedFrom passes (job ∷ jobs) (result ∷ results) = IfOk result (IsOpenedFrom passes job) × AreOpenedFrom passes jobs results
+  AreOpenedFrom passes (job ∷ jobs) (result ∷ results) = IfOk result (IsOpenedFrom passes job) × IfErr result (IsRefusedFrom job) × AreOpenedFrom passes jobs results
   AreOpenedFrom passes jobs results = ⊥
 
   -- so many rooms were opened, numbered from 0

@@ -1,8 +1,10 @@
 //! Opens the rooms of a server from their journals, all at once.
 
-ghost use Rattle.std.specs.Prelude.{◌≡◌, ◌≤◌, ◌++◌, ◌∷◌, [], All, IfOk, IfSome, map, option_map, vec_len};
+ghost use Rattle.std.specs.Prelude.{◌≡◌, ◌⊎◌, ◌≤◌, ◌++◌, ◌∷◌, [], All, IfErr, IfOk, IfSome, List, map, option_map, vec_len};
+ghost use Rattle.object_journal.specs.declared.replaying.OpenNo.TheVariants as open_no;
 ghost use Rattle.kept_serve.specs.Given.{starts_of};
-ghost use Rattle.kept_serve.specs.Opened.{AreOpened, AreOpenedFrom, IsOpened, IsOpenedFrom};
+ghost use Rattle.kept_serve.specs.Opened.{AreOpened, AreOpenedFrom, IsOpened, IsOpenedFrom, IsRefusedFrom};
+ghost use Rattle.kept_serve.specs.Refused.{LacksDisk, WereRefused};
 ghost use Rattle.session_pool.specs.Rooms.{numbers};
 
 use crate::opened_room::OpenedRoom;
@@ -24,7 +26,7 @@ pub struct Job<D: Disk + Drop> {
 }
 
 /// Opens the rooms of a server, up to 64 of them, numbered from 0, each from its disk and in a thread of its own, so that no pass below this number
-/// is attached anywhere. The first that can't be opened is its error; a shelf that has no disk counts as a fault of the disk.
+/// is attached anywhere. The first that can't be opened is its error, which **refused** says of; a shelf that has no disk counts as a fault of the disk.
 pub fn open_rooms<S: Shelf, R: Threads + Sync>(
     rt: &R,
     alloc: Global,
@@ -37,6 +39,7 @@ where
     requires { rooms ≤ 64 }
     ensures opened { IfOk result (λ r. AreOpened S.D.is_told S.D.seen S.D.may_leave S.D.moment S.D.left_since S.D.faults passes rooms r.items) }
     ensures given { IfOk result (λ r. S.given shelf.new ≡ option_map (λ before. before ++ starts_of r.items) (S.given shelf.old)) }
+    ensures refused { IfErr result (λ why. WereRefused S.D.is_told S.D.seen S.D.faults rooms (S.given shelf.old) (S.given shelf.new) why) }
 {
     let jobs = take_disks(alloc, shelf, rooms)?;
     match open_jobs(rt, alloc, jobs, passes) {
@@ -50,6 +53,7 @@ fn take_disks<S: Shelf>(alloc: Global, shelf: &mut S, rooms: u8) -> Result<Vec<J
     requires { rooms ≤ 64 }
     ensures numbered { IfOk result (λ jobs. map (λ j. j.room) jobs.items ≡ numbers 0 rooms) }
     ensures given { IfOk result (λ jobs. S.given shelf.new ≡ option_map (λ before. before ++ map (λ j. j.disk) jobs.items) (S.given shelf.old)) }
+    ensures refused { IfErr result (λ why. (disks : List S.D) × (S.given shelf.new ≡ option_map (λ before. before ++ disks) (S.given shelf.old)) × LacksDisk rooms disks why) }
 {
     let Ok(mut jobs) = Vec::with_capacity(alloc, usize::from(rooms)) else {
         return Err(OpenNo::NoMemory);
@@ -76,7 +80,8 @@ fn open_jobs<D: Disk + Drop + Send, R: Threads + Sync>(
 {
     let each = |job: Job<D>| -> Result<OpenedRoom<D>, OpenNo>
         requires { job.room ≤ 63 }
-        ensures { IfOk result (IsOpenedFrom D.is_told D.seen D.may_leave D.moment D.left_since D.faults passes job) }
+        ensures { IfOk result (IsOpenedFrom D.is_told D.seen D.may_leave D.moment D.left_since D.faults passes job)
+            × IfErr result (IsRefusedFrom D.is_told D.seen D.may_leave D.moment D.left_since D.faults job) }
     { open_job(alloc, passes, job) };
     let results = thread::map_vec(rt, jobs, &each)?;
     Ok(results)
@@ -89,7 +94,8 @@ fn open_job<D: Disk + Drop>(
     job: Job<D>,
 ) -> Result<OpenedRoom<D>, OpenNo>
     requires { job.room ≤ 63 }
-    ensures { IfOk result (IsOpenedFrom D.is_told D.seen D.may_leave D.moment D.left_since D.faults passes job) }
+    ensures opened { IfOk result (IsOpenedFrom D.is_told D.seen D.may_leave D.moment D.left_since D.faults passes job) }
+    ensures refused { IfErr result (IsRefusedFrom D.is_told D.seen D.may_leave D.moment D.left_since D.faults job) }
 {
     let Job { room, disk } = job;
     let start = Snapshot::of(&disk);
@@ -112,6 +118,7 @@ fn gather<S: Shelf>(
     requires { vec_len results ≤ 64 }
     ensures all { IfOk result (λ r. map Ok r.items ≡ results.items) }
     ensures given { S.given shelf.new ≡ S.given shelf.old }
+    ensures refused { IfErr result (λ why. (why ≡ open_no.NoMemory) ⊎ ((before : _) × (after : _) × (results.items ≡ before ++ Err why ∷ after))) }
 {
     let Ok(mut rooms) = Vec::with_capacity(alloc, results.len()) else {
         drop(results);

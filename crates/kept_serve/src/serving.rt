@@ -10,6 +10,7 @@ ghost use Rattle.kept_serve.specs.Kept.{Leave, left_of};
 ghost use Rattle.kept_serve.specs.Opened.{AreOpened, room_of, starts_at};
 ghost use Rattle.session_pool.specs.Rooms.{numbers};
 ghost use Rattle.session_pool.specs.Sittings.{AreServed};
+ghost use Rattle.session_pool.specs.Watched.{StandsIn};
 
 use crate::opened_room::{ClosedRoom, OpenedRoom};
 use any_game::AnyGame;
@@ -19,15 +20,15 @@ use game_sheet::NoMemory;
 use kept_room::{HostedKept, Origin};
 use link_rounds::Ready;
 use room_disk::Disk;
-use room_keeper::{Clock, GaugedRoom, IdleKeeper, watch_rooms};
+use room_keeper::{GaugedRoom, HallKeeper, Outside, watch_rooms};
 use room_object::Object;
 use std::alloc::Global;
 use std::marker::Brand;
 use std::sync::Wait;
 use std::thread::Threads;
 
-/// Serves the links of a door over 1 to 64 rooms that were opened for one pass more than there are places, as `serve_rooms` does, without a match for
-/// bots. A match to which no session was attached for so many minutes by this clock is cleared; none is where they are 0. The rooms are closed then,
+/// Serves the links of a door over 1 to 64 rooms that were opened for two passes more than there are places, as `serve_rooms` does, without a match for
+/// bots. A match to which no session was attached for so many minutes by the clock outside is cleared; none is where they are 0. The rooms are closed then,
 /// and come back in their order, or none where there was no memory to set them up.
 ///
 /// **kept** says what the disk of each has, if it went by the model of a disk when its room was opened: a room that hasn't stopped has the records of
@@ -39,7 +40,7 @@ pub fn serve_opened<
     W: Ready<P::L> + Send,
     K: Sink,
     R: Threads + Wait + Sync,
-    C: Clock + Send,
+    C: Outside + Send,
 >(
     rt: &R,
     alloc: Global,
@@ -47,7 +48,7 @@ pub fn serve_opened<
     places: u16,
     readies: Vec<W>,
     idle: u32,
-    clock: C,
+    outside: C,
     sessions: u32,
     door: P,
     sink: &mut K,
@@ -55,7 +56,7 @@ pub fn serve_opened<
 ) -> (ServeEnd, P, Vec<ClosedRoom<D>>)
 where
     P::L: Send,
-    requires opened { AreOpened D.is_told D.seen D.may_leave D.moment D.left_since D.faults (places + 1) (vec_len rooms) rooms.items }
+    requires opened { AreOpened D.is_told D.seen D.may_leave D.moment D.left_since D.faults (places + 2) (vec_len rooms) rooms.items }
     requires rooms { (0 < vec_len rooms) × (vec_len rooms ≤ 64) }
     requires places { (0 < places) × (places ≤ 4096) }
     requires some { 0 < vec_len readies }
@@ -65,11 +66,12 @@ where
     ensures out { (P.out result.1 ≡ 0) × (P.bots_out result.1 ≡ 0) }
     ensures sink_never_falls { K.faults sink.old ≤ K.faults sink.new }
     ensures ended { EndsBy result.0 sessions (P.faults door) (P.left door) (P.shut result.1) (P.faults result.1) (P.given result.1) (K.faults sink.old) (K.faults sink.new) }
-    ensures served { AreServed may_refuse seed places (P.returned result.1) }
-    ensures kept { Leave D.is_told D.seen D.may_leave D.moment D.left_since D.faults (starts_at rooms.items) (vec_len rooms) result.0 result.2.items }
+    ensures served { AreServed may_refuse seed places (λ s. Unit {0}) (P.returned result.1) }
+    ensures kept { Leave D.is_told D.seen D.may_leave D.moment D.left_since D.faults (starts_at rooms.items) (vec_len rooms)
+        (λ histories. AreServed may_refuse seed places (StandsIn histories) (P.returned result.1)) result.0 result.2.items }
 {
     serve_hosted::<Brand, D, P, W, K, R, C>(
-        rt, alloc, rooms, places, readies, idle, clock, sessions, door, sink, seed,
+        rt, alloc, rooms, places, readies, idle, outside, sessions, door, sink, seed,
     )
 }
 
@@ -81,7 +83,7 @@ fn serve_hosted<
     W: Ready<P::L> + Send,
     K: Sink,
     R: Threads + Wait + Sync,
-    C: Clock + Send,
+    C: Outside + Send,
 >(
     rt: &R,
     alloc: Global,
@@ -89,7 +91,7 @@ fn serve_hosted<
     places: u16,
     readies: Vec<W>,
     idle: u32,
-    clock: C,
+    outside: C,
     sessions: u32,
     door: P,
     sink: &mut K,
@@ -97,7 +99,7 @@ fn serve_hosted<
 ) -> (ServeEnd, P, Vec<ClosedRoom<D>>)
 where
     P::L: Send,
-    requires opened { AreOpened D.is_told D.seen D.may_leave D.moment D.left_since D.faults (places + 1) (vec_len rooms) rooms.items }
+    requires opened { AreOpened D.is_told D.seen D.may_leave D.moment D.left_since D.faults (places + 2) (vec_len rooms) rooms.items }
     requires starts { All (λ r. O.start (room_of r) ≡ Some r.start.value) rooms.items }
     requires rooms { (0 < vec_len rooms) × (vec_len rooms ≤ 64) }
     requires places { (0 < places) × (places ≤ 4096) }
@@ -108,16 +110,17 @@ where
     ensures out { (P.out result.1 ≡ 0) × (P.bots_out result.1 ≡ 0) }
     ensures sink_never_falls { K.faults sink.old ≤ K.faults sink.new }
     ensures ended { EndsBy result.0 sessions (P.faults door) (P.left door) (P.shut result.1) (P.faults result.1) (P.given result.1) (K.faults sink.old) (K.faults sink.new) }
-    ensures served { AreServed may_refuse seed places (P.returned result.1) }
-    ensures kept { Leave D.is_told D.seen D.may_leave D.moment D.left_since D.faults O.start (vec_len rooms) result.0 result.2.items }
+    ensures served { AreServed may_refuse seed places (λ s. Unit {0}) (P.returned result.1) }
+    ensures kept { Leave D.is_told D.seen D.may_leave D.moment D.left_since D.faults O.start (vec_len rooms)
+        (λ histories. AreServed may_refuse seed places (StandsIn histories) (P.returned result.1)) result.0 result.2.items }
 {
     let Ok(closed) = Vec::with_capacity(alloc, rooms.len()) else {
         drop(rooms);
         drop(readies);
-        drop(clock);
+        drop(outside);
         return (ServeEnd::NoMemory, door, Vec::new(alloc));
     };
-    match watch_all::<O, D, C>(alloc, rooms, u32::from(places) + 1, idle, clock) {
+    match watch_all::<O, D, C>(alloc, rooms, u32::from(places) + 2, idle, outside) {
         Ok((hosted, keeper)) => {
             let (end, door, hosted) = serve_rooms(
                 rt, alloc, hosted, places, readies, None, keeper, sessions, door, sink, seed,
@@ -133,16 +136,16 @@ where
 }
 
 /// The rooms as a server hosts them, each with a gauge, and a keeper of their matches, if so many minutes are said.
-fn watch_all<O: Origin<D>, D: Disk + Drop, C: Clock>(
+fn watch_all<O: Origin<D>, D: Disk + Drop, C: Outside>(
     alloc: Global,
     rooms: Vec<OpenedRoom<D>>,
     passes: u32,
     minutes: u32,
-    clock: C,
+    outside: C,
 ) -> Result<
     (
         Vec<GaugedRoom<AnyGame, HostedKept<O, D>>>,
-        Option<IdleKeeper<C>>,
+        Option<HallKeeper<C>>,
     ),
     NoMemory,
 >
@@ -155,7 +158,7 @@ fn watch_all<O: Origin<D>, D: Disk + Drop, C: Clock>(
         → NobodyIn any_rules passes (⟦<GaugedRoom<AnyGame, HostedKept<O, D>> as Object>⟧.number b) past) r.0.items) }
 {
     let hosted = host_all::<O, D>(alloc, rooms, passes)?;
-    watch_rooms(alloc, hosted, minutes, clock)
+    watch_rooms(alloc, hosted, minutes, outside)
 }
 
 /// The rooms as a server hosts them.

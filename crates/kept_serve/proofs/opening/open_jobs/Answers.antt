@@ -10,7 +10,7 @@ returns g c =
     let d = g.D.Disk in
     each_came d.is_told d.seen d.may_leave d.moment d.left_since d.faults c.args.passes c.args.jobs.items c.in_ok-results.results.items
     (omega (arith, c.in_ok-results.ensures.len, c.in_ok-results.results.ok, c.args.jobs.ok))
-    (λ i x low. let one = (c.in_ok-results.ensures.each i x low).1 in (one.job, one.job_is, one.call.met))
+    (λ i x low. let one = (c.in_ok-results.ensures.each i x low).1 in (one.job, one.job_is, one.call.met.0, one.call.met.1))
 
 pub map_vec-requires-send-X : goal.map_vec-requires-send-X
 map_vec-requires-send-X g c κs within = let room = opened_send _ c.type_bounds.send-D in search (sendable, crosses) depth 20

@@ -1,6 +1,6 @@
 use Rattle.std.proofs.Common.{arith}
 use Rattle.std.proofs.lemmas.Result.{IfOk-weaker}
-use Rattle.kept_serve.proofs.Jobs.{all_given, are_opened, as_many, came_all, low_numbers}
+use Rattle.kept_serve.proofs.Jobs.{all_given, are_opened, as_many, came_all, low_numbers, were_refused}
 use Rattle.kept_serve.proofs.opening.open_rooms.Goals as goal
 
 pub open_jobs-requires-after_bounds : goal.open_jobs-requires-after_bounds
@@ -27,3 +27,9 @@ returns-in-Ok-clause-given g c =
     (λ r kept. all_given d.is_told d.seen d.may_leave d.moment d.left_since d.faults c.args.passes c.in_ok-jobs.jobs.items c.in-Ok.results.items r.items c.args.rooms c.in_ok-jobs.ensures.numbered c.in-Ok.ensures kept
     (g.S.Shelf.given c.args.shelf.now) (g.S.Shelf.given c.take_disks.new.shelf) (g.S.Shelf.given c.gather.new.shelf) c.in_ok-jobs.ensures.given c.gather.ensures.given)
     c.gather.ensures.all
+
+pub returns-in-Ok-clause-refused : goal.returns-in-Ok-clause-refused
+returns-in-Ok-clause-refused g c =
+    let d = g.S.D.Disk in
+    were_refused d.is_told d.seen d.may_leave d.moment d.left_since d.faults c.args.passes c.in_ok-jobs.jobs.items c.in-Ok.results.items c.args.rooms c.gather.result (g.S.Shelf.given c.args.shelf.now)
+    (g.S.Shelf.given c.take_disks.new.shelf) (g.S.Shelf.given c.gather.new.shelf) c.in_ok-jobs.ensures.numbered c.in-Ok.ensures c.in_ok-jobs.ensures.given c.gather.ensures.given c.gather.ensures.refused

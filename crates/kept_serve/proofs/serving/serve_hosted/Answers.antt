@@ -5,5 +5,5 @@ use Rattle.kept_serve.proofs.serving.serve_hosted.Goals as goal
 pub returns-in-Ok-watch_all-clause-kept : goal.returns-in-Ok-watch_all-clause-kept
 returns-in-Ok-watch_all-clause-kept g c =
     let d = g.D.Disk in
-    leaves d.is_told d.seen d.may_leave d.moment d.left_since d.faults (λ b. b.room.room) _ g.O.Origin.start _ (vec_len c.args.rooms) c.serve_rooms-end.result.0 c.serve_rooms-end.result.2.items c.close_all-closed.result.items
+    leaves d.is_told d.seen d.may_leave d.moment d.left_since d.faults (λ b. b.room.room) _ g.O.Origin.start _ _ (vec_len c.args.rooms) c.serve_rooms-end.result.0 c.serve_rooms-end.result.2.items c.close_all-closed.result.items
     c.in-Ok-watch_all.ensures.many c.close_all-closed.ensures c.serve_rooms-end.ensures.closed
