@@ -1,13 +1,17 @@
 -- What the end of a serving says, under other names for the same door, and how many bots' links were given before it.
-use Rattle.std.proofs.Common.{◌≡◌, ◌<◌, ◌-◌, ◌+◌, ℕ, zero, suc, List, [], Bool, inr, Option, None, Some, arith, refl, subst, sym}
-use Rattle.std.specs.Prelude.{IfOk, IsSome, Ok, Result}
+use Rattle.std.proofs.Common.{◌≡◌, ◌<◌, ◌-◌, ◌+◌, ℕ, zero, suc, List, [], Bool, inl, inr, Option, None, Some, append-nil, ap, arith, refl, subst, sym, ◌++◌}
+use Rattle.std.specs.Prelude.{IfOk, IsSome, Ok, Result, option_map}
 use Rattle.board_links.specs.Pieces.{told_bytes}
 use Rattle.command_words.specs.declared.serve.ServeWords.{ServeWords}
-use Rattle.door_serve.specs.Ends.{EndsBy, Reports}
+use Rattle.door_serve.specs.Ends.{AreGiven, EndsBy, Reports}
 use Rattle.door_serve.specs.Rooms.{Hosted}
 use Rattle.door_serve.specs.declared.serving.ServeEnd.{ServeEnd}
 use Rattle.door_serve.specs.declared.serving.ServeEnd.TheVariants as end
-use Rattle.board_commands.specs.Serving.{GaveBots, Serves, ServesSeats, exit_of, held_with, seats_asked}
+use Rattle.kept_serve.specs.Refused.{WereRefused}
+use Rattle.object_journal.specs.declared.replaying.OpenNo.TheVariants as open_no
+use Rattle.session_pool.specs.Turn.{Stand as Standing}
+use Rattle.session_pool.specs.Watched.{StandsIn}
+use Rattle.board_commands.specs.Serving.{GaveBots, ServedIn, Serves, ServesSeats, exit_of, held_with, seats_asked}
 
 pub ends_same : (how : ServeEnd) (sessions f f' : ℕ) (l l' : Option ℕ) (s s' : Bool) (a a' n n' old new : ℕ) → f ≡ f' → l ≡ l' → s ≡ s' → a ≡ a' → n ≡ n'
     → EndsBy how sessions f l s a n old new → EndsBy how sessions f' l' s' a' n' old new
@@ -78,3 +82,20 @@ serves_plain known asked how rooms f l s a n old new held after none e r =
           (subst (λ t. EndsBy how asked.sessions f (held_with t l) s a n old new) (sym none) e);
       reports = λ tells. reports_same known asked.rooms n (0 + n) rooms how (told_bytes held) after same (r tells);
     }
+
+-- what is given says by which histories links were served
+pub served_in : {B : Type 0} (known : Hosted B) (served : (Standing → Type 0) → Type 0) (many : ℕ) (how : ServeEnd) (rooms : List B) → AreGiven known many how rooms (λ histories. served (StandsIn histories))
+    → served (λ s. Unit {0}) → ServedIn known served rooms
+served_in known served many how rooms (inl (histories, are, told)) any = inl (histories, are.stand, told)
+served_in known served many how rooms (inr (starved, none)) any = inr (none, any)
+
+pub same_inside : {X : Type 0} (x y : X) → Some x ≡ Some y → x ≡ y
+same_inside x y e = cc
+
+-- no disk was asked for, since there was no memory
+pub none_given : {D : Type 0} (is_told : D → Type 0) (seen : D → List ℕ) (faults : D → ℕ) (rooms : ℕ) (given : Option (List D)) → WereRefused is_told seen faults rooms given given open_no.NoMemory
+none_given is_told seen faults rooms given = record { disks = []; gave = with_none given; cause = inl (inl refl) }
+  where
+    with_none : {D : Type 0} (given : Option (List D)) → given ≡ option_map (λ before. before ++ []) given
+    with_none None = refl
+    with_none (Some disks) = ap Some (sym (append-nil disks))

@@ -1,15 +1,17 @@
 -- How `serve` ends, by what its words ask for, and what it then says of the door, the sink and the rooms that are handed back.
-use Rattle.std.specs.Prelude.{◌≡◌, ◌≤◌, ◌<◌, ◌+◌, ℕ, List, Bool, Option, Some, None, IsSome, option_map}
+use Rattle.std.specs.Prelude.{◌≡◌, ◌⊎◌, ◌≤◌, ◌<◌, ◌+◌, ℕ, List, [], Bool, Option, Some, None, IsSome, option_map}
 use Rattle.any_game.specs.GameKind.{GameKind}
 use Rattle.board_links.specs.Pieces.{told_bytes}
 use Rattle.command_words.specs.declared.serve.ServeWords.{ServeWords}
 use Rattle.door_serve.specs.Ends.{EndsBy, Reports}
 use Rattle.any_game.specs.declared.any_g.AnyG.{AnyG}
-use Rattle.door_serve.specs.Rooms.{Hosted, hosted, plain}
+use Rattle.door_serve.specs.Rooms.{Calls, Hosted, Stand, hosted, plain}
 use Rattle.match_master.specs.Held.{Held as Book}
 use Rattle.room_keeper.specs.declared.gauged_room.GaugedRoom.{GaugedRoom}
 use Rattle.door_serve.specs.declared.serving.ServeEnd.{ServeEnd}
 use Rattle.door_serve.specs.declared.serving.ServeEnd.TheVariants as end
+use Rattle.session_pool.specs.Turn.{Stand as Standing}
+use Rattle.session_pool.specs.Watched.{StandsIn}
 use Rattle.line_runner.specs.declared.exit.Exit.{Exit}
 use Rattle.line_runner.specs.declared.exit.Exit.TheVariants.{Done, WriteFault, NoMemory, DoorFault}
 
@@ -54,6 +56,11 @@ pub record Serves {B : Type 0} (known : Hosted B) (asked : ServeWords) (exit : E
   pub exits : exit ≡ exit_of how
   pub ended : EndsBy how asked.sessions faults (held_with asked.bots links) shut faults_after (bots + given) sink_faults sink_faults_after
   pub reports : IsSome held → Reports known asked.rooms (bots + given) rooms how (told_bytes held) held_after
+
+-- Each room that comes back stands for one history, and links were served by sessions whose passes had seen beginnings of these in the end; or none
+-- comes back, since there was no memory to set them up.
+abbrev pub ServedIn : {B : Type 0} → Hosted B → ((Standing → Type 0) → Type 0) → List B → Type 0
+ServedIn known served rooms = ((histories : List Calls) × Stand known.stands_for rooms histories × served (StandsIn histories)) ⊎ ((rooms ≡ []) × served (λ s. Unit {0}))
 
 -- rooms that keep nothing, each with a gauge
 abbrev pub gauged : Hosted (GaugedRoom GameKind (Book GameKind AnyG))

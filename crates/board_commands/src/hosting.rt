@@ -6,6 +6,7 @@ ghost use Rattle.command_words.specs.declared.serve.ServeWords.{ServeWords as As
 ghost use Rattle.kept_room.specs.Asides.{may_refuse};
 ghost use Rattle.line_runner.specs.declared.exit.Exit.TheVariants.{Usage};
 ghost use Rattle.session_pool.specs.Sittings.{AreServed};
+ghost use Rattle.session_pool.specs.Watched.{StandsIn};
 ghost use Rattle.board_commands.specs.Hosting.{Hosts, exit_after, exit_of_opening, exit_of_stop, first_stop};
 ghost use Rattle.board_commands.specs.Playing.{IsRefused};
 
@@ -17,13 +18,13 @@ use line_runner::Exit;
 use link_rounds::Ready;
 use object_journal::{OpenNo, Stop};
 use room_disk::Disk;
-use room_keeper::Clock;
+use room_keeper::Outside;
 use std::alloc::Global;
 use std::sync::Wait;
 use std::thread::Threads;
 
 /// Serves as `serve` does, without bots, in rooms whose changes are kept on the disks of a shelf. All rooms that the words ask for are opened first;
-/// the shelf is told then that links are taken. A match to which no session was attached for as many minutes as the words say, by this clock, is
+/// the shelf is told then that links are taken. A match to which no session was attached for as many minutes as the words say, by the clock outside, is
 /// cleared.
 ///
 /// There is one of `readies` for each worker that the words ask for. The door has given no link, hasn't answered that it is shut, and tells of none
@@ -37,7 +38,7 @@ pub fn serve_kept<
     W: Ready<P::L> + Send,
     K: Sink,
     R: Threads + Wait + Sync,
-    C: Clock + Send,
+    C: Outside + Send,
 >(
     rt: &R,
     alloc: Global,
@@ -47,7 +48,7 @@ pub fn serve_kept<
     door: P,
     sink: &mut K,
     seed: [u8; 32],
-    clock: C,
+    outside: C,
 ) -> (Exit, P, Vec<ClosedRoom<S::D>>)
 where
     S::D: Send,
@@ -62,21 +63,22 @@ where
     ensures untouched_door { serve_from (map string_bytes words.now) ≡ None → result.1 ≡ door }
     ensures untouched_sink { serve_from (map string_bytes words.now) ≡ None → sink.new ≡ sink.old }
     ensures untouched_shelf { serve_from (map string_bytes words.now) ≡ None → shelf.new ≡ shelf.old }
-    ensures served { (asked : Asked) → serve_from (map string_bytes words.now) ≡ Some asked → AreServed may_refuse seed asked.links (P.returned result.1) }
+    ensures served { (asked : Asked) → serve_from (map string_bytes words.now) ≡ Some asked → AreServed may_refuse seed asked.links (λ s. Unit {0}) (P.returned result.1) }
     ensures hosts { (asked : Asked) → serve_from (map string_bytes words.now) ≡ Some asked
-        → Hosts S.D.is_told S.D.seen S.D.may_leave S.D.moment S.D.left_since S.D.faults asked result.0 result.2.items (S.given shelf.old) (S.given shelf.new)
+        → Hosts S.D.is_told S.D.seen S.D.may_leave S.D.moment S.D.left_since S.D.faults asked
+        (λ histories. AreServed may_refuse seed asked.links (StandsIn histories) (P.returned result.1)) result.0 result.2.items (S.given shelf.old) (S.given shelf.new)
         (P.faults door) (P.left door) (P.shut result.1) (P.faults result.1) (P.given result.1) (K.faults sink.old) (K.faults sink.new) }
 {
     match serve_words(alloc, words) {
-        Ok(asked) => host_asked(rt, alloc, asked, shelf, readies, door, sink, seed, clock),
+        Ok(asked) => host_asked(rt, alloc, asked, shelf, readies, door, sink, seed, outside),
         Err(WordsNo::Usage) => {
             drop(readies);
-            drop(clock);
+            drop(outside);
             (Exit::Usage, door, Vec::new(alloc))
         }
         Err(WordsNo::NoMemory) => {
             drop(readies);
-            drop(clock);
+            drop(outside);
             (Exit::NoMemory, door, Vec::new(alloc))
         }
     }
@@ -89,7 +91,7 @@ fn host_asked<
     W: Ready<P::L> + Send,
     K: Sink,
     R: Threads + Wait + Sync,
-    C: Clock + Send,
+    C: Outside + Send,
 >(
     rt: &R,
     alloc: Global,
@@ -99,7 +101,7 @@ fn host_asked<
     door: P,
     sink: &mut K,
     seed: [u8; 32],
-    clock: C,
+    outside: C,
 ) -> (Exit, P, Vec<ClosedRoom<S::D>>)
 where
     S::D: Send,
@@ -111,8 +113,9 @@ where
     requires none_back { IfSome (P.returned door) (λ told. told ≡ []) }
     ensures out { (P.out result.1 ≡ 0) × (P.bots_out result.1 ≡ 0) }
     ensures sink_never_falls { K.faults sink.old ≤ K.faults sink.new }
-    ensures served { AreServed may_refuse seed asked.links (P.returned result.1) }
-    ensures hosts { Hosts S.D.is_told S.D.seen S.D.may_leave S.D.moment S.D.left_since S.D.faults asked result.0 result.2.items (S.given shelf.old) (S.given shelf.new)
+    ensures served { AreServed may_refuse seed asked.links (λ s. Unit {0}) (P.returned result.1) }
+    ensures hosts { Hosts S.D.is_told S.D.seen S.D.may_leave S.D.moment S.D.left_since S.D.faults asked
+        (λ histories. AreServed may_refuse seed asked.links (StandsIn histories) (P.returned result.1)) result.0 result.2.items (S.given shelf.old) (S.given shelf.new)
         (P.faults door) (P.left door) (P.shut result.1) (P.faults result.1) (P.given result.1) (K.faults sink.old) (K.faults sink.new) }
 {
     let rooms = asked.rooms;
@@ -120,18 +123,18 @@ where
     let sessions = asked.sessions;
     let idle = asked.idle;
     drop(asked);
-    match open_rooms(rt, alloc, shelf, rooms, u32::from(links) + 1) {
+    match open_rooms(rt, alloc, shelf, rooms, u32::from(links) + 2) {
         Ok(opened) => {
             shelf.ready();
             let (end, door, closed) = serve_opened(
-                rt, alloc, opened, links, readies, idle, clock, sessions, door, sink, seed,
+                rt, alloc, opened, links, readies, idle, outside, sessions, door, sink, seed,
             );
             let exit = exit_after(end, closed.as_slice());
             (exit, door, closed)
         }
         Err(why) => {
             drop(readies);
-            drop(clock);
+            drop(outside);
             (exit_of_opening(why), door, Vec::new(alloc))
         }
     }

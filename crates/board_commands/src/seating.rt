@@ -114,7 +114,7 @@ where
     requires rooms { (0 < vec_len rooms) × (vec_len rooms ≤ 64) }
     requires numbered { map (λ b. B.number b) rooms.items ≡ numbers 0 (vec_len rooms) }
     requires stand { All (λ b. (past : Calls) × B.stands_for b past) rooms.items }
-    requires nobody { All (λ b. (past : Calls) → B.stands_for b past → NobodyIn any_rules (places + 1) (B.number b) past) rooms.items }
+    requires nobody { All (λ b. (past : Calls) → B.stands_for b past → NobodyIn any_rules (places + 2) (B.number b) past) rooms.items }
     requires places { (0 < places) × (places ≤ 4096) }
     requires some { 0 < vec_len readies }
     requires enough { vec_len readies ≤ places }
@@ -178,7 +178,7 @@ where
     requires rooms { (0 < vec_len rooms) × (vec_len rooms ≤ 64) }
     requires numbered { map (λ b. B.number b) rooms.items ≡ numbers 0 (vec_len rooms) }
     requires stand { All (λ b. (past : Calls) × B.stands_for b past) rooms.items }
-    requires nobody { All (λ b. (past : Calls) → B.stands_for b past → NobodyIn any_rules (places + 1) (B.number b) past) rooms.items }
+    requires nobody { All (λ b. (past : Calls) → B.stands_for b past → NobodyIn any_rules (places + 2) (B.number b) past) rooms.items }
     requires places { (0 < places) × (places ≤ 4096) }
     requires some { 0 < vec_len readies }
     requires enough { vec_len readies ≤ places }

@@ -13,7 +13,7 @@ ghost use Rattle.session_pool.specs.Sittings.{AreServed};
 ghost use Rattle.match_master.specs.Held.{may_starve};
 ghost use Rattle.line_runner.specs.declared.exit.Exit.TheVariants.{Usage};
 ghost use Rattle.board_commands.specs.Playing.{IsRefused};
-ghost use Rattle.board_commands.specs.Serving.{Serves, exit_of, gauged, seats_asked};
+ghost use Rattle.board_commands.specs.Serving.{ServedIn, Serves, exit_of, gauged, seats_asked};
 
 use crate::seating::serve_seated;
 use any_game::AnyGame;
@@ -26,7 +26,7 @@ use hosted_room::HostedRoom;
 use line_runner::Exit;
 use link_rounds::Ready;
 use match_master::Book;
-use room_keeper::{Clock, GaugedRoom, IdleKeeper, Keeper, watch_rooms};
+use room_keeper::{GaugedRoom, HallKeeper, Keeper, Outside, watch_rooms};
 use room_object::Object;
 use session_pool::plain_rooms;
 use std::alloc::Global;
@@ -35,7 +35,7 @@ use std::thread::Threads;
 
 /// Serves the links of a door with the rooms, the workers, the links at once and the sessions that the words ask for, until the door is shut, has
 /// given so many sessions, or fails; then closes the rooms and prints the report. The first word is `serve`. The rooms keep nothing, whatever the
-/// words say of a folder. A match to which no session was attached for as many minutes as the words say, by this clock, is cleared.
+/// words say of a folder. A match to which no session was attached for as many minutes as the words say, by the clock outside, is cleared.
 ///
 /// There is one of `readies` for each worker that the words ask for; each says whose turn it is at its worker. The door has given no link, hasn't
 /// answered that it is shut, and tells of none that came back; no link is out when it comes back. `Usage` comes exactly where the words are in
@@ -55,7 +55,7 @@ pub fn serve<
     K: Sink,
     R: Threads + Wait + Sync,
     Z: Rest + Send,
-    C: Clock + Send,
+    C: Outside + Send,
 >(
     rt: &R,
     alloc: Global,
@@ -66,7 +66,7 @@ pub fn serve<
     seed: [u8; 32],
     bots: Vec<Box<dyn Bot + Send>>,
     rests: Vec<Z>,
-    clock: C,
+    outside: C,
 ) -> (Exit, D, Vec<GaugedRoom<AnyGame, Book<AnyGame>>>)
 where
     D::L: Send,
@@ -86,26 +86,26 @@ where
         → Serves gauged asked result.0 result.2.items (D.faults door) (D.left door) (D.shut result.1) (D.faults result.1) (D.given result.1)
         (K.faults sink.old) (K.faults sink.new) (K.held sink.old) (K.held sink.new) }
     ensures served { (asked : Asked) → serve_from (map string_bytes words.now) ≡ Some asked → asked.bots ≡ None
-        → AreServed may_starve seed asked.links (D.returned result.1) }
+        → ServedIn gauged (λ knows. AreServed may_starve seed asked.links knows (D.returned result.1)) result.2.items }
     ensures completes { (asked : Asked) → serve_from (map string_bytes words.now) ≡ Some asked
         → (HasRisen (D.faults door) (D.faults result.1) → ⊥) → (HasRisen (K.faults sink.old) (K.faults sink.new) → ⊥) → IsComplete result.0 }
 {
     match serve_words(alloc, words) {
         Ok(asked) => serve_plain(
-            rt, alloc, asked, readies, door, sink, seed, bots, rests, clock,
+            rt, alloc, asked, readies, door, sink, seed, bots, rests, outside,
         ),
         Err(WordsNo::Usage) => {
             drop(readies);
             drop(bots);
             drop(rests);
-            drop(clock);
+            drop(outside);
             (Exit::Usage, door, Vec::new(alloc))
         }
         Err(WordsNo::NoMemory) => {
             drop(readies);
             drop(bots);
             drop(rests);
-            drop(clock);
+            drop(outside);
             (Exit::NoMemory, door, Vec::new(alloc))
         }
     }
@@ -118,7 +118,7 @@ fn serve_plain<
     K: Sink,
     R: Threads + Wait + Sync,
     Z: Rest + Send,
-    C: Clock + Send,
+    C: Outside + Send,
 >(
     rt: &R,
     alloc: Global,
@@ -129,7 +129,7 @@ fn serve_plain<
     seed: [u8; 32],
     bots: Vec<Box<dyn Bot + Send>>,
     rests: Vec<Z>,
-    clock: C,
+    outside: C,
 ) -> (Exit, D, Vec<GaugedRoom<AnyGame, Book<AnyGame>>>)
 where
     D::L: Send,
@@ -142,11 +142,11 @@ where
     requires none_back { IfSome (D.returned door) (λ told. told ≡ []) }
     ensures out { (D.out result.1 ≡ 0) × (D.bots_out result.1 ≡ 0) }
     ensures sink_never_falls { K.faults sink.old ≤ K.faults sink.new }
-    ensures served { asked.bots ≡ None → AreServed may_starve seed asked.links (D.returned result.1) }
+    ensures served { asked.bots ≡ None → ServedIn gauged (λ knows. AreServed may_starve seed asked.links knows (D.returned result.1)) result.2.items }
     ensures serves { Serves gauged asked result.0 result.2.items (D.faults door) (D.left door) (D.shut result.1) (D.faults result.1) (D.given result.1)
         (K.faults sink.old) (K.faults sink.new) (K.held sink.old) (K.held sink.new) }
 {
-    match watched_rooms(alloc, asked.rooms, asked.idle, clock) {
+    match watched_rooms(alloc, asked.rooms, asked.idle, outside) {
         Ok((rooms, keeper)) => serve_asked(
             rt, alloc, asked, rooms, readies, door, sink, seed, bots, rests, keeper,
         ),
@@ -161,16 +161,16 @@ where
 }
 
 /// So many rooms that keep nothing, each with a gauge; and a keeper that names their matches, each once nobody was attached for so many minutes, or
-/// none where they are 0.
-fn watched_rooms<C: Clock>(
+/// none where they are 0, and that answers who asks from outside.
+fn watched_rooms<C: Outside>(
     alloc: Global,
     rooms: u8,
     minutes: u32,
-    clock: C,
+    outside: C,
 ) -> Result<
     (
         Vec<GaugedRoom<AnyGame, Book<AnyGame>>>,
-        Option<IdleKeeper<C>>,
+        Option<HallKeeper<C>>,
     ),
     NoMemory,
 >
@@ -182,7 +182,7 @@ fn watched_rooms<C: Clock>(
         → NobodyIn any_rules places (⟦<GaugedRoom<AnyGame, Book<AnyGame>> as Object>⟧.number b) past) r.0.items) }
 {
     let rooms = plain_rooms(alloc, rooms)?;
-    watch_rooms(alloc, rooms, minutes, clock)
+    watch_rooms(alloc, rooms, minutes, outside)
 }
 
 /// Serves as was asked for, with these rooms.
@@ -213,7 +213,7 @@ where
     requires rooms { (0 < asked.rooms) × (asked.rooms ≤ 64) }
     requires numbered { map (λ b. B.number b) rooms.items ≡ numbers 0 (vec_len rooms) }
     requires stand { All (λ b. (past : Calls) × B.stands_for b past) rooms.items }
-    requires nobody { All (λ b. (past : Calls) → B.stands_for b past → NobodyIn any_rules (asked.links + 1) (B.number b) past) rooms.items }
+    requires nobody { All (λ b. (past : Calls) → B.stands_for b past → NobodyIn any_rules (asked.links + 2) (B.number b) past) rooms.items }
     requires workers { (0 < asked.workers) × (asked.workers ≤ asked.links) × (asked.links ≤ 4096) }
     requires readies { vec_len readies ≡ asked.workers }
     requires plain { D.has_bots ≡ false }
@@ -222,7 +222,8 @@ where
     requires none_back { IfSome (D.returned door) (λ told. told ≡ []) }
     ensures out { (D.out result.1 ≡ 0) × (D.bots_out result.1 ≡ 0) }
     ensures sink_never_falls { K.faults sink.old ≤ K.faults sink.new }
-    ensures served { asked.bots ≡ None → AreServed B.may_starve seed asked.links (D.returned result.1) }
+    ensures served { asked.bots ≡ None
+        → ServedIn (hosted B.number B.stands_for B.has_stopped) (λ knows. AreServed B.may_starve seed asked.links knows (D.returned result.1)) result.2.items }
     ensures serves { Serves (hosted B.number B.stands_for B.has_stopped) asked result.0 result.2.items (D.faults door) (D.left door) (D.shut result.1)
         (D.faults result.1) (D.given result.1) (K.faults sink.old) (K.faults sink.new) (K.held sink.old) (K.held sink.new) }
 {
@@ -237,6 +238,7 @@ where
         origin,
         page,
         keep,
+        status,
         ws: _,
         bots: table,
         pace,
@@ -245,6 +247,7 @@ where
     drop(origin);
     drop(page);
     drop(keep);
+    drop(status);
     match table {
         None => {
             drop(bots);

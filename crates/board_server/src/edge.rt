@@ -6,9 +6,10 @@ ghost use Rattle.board_commands.specs.Serving.{seats_asked};
 ghost use Rattle.command_words.specs.Serve.{serve_from};
 ghost use Rattle.command_words.specs.declared.serve.ServeWords.{ServeWords as Asked};
 
+use crate::counted::CountedDoor;
 use crate::journals::Journals;
-use crate::outspoken::Outspoken;
-use crate::seconds::Seconds;
+use crate::outside::SystemOutside;
+use crate::tally::Tally;
 use board_bots::{Bot, DiceBot, NoRest};
 use board_commands::{kept, kept_path, play, print_page, run, seats_of, serve, serve_kept};
 use board_drawing::DrawingSink;
@@ -19,13 +20,13 @@ use game_sheet::{NoMemory, Text};
 use line_runner::Exit;
 use link_rounds::Ready;
 use page_files::{Pages, read_pages};
-use poll_links::open;
+use poll_links::{PollDoor, PollReady, Watched, open};
 use room_disk::FileDisk;
 use std::alloc::Global;
 use std::fs::{File, TryLockError};
 use std::io::{self, Read};
 use std::mem;
-use std::net::SocketAddr;
+use std::net::{SocketAddr, TcpListener};
 use std::os::fd::AsRawFd;
 use std::os::unix::fs::OpenOptionsExt;
 use std::path::Path;
@@ -185,6 +186,7 @@ pub fn serve_there<R: Threads + Wait + Sync>(
         origin,
         page,
         keep,
+        status,
         ws,
         bots: table,
         pace: _,
@@ -203,6 +205,10 @@ pub fn serve_there<R: Threads + Wait + Sync>(
     let Ok(addr) = addr else {
         return Exit::DoorFault;
     };
+    let listener = match status_listener(rt, status) {
+        Ok(listener) => listener,
+        Err(error) => return fault(&error, Exit::DoorFault),
+    };
     let opened = open(
         *rt,
         rt.alloc(),
@@ -215,39 +221,111 @@ pub fn serve_there<R: Threads + Wait + Sync>(
         sessions.saturating_sub(u32::from(seats)),
     );
     match opened {
-        Ok((door, readies)) => {
-            let journals = match keep {
-                Some(folder) => Some(Journals::new(*rt, folder, door.addr())),
-                None => {
-                    announce(rt, &door.addr());
-                    None
-                }
-            };
-            if ws {
-                let door = WsDoor::with_pages(rt.alloc(), PollStreams::over(door), origin, pages);
-                serve_at(
-                    leave,
-                    rt,
-                    words,
-                    seats,
-                    journals,
-                    readies,
-                    Outspoken::new(*rt, door),
-                )
-            } else {
-                serve_at(
-                    leave,
-                    rt,
-                    words,
-                    seats,
-                    journals,
-                    readies,
-                    Outspoken::new(*rt, door),
-                )
-            }
+        Ok((door, readies)) => serve_door(
+            leave, rt, words, seats, keep, listener, ws, origin, pages, door, readies,
+        ),
+        Err(error) => {
+            drop(listener);
+            fault(&error, Exit::DoorFault)
         }
-        Err(error) => fault(&error, Exit::DoorFault),
     }
+}
+
+/// Serves matches at this door, over WebSockets where that is asked for, with so many bots or in rooms that a folder keeps, and answers who asks at this
+/// listener for the status.
+fn serve_door<R: Threads + Wait + Sync>(
+    leave: &R,
+    rt: &HostRuntime,
+    words: &[String],
+    seats: u8,
+    keep: Option<Text>,
+    listener: Option<TcpListener>,
+    ws: bool,
+    origin: Option<Arc<Text, Global>>,
+    pages: Option<Arc<Pages, Global>>,
+    door: PollDoor<HostRuntime>,
+    readies: Vec<PollReady<HostRuntime>>,
+) -> Exit
+    requires workers { (asked : Asked) → serve_from (map string_bytes words.now) ≡ Some asked → vec_len readies ≡ asked.workers }
+    requires seats { (asked : Asked) → serve_from (map string_bytes words.now) ≡ Some asked → seats ≡ seats_asked asked.bots }
+    requires given { ⟦<PollDoor<HostRuntime> as Door>⟧.given door ≡ 0 }
+    requires out { ⟦<PollDoor<HostRuntime> as Door>⟧.out door ≡ 0 }
+    requires bots_out { ⟦<PollDoor<HostRuntime> as Door>⟧.bots_out door ≡ 0 }
+    requires shut { ⟦<PollDoor<HostRuntime> as Door>⟧.shut door ≡ false }
+{
+    let addresses = Addresses {
+        door: door.addr().ok(),
+        status: match &listener {
+            Some(listener) => listener.local_addr().ok(),
+            None => None,
+        },
+    };
+    let journals = match keep {
+        Some(folder) => Some(Journals::new(*rt, folder, addresses)),
+        None => {
+            announce(rt, addresses);
+            None
+        }
+    };
+    let tally = Tally::new();
+    let counted = if listener.is_some() {
+        Some(&tally)
+    } else {
+        None
+    };
+    let outside = SystemOutside::new(*rt, listener, &tally, seats);
+    if ws {
+        let door = WsDoor::with_pages(rt.alloc(), PollStreams::over(door), origin, pages);
+        serve_counted(
+            leave, rt, words, seats, journals, readies, door, counted, outside,
+        )
+    } else {
+        serve_counted(
+            leave, rt, words, seats, journals, readies, door, counted, outside,
+        )
+    }
+}
+
+/// Serves matches at this door, whose links are counted where there is a tally.
+fn serve_counted<'a, D: Door + Send, R: Threads + Wait + Sync>(
+    leave: &R,
+    rt: &HostRuntime,
+    words: &[String],
+    seats: u8,
+    journals: Option<Journals>,
+    readies: Vec<PollReady<HostRuntime>>,
+    door: D,
+    counted: Option<&'a Tally>,
+    outside: SystemOutside<'_>,
+) -> Exit
+where
+    D::L: Watched + Send,
+    requires workers { (asked : Asked) → serve_from (map string_bytes words.now) ≡ Some asked → vec_len readies ≡ asked.workers }
+    requires seats { (asked : Asked) → serve_from (map string_bytes words.now) ≡ Some asked → seats ≡ seats_asked asked.bots }
+    requires plain { D.has_bots ≡ false }
+    requires given { D.given door ≡ 0 }
+    requires out { D.out door ≡ 0 }
+    requires bots_out { D.bots_out door ≡ 0 }
+    requires shut { D.shut door ≡ false }
+    requires none_back { IfSome (D.returned door) (λ told. told ≡ []) }
+{
+    let door = CountedDoor::new(*rt, door, counted);
+    serve_at(leave, rt, words, seats, journals, readies, door, outside)
+}
+
+/// A listener that doesn't block, at which the status may be asked for, if an address is said. An Err is that it is in no form, or the system's.
+fn status_listener(rt: &HostRuntime, addr: Option<Text>) -> io::Result<Option<TcpListener>> {
+    let Some(text) = addr else {
+        return Ok(None);
+    };
+    let addr = text.as_str().parse::<SocketAddr>();
+    drop(text);
+    let Ok(addr) = addr else {
+        return Err(io::Error::from(io::ErrorKind::InvalidInput));
+    };
+    let listener = TcpListener::bind(rt, addr)?;
+    listener.set_nonblocking(true)?;
+    Ok(Some(listener))
 }
 
 /// An origin for all links of a door.
@@ -280,6 +358,7 @@ fn serve_at<D: Door + Send, W: Ready<D::L> + Send, R: Threads + Wait + Sync>(
     journals: Option<Journals>,
     readies: Vec<W>,
     door: D,
+    outside: SystemOutside<'_>,
 ) -> Exit
 where
     D::L: Send,
@@ -293,15 +372,20 @@ where
     requires none_back { IfSome (D.returned door) (λ told. told ≡ []) }
 {
     match (seed(rt), journals) {
-        (Ok(seed), None) => match serve_seeded(leave, rt, words, seats, readies, door, seed) {
+        (Ok(seed), None) => match serve_seeded(
+            leave, rt, words, seats, readies, door, outside, seed,
+        ) {
             Ok(exit) => exit,
             Err(NoMemory) => Exit::NoMemory,
         },
-        (Ok(seed), Some(journals)) => serve_over(leave, rt, words, journals, readies, door, seed),
+        (Ok(seed), Some(journals)) => serve_over(
+            leave, rt, words, journals, readies, door, outside, seed,
+        ),
         (Err(error), journals) => {
             drop(journals);
             drop(readies);
             drop(door);
+            drop(outside);
             fault(&error, Exit::DoorFault)
         }
     }
@@ -315,6 +399,7 @@ fn serve_over<D: Door + Send, W: Ready<D::L> + Send, R: Threads + Wait + Sync>(
     journals: Journals,
     readies: Vec<W>,
     door: D,
+    outside: SystemOutside<'_>,
     seed: [u8; 32],
 ) -> Exit
 where
@@ -337,7 +422,7 @@ where
         door,
         &mut sink,
         seed,
-        Seconds::new(*rt),
+        outside,
     );
     drop(door);
     // The process ends with this run, and its files are closed with it.
@@ -355,6 +440,7 @@ fn serve_seeded<D: Door + Send, W: Ready<D::L> + Send, R: Threads + Wait + Sync>
     seats: u8,
     readies: Vec<W>,
     door: D,
+    outside: SystemOutside<'_>,
     seed: [u8; 32],
 ) -> Result<Exit, NoMemory>
 where
@@ -379,16 +465,7 @@ where
     }
     let mut sink = WriterSink::new(rt.stdout());
     let (exit, door, books) = serve(
-        leave,
-        alloc,
-        words,
-        readies,
-        door,
-        &mut sink,
-        seed,
-        bots,
-        rests,
-        Seconds::new(*rt),
+        leave, alloc, words, readies, door, &mut sink, seed, bots, rests, outside,
     );
     drop(door);
     // The process ends with this run, and its memory goes with it.
@@ -396,10 +473,22 @@ where
     Ok(exit)
 }
 
-/// Says on standard error where the door listens. A line that can't be written is lost.
-pub fn announce(rt: &HostRuntime, addr: &io::Result<SocketAddr>) {
-    if let Ok(addr) = addr {
+/// Where a server listens, as far as the system says it.
+#[derive(Clone, Copy, PartialEq, Eq, Debug)]
+pub struct Addresses {
+    /// For the sessions.
+    pub door: Option<SocketAddr>,
+    /// For who asks for the status, if that may be asked for.
+    pub status: Option<SocketAddr>,
+}
+
+/// Says on standard error where the server listens. A line that can't be written is lost.
+pub fn announce(rt: &HostRuntime, addresses: Addresses) {
+    if let Some(addr) = addresses.door {
         let _said = eprintln!(rt; "listening on {addr}");
+    }
+    if let Some(addr) = addresses.status {
+        let _said = eprintln!(rt; "status on {addr}");
     }
 }
 

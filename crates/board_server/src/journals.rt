@@ -1,19 +1,17 @@
 //! The journals of a server's rooms, one file a room, in a folder.
 
-use crate::edge::{announce, open_journal};
+use crate::edge::{Addresses, announce, open_journal};
 use game_sheet::{Number, Text};
 use kept_serve::Shelf;
 use object_journal::OpenNo;
 use room_disk::FileDisk;
-use std::io;
-use std::net::SocketAddr;
 
-/// The journals in a folder. What becomes of each room is said on standard error, and then where the door listens; a line that can't be written is
+/// The journals in a folder. What becomes of each room is said on standard error, and then where the server listens; a line that can't be written is
 /// lost. No clause says which disks it gave.
 pub struct Journals {
     rt: HostRuntime,
     folder: Text,
-    addr: io::Result<SocketAddr>,
+    addresses: Addresses,
 }
 
 impl Drop for Journals {
@@ -21,17 +19,20 @@ impl Drop for Journals {
         let Journals {
             rt: _,
             folder,
-            addr,
+            addresses: _,
         } = self;
         drop(folder);
-        drop(addr);
     }
 }
 
 impl Journals {
-    /// Those in this folder, of a server whose door listens there.
-    pub fn new(rt: HostRuntime, folder: Text, addr: io::Result<SocketAddr>) -> Journals {
-        Journals { rt, folder, addr }
+    /// Those in this folder, of a server that listens at these addresses.
+    pub fn new(rt: HostRuntime, folder: Text, addresses: Addresses) -> Journals {
+        Journals {
+            rt,
+            folder,
+            addresses,
+        }
     }
 }
 
@@ -79,6 +80,6 @@ impl Shelf for Journals {
     }
 
     fn ready(&mut self) {
-        announce(&self.rt, &self.addr);
+        announce(&self.rt, self.addresses);
     }
 }

@@ -3,10 +3,12 @@
 //! changes it keeps in a journal, and `board_server replay` says what a journal holds; `board_server workload` plays by itself, by the words of a seed and for a number of steps, and tells what came of it.
 #![tactic(auto)]
 
+mod asker;
+mod counted;
 mod edge;
 mod journals;
-mod outspoken;
-mod seconds;
+mod outside;
+mod tally;
 
 use board_commands::{HELP, Mode, VERSION, after_name, mode_of};
 use edge::{keep_standard, kept_here, play_there, print_here, run_here, serve_there};

@@ -1,5 +1,5 @@
 //! The words of `serve`: where it listens, how many rooms, workers, links at once and sessions it has, whom it lets in, which page it gives, where
-//! it keeps its rooms, and which bots it seats, at which pace.
+//! it keeps its rooms, where it tells its status, and which bots it seats, at which pace.
 
 ghost use Rattle.std.specs.Prelude.{◌≡◌, ◌≤◌, IfOk, codes, map, option_map, string_bytes};
 ghost use Rattle.clap.specs.Words.{FailsBy, HasMatchesOf, fault_of, first_value, found_of};
@@ -38,6 +38,8 @@ pub struct ServeWords {
     pub page: Option<Text>,
     /// The folder of the rooms' journals, if the rooms are kept; never with bots.
     pub keep: Option<Text>,
+    /// Where it answers who asks for its status, as an address and a port, if it does.
+    pub status: Option<Text>,
     /// Whether its links are WebSockets.
     pub ws: bool,
     /// The game of a match at whose seats bots sit, and how many there are: fewer than the links; none where it seats no bots.
@@ -79,6 +81,7 @@ fn matches_of<'a>(alloc: Global, words: &'a [String]) -> Result<ArgMatches<'a>, 
         .arg(option(alloc, "origin"))?
         .arg(option(alloc, "page"))?
         .arg(option(alloc, "keep"))?
+        .arg(option(alloc, "status"))?
         .arg(option(alloc, "bots"))?
         .arg(option(alloc, "seats"))?
         .arg(option(alloc, "pace"))?
@@ -91,7 +94,7 @@ fn words_in(alloc: Global, matches: &ArgMatches) -> Result<ServeWords, WordsNo>
     ensures asked { Answers (serve_of (first_value (found_of matches.now) (codes "listen")) (first_value (found_of matches.now) (codes "rooms"))
         (first_value (found_of matches.now) (codes "workers")) (first_value (found_of matches.now) (codes "links")) (first_value (found_of matches.now) (codes "sessions"))
         (first_value (found_of matches.now) (codes "silence")) (first_value (found_of matches.now) (codes "idle")) (guests (first_value (found_of matches.now) (codes "origin")) (first_value (found_of matches.now) (codes "page"))
-        (first_value (found_of matches.now) (codes "keep")) (is_said (first_value (found_of matches.now) (codes "ws")))
+        (first_value (found_of matches.now) (codes "keep")) (first_value (found_of matches.now) (codes "status")) (is_said (first_value (found_of matches.now) (codes "ws")))
         (first_value (found_of matches.now) (codes "bots")) (first_value (found_of matches.now) (codes "seats")) (first_value (found_of matches.now) (codes "pace")))) result }
     ensures bounds { IfOk result (λ asked. (1 ≤ asked.rooms) × (asked.rooms ≤ 64) × (1 ≤ asked.workers) × (asked.workers ≤ 32) × (asked.workers ≤ asked.links) × (asked.links ≤ 4096)) }
 {
@@ -116,6 +119,7 @@ fn words_in(alloc: Global, matches: &ArgMatches) -> Result<ServeWords, WordsNo>
     let origin = copy_of(alloc, origin)?;
     let page = copy_of(alloc, page)?;
     let keep = copy_of(alloc, keep)?;
+    let status = copy_of(alloc, matches.get_str("status"))?;
     let bots = bots_of(
         alloc,
         matches.get_str("bots"),
@@ -133,6 +137,7 @@ fn words_in(alloc: Global, matches: &ArgMatches) -> Result<ServeWords, WordsNo>
         origin,
         page,
         keep,
+        status,
         ws,
         bots,
         pace: pace as u8,

@@ -2,7 +2,7 @@
 
 ghost use Rattle.std.specs.Prelude.{◌≡◌, [], IfOk, Some, false};
 
-use crate::serves::{NoClock, link, readies, rests, seats};
+use crate::serves::{NobodyOutside, link, readies, rests, seats};
 use any_game::AnyGame;
 use board_bots::{Bot, FirstBot, Glance};
 use board_commands::serve;
@@ -176,7 +176,7 @@ fn plays<R: Abort + Threads + Wait + Sync>(
         [0; 32],
         bots,
         rests,
-        NoClock,
+        NobodyOutside,
     );
     drop(door);
     assert_eq!(rt; exit, table.exit);

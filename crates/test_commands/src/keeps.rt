@@ -2,7 +2,7 @@
 
 ghost use Rattle.std.specs.Prelude.{◌≡◌, [], IfOk, Some, None, false, map, string_bytes, vec_len};
 
-use crate::serves::{CREATE, JOIN, LEAVE, NoClock, door, readies, words};
+use crate::serves::{CREATE, JOIN, LEAVE, NobodyOutside, door, readies, words};
 use board_commands::serve_kept;
 use board_links::{MemoryDoor, MemoryLink, MemorySink};
 use game_sheet::{List, NoMemory, Number};
@@ -94,7 +94,7 @@ fn served<R: Threads + Wait + Sync>(
         door,
         &mut sink,
         [0; 32],
-        NoClock,
+        NobodyOutside,
     );
     drop(door);
     drop(words);

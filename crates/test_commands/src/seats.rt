@@ -3,7 +3,7 @@
 ghost use Rattle.std.specs.Prelude.{◌≡◌, ◌-◌, [], false, vec_len, IfOk, None, Some};
 ghost use Rattle.board_links.specs.Answers.{CameRaises, IsWithin, stage_after};
 
-use crate::serves::{NoClock, readies, rests, seats};
+use crate::serves::{NobodyOutside, readies, rests, seats};
 use board_bots::{Bot, Glance, PassBot};
 use board_commands::serve;
 use board_links::{Came, Door, Link, MemoryDoor, MemorySink, Out, SessionEnd, Stage};
@@ -317,7 +317,7 @@ fn takes_over<R: Abort + Clock + Threads + Wait + Sync>(
         [0; 32],
         bots,
         rests,
-        NoClock,
+        NobodyOutside,
     );
     drop(books);
     drop(door);

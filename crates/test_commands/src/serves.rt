@@ -13,7 +13,7 @@ use command_words::{WordsNo, serve_words};
 use game_sheet::{List, NoMemory};
 use line_runner::Exit;
 use link_rounds::InTurn;
-use room_keeper::Clock;
+use room_keeper::{Outside, RoomStatus};
 use std::alloc::Global;
 use std::process::Abort;
 use std::sync::Wait;
@@ -38,14 +38,24 @@ const SECOND: [&[u8]; 3] = [
     b"{\"match\":\"0-1\",\"name\":\"bob\",\"seat\":1,\"type\":\"join\"}",
 ];
 
-/// A clock that says nothing.
+/// A clock that says nothing, and nobody who asks.
 #[derive(Drop)]
-pub(crate) struct NoClock;
+pub(crate) struct NobodyOutside;
 
-impl Clock for NoClock {
+impl Outside for NobodyOutside {
     fn seconds(&mut self) -> Option<u64> {
         None
     }
+
+    fn is_watched(&self) -> bool {
+        false
+    }
+
+    fn asked(&mut self) -> bool {
+        false
+    }
+
+    fn answer(&mut self, _rooms: Result<&[RoomStatus], NoMemory>) {}
 }
 
 /// A run, and what comes of it.
@@ -191,7 +201,16 @@ fn served<R: Threads + Wait + Sync>(
         bots.push_reserved(bot);
     }
     let (exit, door, books) = serve(
-        rt, alloc, words, readies, door, &mut sink, seed, bots, rests, NoClock,
+        rt,
+        alloc,
+        words,
+        readies,
+        door,
+        &mut sink,
+        seed,
+        bots,
+        rests,
+        NobodyOutside,
     );
     drop(books);
     Ok((exit, door, sink))

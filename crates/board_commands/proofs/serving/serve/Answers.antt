@@ -1,3 +1,4 @@
+use Rattle.std.proofs.Common.{inr}
 use Rattle.session_pool.proofs.Places.{none_served}
 use Rattle.match_master.specs.Held.{may_starve}
 use Rattle.board_commands.proofs.serving.serve.Goals as goal
@@ -10,7 +11,9 @@ serve_plain-requires-clause-bots g c κs inside =
     (c.requires.bots c.in-Ok.asked c.in-Ok.ensures.asked, c.requires.rests c.in-Ok.asked c.in-Ok.ensures.asked)
 
 pub returns-in-Err-Usage-clause-served : goal.returns-in-Err-Usage-clause-served
-returns-in-Err-Usage-clause-served g c asked said none = none_served may_starve c.args.seed asked.links (g.D.Door.returned c.args.door) c.requires.none_back
+returns-in-Err-Usage-clause-served g c asked said none =
+    inr (c.new.ensures.items, none_served may_starve c.args.seed asked.links (λ s. Unit {0}) (g.D.Door.returned c.args.door) c.requires.none_back)
 
 pub returns-in-Err-NoMemory-clause-served : goal.returns-in-Err-NoMemory-clause-served
-returns-in-Err-NoMemory-clause-served g c asked said none = none_served may_starve c.args.seed asked.links (g.D.Door.returned c.args.door) c.requires.none_back
+returns-in-Err-NoMemory-clause-served g c asked said none =
+    inr (c.new-in-Err-NoMemory.ensures.items, none_served may_starve c.args.seed asked.links (λ s. Unit {0}) (g.D.Door.returned c.args.door) c.requires.none_back)

@@ -1,10 +1,11 @@
 use Rattle.std.proofs.Common.{subst, sym}
-use Rattle.std.specs.Prelude.{IsSome}
+use Rattle.std.specs.Prelude.{IsSome, vec_len}
 use Rattle.board_links.specs.Pieces.{told_bytes}
 use Rattle.door_serve.specs.Ends.{Reports}
 use Rattle.door_serve.specs.Rooms.{hosted}
 use Rattle.board_commands.specs.Serving.{Serves}
-use Rattle.board_commands.proofs.Seated.{serves_plain}
+use Rattle.session_pool.specs.Sittings.{AreServed}
+use Rattle.board_commands.proofs.Seated.{served_in, serves_plain}
 use Rattle.board_commands.proofs.serving.serve_asked.Goals as goal
 
 pub returns-in-None-clause-serves : goal.returns-in-None-clause-serves
@@ -21,3 +22,9 @@ returns-in-None-clause-serves g c =
     (serves_plain known c.args.asked rooms.result.0 rooms.result.2.items (g.D.Door.faults c.args.door) (g.D.Door.left c.args.door) (g.D.Door.shut rooms.result.1)
     (g.D.Door.faults rooms.result.1) (g.D.Door.given rooms.result.1) (g.K.Sink.faults c.args.sink.now) (g.K.Sink.faults rooms.new.sink)
     held after c.in-None.is rooms.ensures.ended reports)
+
+pub returns-in-None-clause-served : goal.returns-in-None-clause-served
+returns-in-None-clause-served g c none =
+    let rooms = c.serve_rooms-end in
+    served_in (hosted g.B.Object.number g.B.Object.stands_for g.B.HostedRoom.has_stopped) (λ knows. AreServed g.B.Object.may_starve c.args.seed c.args.asked.links knows (g.D.Door.returned rooms.result.1))
+    (vec_len c.args.rooms) rooms.result.0 rooms.result.2.items rooms.ensures.closed rooms.ensures.served

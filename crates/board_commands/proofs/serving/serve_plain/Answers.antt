@@ -1,15 +1,16 @@
 use Rattle.match_master.specs.Held.{may_starve}
 use Rattle.session_pool.proofs.Places.{none_served}
-use Rattle.std.proofs.Common.{◌+◌}
+use Rattle.std.proofs.Common.{◌+◌, inr}
 use Rattle.board_commands.specs.Serving.{gauged}
 use Rattle.board_commands.proofs.Seated.{of_ok, serves_starved}
 use Rattle.board_commands.proofs.serving.serve_plain.Goals as goal
 
 pub serve_asked-requires-clause-nobody : goal.serve_asked-requires-clause-nobody
-serve_asked-requires-clause-nobody g c κs inside = of_ok _ c.watched_rooms.result (c.in-Ok.rooms, c.in-Ok.keeper) c.in-Ok.is (c.watched_rooms.ensures.nobody (c.args.asked.links + 1))
+serve_asked-requires-clause-nobody g c κs inside = of_ok _ c.watched_rooms.result (c.in-Ok.rooms, c.in-Ok.keeper) c.in-Ok.is (c.watched_rooms.ensures.nobody (c.args.asked.links + 2))
 
 pub returns-in-Err-clause-served : goal.returns-in-Err-clause-served
-returns-in-Err-clause-served g c none = none_served may_starve c.args.seed c.args.asked.links (g.D.Door.returned c.args.door) c.requires.none_back
+returns-in-Err-clause-served g c none =
+    inr (c.new.ensures.items, none_served may_starve c.args.seed c.args.asked.links (λ s. Unit {0}) (g.D.Door.returned c.args.door) c.requires.none_back)
 
 pub returns-in-Err-clause-serves : goal.returns-in-Err-clause-serves
 returns-in-Err-clause-serves g c =

@@ -12,6 +12,7 @@ is_free = refl
 pub returns : goal.returns
 returns c =
     let app_is : app_of c.in_ok-command.command ≡ serve_app = c.in_ok-command.ensures.shape c.flag.ensures.own
+    ∙ ap₂ with_rule (c.in_ok-arg-14.ensures.shape c.option-13.ensures.own
     ∙ ap₂ with_rule (c.in_ok-arg-13.ensures.shape c.option-12.ensures.own
     ∙ ap₂ with_rule (c.in_ok-arg-12.ensures.shape c.option-11.ensures.own
     ∙ ap₂ with_rule (c.in_ok-arg-11.ensures.shape c.option-10.ensures.own
@@ -24,7 +25,7 @@ returns c =
     ∙ ap₂ with_rule (c.in_ok-arg-4.ensures.shape c.option-3.ensures.own
     ∙ ap₂ with_rule (c.in_ok-arg-3.ensures.shape c.option-2.ensures.own
     ∙ ap₂ with_rule (c.in_ok-arg-2.ensures.shape c.option.ensures.own
-    ∙ ap₂ with_rule (c.in_ok-arg.ensures.shape c.needed.ensures.own ∙ ap₂ with_rule c.new.ensures.app c.needed.ensures.rule) c.option.ensures.rule) c.option-2.ensures.rule) c.option-3.ensures.rule) c.option-4.ensures.rule) c.option-5.ensures.rule) c.option-6.ensures.rule) c.option-7.ensures.rule) c.option-8.ensures.rule) c.option-9.ensures.rule) c.option-10.ensures.rule) c.option-11.ensures.rule) c.option-12.ensures.rule) c.flag.ensures.rule in
+    ∙ ap₂ with_rule (c.in_ok-arg.ensures.shape c.needed.ensures.own ∙ ap₂ with_rule c.new.ensures.app c.needed.ensures.rule) c.option.ensures.rule) c.option-2.ensures.rule) c.option-3.ensures.rule) c.option-4.ensures.rule) c.option-5.ensures.rule) c.option-6.ensures.rule) c.option-7.ensures.rule) c.option-8.ensures.rule) c.option-9.ensures.rule) c.option-10.ensures.rule) c.option-11.ensures.rule) c.option-12.ensures.rule) c.option-13.ensures.rule) c.flag.ensures.rule in
     let texts = map string_bytes c.args.words.now in
     let parse = c.try_get_matches_from in
     record {
