@@ -30,7 +30,8 @@ use std::thread::Threads;
 /// There is one of `readies` for each worker that the words ask for. The door has given no link, hasn't answered that it is shut, and tells of none
 /// that came back; no link is out when it comes back. `Usage` comes exactly where the words are in no form, and then nothing was asked of the door or
 /// the shelf, and nothing was printed. `hosts` says of each other end where it comes, and what the disk of each room has, which comes back in
-/// the order of the rooms, or none where there was no memory for them. Where a room can't be opened, no link is taken, and the end says why.
+/// the order of the rooms, or none where there was no memory for them; and that the links were served by the very histories of which it speaks, as
+/// `serve_opened` says. Where a room can't be opened, no link is taken, and the end says why: for one of the causes that `open_rooms` names.
 /// Where a room has stopped, the end is why the first one did, unless the door, the sink or memory failed.
 pub fn serve_kept<
     S: Shelf,

@@ -43,7 +43,7 @@ use std::thread::Threads;
 /// which is a function of the count of links and of the books that are handed back, in the order of the rooms, or none where there was no memory
 /// to set the rooms up; `completes`, that a door and a sink without a fault give `Done`, or there was no memory. Place p, one for
 /// each link at once, draws its words from stream p of the seed, one session after another; a door that tells what came back tells only links
-/// that were served so, where no bots were asked for.
+/// that were served so, where no bots were asked for, each by a session whose passes had seen beginnings of the books' histories in the end.
 ///
 /// There are as many of `bots`, and of `rests`, as the words ask for seats, and none where they ask for no bots. The bots sit at the seats of the
 /// first match of room 0, in order, as players over links of their own, which come before those of the door and count as sessions as they do. The

@@ -33,7 +33,9 @@ use std::thread::Threads;
 ///
 /// **kept** says what the disk of each has, if it went by the model of a disk when its room was opened: a room that hasn't stopped has the records of
 /// all its calls on its disk; whenever a crash came, it left the records of a first part of them; and from the moment of each reply that told a
-/// session anything, at least those of all calls up to that one.
+/// session anything, at least those of all calls up to that one. These calls are what the room's history has on top of what came before it was opened;
+/// and by these very histories, one of each room, were the links served that the door tells of: what the passes of their sessions had seen in the end
+/// are beginnings of them. A room stops only for a cause.
 pub fn serve_opened<
     D: Disk + Drop + Send,
     P: Door + Send,
