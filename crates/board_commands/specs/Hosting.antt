@@ -50,7 +50,7 @@ exit_after end.NoMemory rooms = NoMemory
 -- over disks with these meanings
 module _ {D : Type 0} (is_told : D → Type 0) (seen : D → List ℕ) (may_leave : D → List ℕ → Type 0) (moment : D → ℕ) (left_since : D → ℕ → List ℕ → Type 0) (disk_faults : D → ℕ) where
   -- the rooms that were asked for were opened from disks that the shelf gave, and served
-  pub record HasHosted (asked : ServeWords) (served : List Calls → Type 0) (exit : Exit) (closed : List (ClosedRoom D)) (given given_after : Option (List D)) (faults : ℕ) (links : Option ℕ) (shut : Bool)
+  pub record HasHosted (asked : ServeWords) (served : List Calls → List Calls → Type 0) (exit : Exit) (closed : List (ClosedRoom D)) (given given_after : Option (List D)) (faults : ℕ) (links : Option ℕ) (shut : Bool)
       (faults_after count sink_faults sink_faults_after : ℕ) : Type 0 where
     pub opened : List (OpenedRoom D)
     pub many : length opened ≡ asked.rooms
@@ -61,7 +61,7 @@ module _ {D : Type 0} (is_told : D → Type 0) (seen : D → List ℕ) (may_leav
     pub leaves : Leave is_told seen may_leave moment left_since disk_faults (starts_at opened) (length opened) served how closed
 
   -- or one of them wasn't opened, for a reason that is the end's, and no link was taken and nothing printed
-  abbrev pub Hosts : ServeWords → (List Calls → Type 0) → Exit → List (ClosedRoom D) → Option (List D) → Option (List D) → ℕ → Option ℕ → Bool → ℕ → ℕ → ℕ → ℕ → Type 0
-  Hosts asked served exit closed given given_after faults links shut faults_after count sink_faults sink_faults_after =
+  abbrev pub Hosts : ServeWords → (List Calls → List Calls → Type 0) → Exit → List (ClosedRoom D) → Option (List D) → Option (List D) → ℕ → ℕ → ℕ → Option ℕ → Bool → ℕ → ℕ → ℕ → ℕ → Type 0
+  Hosts asked served exit closed given given_after shelf_faults shelf_faults_after faults links shut faults_after count sink_faults sink_faults_after =
       HasHosted asked served exit closed given given_after faults links shut faults_after count sink_faults sink_faults_after
-      ⊎ ((why : OpenNo) × WereRefused is_told seen disk_faults asked.rooms given given_after why × (exit ≡ exit_of_opening why) × (closed ≡ []) × (count ≡ 0) × (faults_after ≡ faults) × (sink_faults_after ≡ sink_faults))
+      ⊎ ((why : OpenNo) × WereRefused is_told seen disk_faults asked.rooms given given_after shelf_faults shelf_faults_after why × (exit ≡ exit_of_opening why) × (closed ≡ []) × (count ≡ 0) × (faults_after ≡ faults) × (sink_faults_after ≡ sink_faults))

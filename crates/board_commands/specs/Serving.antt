@@ -1,12 +1,13 @@
 -- How `serve` ends, by what its words ask for, and what it then says of the door, the sink and the rooms that are handed back.
-use Rattle.std.specs.Prelude.{◌≡◌, ◌⊎◌, ◌≤◌, ◌<◌, ◌+◌, ℕ, List, [], Bool, Option, Some, None, IsSome, option_map}
+use Rattle.std.specs.Prelude.{◌≡◌, ◌⊎◌, ◌≤◌, ◌<◌, ◌+◌, ℕ, List, [], All, Bool, Option, Some, None, IsSome, option_map}
+use Rattle.any_game.specs.AnyRules.{any_rules}
 use Rattle.any_game.specs.GameKind.{GameKind}
 use Rattle.board_links.specs.Pieces.{told_bytes}
 use Rattle.command_words.specs.declared.serve.ServeWords.{ServeWords}
 use Rattle.door_serve.specs.Ends.{EndsBy, Reports}
 use Rattle.any_game.specs.declared.any_g.AnyG.{AnyG}
 use Rattle.door_serve.specs.Rooms.{Calls, Hosted, Stand, hosted, plain}
-use Rattle.match_master.specs.Held.{Held as Book}
+use Rattle.match_master.specs.Held.{Held as Book, StandsFor}
 use Rattle.room_keeper.specs.declared.gauged_room.GaugedRoom.{GaugedRoom}
 use Rattle.door_serve.specs.declared.serving.ServeEnd.{ServeEnd}
 use Rattle.door_serve.specs.declared.serving.ServeEnd.TheVariants as end
@@ -57,10 +58,15 @@ pub record Serves {B : Type 0} (known : Hosted B) (asked : ServeWords) (exit : E
   pub ended : EndsBy how asked.sessions faults (held_with asked.bots links) shut faults_after (bots + given) sink_faults sink_faults_after
   pub reports : IsSome held → Reports known asked.rooms (bots + given) rooms how (told_bytes held) held_after
 
--- Each room that comes back stands for one history, and links were served by sessions whose passes had seen beginnings of these in the end; or none
--- comes back, since there was no memory to set them up.
-abbrev pub ServedIn : {B : Type 0} → Hosted B → ((Standing → Type 0) → Type 0) → List B → Type 0
-ServedIn known served rooms = ((histories : List Calls) × Stand known.stands_for rooms histories × served (StandsIn histories)) ⊎ ((rooms ≡ []) × served (λ s. Unit {0}))
+-- Links were served by sessions whose passes had seen these histories before, of which this is known. Each room that comes back stands for one history, and
+-- the sessions' passes had seen beginnings of these in the end; or none comes back, since there was no memory to set them up.
+abbrev pub ServedIn : {B : Type 0} → Hosted B → (List Calls → Type 0) → (List Calls → (Standing → Type 0) → Type 0) → List B → Type 0
+ServedIn known opened served rooms = (pasts : List Calls) × opened pasts
+    × (((histories : List Calls) × Stand known.stands_for rooms histories × served pasts (StandsIn histories)) ⊎ ((rooms ≡ []) × served pasts (λ s. Unit {0})))
+
+-- each history comes to the same book as no call at all
+abbrev pub AreNew : List Calls → Type 0
+AreNew pasts = All (λ past. (book : Book GameKind AnyG) × StandsFor any_rules book [] × StandsFor any_rules book past) pasts
 
 -- rooms that keep nothing, each with a gauge
 abbrev pub gauged : Hosted (GaugedRoom GameKind (Book GameKind AnyG))

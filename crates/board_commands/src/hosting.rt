@@ -1,9 +1,10 @@
 //! Serves matches in rooms whose changes are kept, as the words of `serve` ask for.
 
-ghost use Rattle.std.specs.Prelude.{◌≡◌, ◌≤◌, ◌<◌, ◌⊎◌, ◌++◌, [], IfSome, None, Option, Some, false, map, option_map, string_bytes, vec_len};
+ghost use Rattle.std.specs.Prelude.{◌≡◌, ◌≤◌, ◌<◌, ◌⊎◌, ◌++◌, List, [], IfSome, None, Option, Some, false, map, option_map, string_bytes, vec_len};
 ghost use Rattle.command_words.specs.Serve.{serve_from};
 ghost use Rattle.command_words.specs.declared.serve.ServeWords.{ServeWords as Asked};
 ghost use Rattle.kept_room.specs.Asides.{may_refuse};
+ghost use Rattle.kept_room.specs.Journal.{Calls};
 ghost use Rattle.line_runner.specs.declared.exit.Exit.TheVariants.{Usage};
 ghost use Rattle.session_pool.specs.Sittings.{AreServed};
 ghost use Rattle.session_pool.specs.Watched.{StandsIn};
@@ -30,8 +31,9 @@ use std::thread::Threads;
 /// There is one of `readies` for each worker that the words ask for. The door has given no link, hasn't answered that it is shut, and tells of none
 /// that came back; no link is out when it comes back. `Usage` comes exactly where the words are in no form, and then nothing was asked of the door or
 /// the shelf, and nothing was printed. `hosts` says of each other end where it comes, and what the disk of each room has, which comes back in
-/// the order of the rooms, or none where there was no memory for them; and that the links were served by the very histories of which it speaks, as
-/// `serve_opened` says. Where a room can't be opened, no link is taken, and the end says why: for one of the causes that `open_rooms` names.
+/// the order of the rooms, or none where there was no memory for them; and that the links were served by the very histories of which it speaks, by
+/// sessions that began having seen what the rooms stood for when serving began, as `serve_opened` says. Where a room can't be opened, no link is taken,
+/// and the end says why: for one of the causes that `open_rooms` names.
 /// Where a room has stopped, the end is why the first one did, unless the door, the sink or memory failed.
 pub fn serve_kept<
     S: Shelf,
@@ -59,16 +61,18 @@ where
     requires none_back { IfSome (P.returned door) (λ told. told ≡ []) }
     ensures out { (P.out result.1 ≡ 0) × (P.bots_out result.1 ≡ 0) }
     ensures sink_never_falls { K.faults sink.old ≤ K.faults sink.new }
+    ensures shelf_never_falls { S.faults shelf.old ≤ S.faults shelf.new }
     ensures usage { result.0 ≡ Usage → serve_from (map string_bytes words.now) ≡ None }
     ensures refused { serve_from (map string_bytes words.now) ≡ None → IsRefused result.0 × (result.2.items ≡ []) }
     ensures untouched_door { serve_from (map string_bytes words.now) ≡ None → result.1 ≡ door }
     ensures untouched_sink { serve_from (map string_bytes words.now) ≡ None → sink.new ≡ sink.old }
     ensures untouched_shelf { serve_from (map string_bytes words.now) ≡ None → shelf.new ≡ shelf.old }
-    ensures served { (asked : Asked) → serve_from (map string_bytes words.now) ≡ Some asked → AreServed may_refuse seed asked.links (λ s. Unit {0}) (P.returned result.1) }
+    ensures served { (asked : Asked) → serve_from (map string_bytes words.now) ≡ Some asked
+        → (pasts : List Calls) × AreServed may_refuse seed asked.links pasts (λ s. Unit {0}) (P.returned result.1) }
     ensures hosts { (asked : Asked) → serve_from (map string_bytes words.now) ≡ Some asked
         → Hosts S.D.is_told S.D.seen S.D.may_leave S.D.moment S.D.left_since S.D.faults asked
-        (λ histories. AreServed may_refuse seed asked.links (StandsIn histories) (P.returned result.1)) result.0 result.2.items (S.given shelf.old) (S.given shelf.new)
-        (P.faults door) (P.left door) (P.shut result.1) (P.faults result.1) (P.given result.1) (K.faults sink.old) (K.faults sink.new) }
+        (λ pasts histories. AreServed may_refuse seed asked.links pasts (StandsIn histories) (P.returned result.1)) result.0 result.2.items (S.given shelf.old) (S.given shelf.new)
+        (S.faults shelf.old) (S.faults shelf.new) (P.faults door) (P.left door) (P.shut result.1) (P.faults result.1) (P.given result.1) (K.faults sink.old) (K.faults sink.new) }
 {
     match serve_words(alloc, words) {
         Ok(asked) => host_asked(rt, alloc, asked, shelf, readies, door, sink, seed, outside),
@@ -114,10 +118,11 @@ where
     requires none_back { IfSome (P.returned door) (λ told. told ≡ []) }
     ensures out { (P.out result.1 ≡ 0) × (P.bots_out result.1 ≡ 0) }
     ensures sink_never_falls { K.faults sink.old ≤ K.faults sink.new }
-    ensures served { AreServed may_refuse seed asked.links (λ s. Unit {0}) (P.returned result.1) }
+    ensures shelf_never_falls { S.faults shelf.old ≤ S.faults shelf.new }
+    ensures served { (pasts : List Calls) × AreServed may_refuse seed asked.links pasts (λ s. Unit {0}) (P.returned result.1) }
     ensures hosts { Hosts S.D.is_told S.D.seen S.D.may_leave S.D.moment S.D.left_since S.D.faults asked
-        (λ histories. AreServed may_refuse seed asked.links (StandsIn histories) (P.returned result.1)) result.0 result.2.items (S.given shelf.old) (S.given shelf.new)
-        (P.faults door) (P.left door) (P.shut result.1) (P.faults result.1) (P.given result.1) (K.faults sink.old) (K.faults sink.new) }
+        (λ pasts histories. AreServed may_refuse seed asked.links pasts (StandsIn histories) (P.returned result.1)) result.0 result.2.items (S.given shelf.old) (S.given shelf.new)
+        (S.faults shelf.old) (S.faults shelf.new) (P.faults door) (P.left door) (P.shut result.1) (P.faults result.1) (P.given result.1) (K.faults sink.old) (K.faults sink.new) }
 {
     let rooms = asked.rooms;
     let links = asked.links;

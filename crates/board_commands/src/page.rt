@@ -16,8 +16,8 @@ board_server serve --listen ADDRESS [--rooms 16] [--workers 8] [--links N] [--se
     clears a match that no session looked at for so many minutes; tells at a second address, by HTTP, what goes on; gives browsers the page in a folder;
     keeps each room in a journal in a folder, and goes on from there at the next start; with bots at all seats of a first match, fewer than N, which answer at once or after so many seconds
 board_server play --connect ADDRESS --game NAME --match MATCH [--seat SEAT --key KEY] [--draw]
-    plays a match by the commands on standard input: act ACT, move NAME ARGS, end turn, undo, redo, read, wait, show, end;
-    and draws what is shown
+    plays a match by the commands on standard input: act ACT, move NAME ARGS, end turn, end stage, end phase, undo, redo, read,
+    wait, show, end; and draws what is shown
 board_server script
     plays the script on standard input, and prints its transcript
 board_server kept FILE

@@ -6,14 +6,14 @@ ghost use Rattle.board_links.specs.Faults.{HasRisen};
 ghost use Rattle.command_words.specs.Serve.{serve_from};
 ghost use Rattle.command_words.specs.declared.serve.ServeWords.{ServeWords as Asked};
 ghost use Rattle.link_play.specs.Ends.{IsComplete};
-ghost use Rattle.door_serve.specs.Rooms.{Calls, hosted};
+ghost use Rattle.door_serve.specs.Rooms.{Calls, Stand, hosted};
 ghost use Rattle.hosted_room.specs.Calls.{NobodyIn};
 ghost use Rattle.session_pool.specs.Rooms.{numbers};
 ghost use Rattle.session_pool.specs.Sittings.{AreServed};
 ghost use Rattle.match_master.specs.Held.{may_starve};
 ghost use Rattle.line_runner.specs.declared.exit.Exit.TheVariants.{Usage};
 ghost use Rattle.board_commands.specs.Playing.{IsRefused};
-ghost use Rattle.board_commands.specs.Serving.{ServedIn, Serves, exit_of, gauged, seats_asked};
+ghost use Rattle.board_commands.specs.Serving.{AreNew, ServedIn, Serves, exit_of, gauged, seats_asked};
 
 use crate::seating::serve_seated;
 use any_game::AnyGame;
@@ -43,7 +43,8 @@ use std::thread::Threads;
 /// which is a function of the count of links and of the books that are handed back, in the order of the rooms, or none where there was no memory
 /// to set the rooms up; `completes`, that a door and a sink without a fault give `Done`, or there was no memory. Place p, one for
 /// each link at once, draws its words from stream p of the seed, one session after another; a door that tells what came back tells only links
-/// that were served so, where no bots were asked for, each by a session whose passes had seen beginnings of the books' histories in the end.
+/// that were served so, where no bots were asked for, each by a session whose passes had seen beginnings of the books' histories in the end, and
+/// before its first turn at least what the new books stood for, which comes to nothing.
 ///
 /// There are as many of `bots`, and of `rests`, as the words ask for seats, and none where they ask for no bots. The bots sit at the seats of the
 /// first match of room 0, in order, as players over links of their own, which come before those of the door and count as sessions as they do. The
@@ -86,7 +87,7 @@ where
         → Serves gauged asked result.0 result.2.items (D.faults door) (D.left door) (D.shut result.1) (D.faults result.1) (D.given result.1)
         (K.faults sink.old) (K.faults sink.new) (K.held sink.old) (K.held sink.new) }
     ensures served { (asked : Asked) → serve_from (map string_bytes words.now) ≡ Some asked → asked.bots ≡ None
-        → ServedIn gauged (λ knows. AreServed may_starve seed asked.links knows (D.returned result.1)) result.2.items }
+        → ServedIn gauged AreNew (λ pasts knows. AreServed may_starve seed asked.links pasts knows (D.returned result.1)) result.2.items }
     ensures completes { (asked : Asked) → serve_from (map string_bytes words.now) ≡ Some asked
         → (HasRisen (D.faults door) (D.faults result.1) → ⊥) → (HasRisen (K.faults sink.old) (K.faults sink.new) → ⊥) → IsComplete result.0 }
 {
@@ -142,7 +143,8 @@ where
     requires none_back { IfSome (D.returned door) (λ told. told ≡ []) }
     ensures out { (D.out result.1 ≡ 0) × (D.bots_out result.1 ≡ 0) }
     ensures sink_never_falls { K.faults sink.old ≤ K.faults sink.new }
-    ensures served { asked.bots ≡ None → ServedIn gauged (λ knows. AreServed may_starve seed asked.links knows (D.returned result.1)) result.2.items }
+    ensures served { asked.bots ≡ None
+        → ServedIn gauged AreNew (λ pasts knows. AreServed may_starve seed asked.links pasts knows (D.returned result.1)) result.2.items }
     ensures serves { Serves gauged asked result.0 result.2.items (D.faults door) (D.left door) (D.shut result.1) (D.faults result.1) (D.given result.1)
         (K.faults sink.old) (K.faults sink.new) (K.held sink.old) (K.held sink.new) }
 {
@@ -177,6 +179,7 @@ fn watched_rooms<C: Outside>(
     requires rooms { rooms ≤ 64 }
     ensures count { IfOk result (λ r. vec_len r.0 ≡ rooms) }
     ensures numbered { IfOk result (λ r. map (λ b. ⟦<GaugedRoom<AnyGame, Book<AnyGame>> as Object>⟧.number b) r.0.items ≡ numbers 0 (vec_len r.0)) }
+    ensures fresh { IfOk result (λ r. All (λ b. ⟦<GaugedRoom<AnyGame, Book<AnyGame>> as Object>⟧.stands_for b []) r.0.items) }
     ensures stand { IfOk result (λ r. All (λ b. (past : Calls) × ⟦<GaugedRoom<AnyGame, Book<AnyGame>> as Object>⟧.stands_for b past) r.0.items) }
     ensures nobody { (places : ℕ) → IfOk result (λ r. All (λ b. (past : Calls) → ⟦<GaugedRoom<AnyGame, Book<AnyGame>> as Object>⟧.stands_for b past
         → NobodyIn any_rules places (⟦<GaugedRoom<AnyGame, Book<AnyGame>> as Object>⟧.number b) past) r.0.items) }
@@ -223,7 +226,8 @@ where
     ensures out { (D.out result.1 ≡ 0) × (D.bots_out result.1 ≡ 0) }
     ensures sink_never_falls { K.faults sink.old ≤ K.faults sink.new }
     ensures served { asked.bots ≡ None
-        → ServedIn (hosted B.number B.stands_for B.has_stopped) (λ knows. AreServed B.may_starve seed asked.links knows (D.returned result.1)) result.2.items }
+        → ServedIn (hosted B.number B.stands_for B.has_stopped) (Stand B.stands_for rooms.items)
+        (λ pasts knows. AreServed B.may_starve seed asked.links pasts knows (D.returned result.1)) result.2.items }
     ensures serves { Serves (hosted B.number B.stands_for B.has_stopped) asked result.0 result.2.items (D.faults door) (D.left door) (D.shut result.1)
         (D.faults result.1) (D.given result.1) (K.faults sink.old) (K.faults sink.new) (K.held sink.old) (K.held sink.new) }
 {

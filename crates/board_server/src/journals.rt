@@ -6,12 +6,13 @@ use kept_serve::Shelf;
 use object_journal::OpenNo;
 use room_disk::FileDisk;
 
-/// The journals in a folder. What becomes of each room is said on standard error, and then where the server listens; a line that can't be written is
-/// lost. No clause says which disks it gave.
+/// The journals in a folder, and how many could not be opened. What becomes of each room is said on standard error, and then where the server listens; a
+/// line that can't be written is lost. No clause says which disks it gave.
 pub struct Journals {
     rt: HostRuntime,
     folder: Text,
     addresses: Addresses,
+    faults: u64,
 }
 
 impl Drop for Journals {
@@ -20,6 +21,7 @@ impl Drop for Journals {
             rt: _,
             folder,
             addresses: _,
+            faults: _,
         } = self;
         drop(folder);
     }
@@ -32,6 +34,7 @@ impl Journals {
             rt,
             folder,
             addresses,
+            faults: 0,
         }
     }
 }
@@ -43,9 +46,12 @@ impl Shelf for Journals {
 
     ghost given = { λ j. None };
 
+    ghost faults = { λ j. j.faults };
+
     fn disk(&mut self, room: u8) -> Option<FileDisk> {
         let Ok(path) = format!(in self.rt.alloc(); "{}/room-{room}.journal", self.folder.as_str())
         else {
+            self.faults = self.faults.saturating_add(1);
             return None;
         };
         let opened = open_journal(&self.rt, path.as_str());
@@ -55,6 +61,7 @@ impl Shelf for Journals {
             Err(error) => {
                 let _said = eprintln!(self.rt; "room {room}: {error}");
                 drop(error);
+                self.faults = self.faults.saturating_add(1);
                 None
             }
         }

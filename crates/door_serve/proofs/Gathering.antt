@@ -6,7 +6,8 @@ use mathlib.Core.Logic.{dite}
 use native.Mathlib.Decide.{ℕ_discrete}
 use Rattle.room_desk.specs.History.{DeskId, Held, SetUp, dealt, held}
 use Rattle.room_object.specs.Entry.{Entry}
-use Rattle.session_pool.specs.Passes.{Belong, Pass, dealt_by, number_of, unseen}
+use Rattle.session_pool.specs.Passes.{Belong, Pass, number_of, unseen}
+use Rattle.session_pool.proofs.Watching.{own_desks}
 use Rattle.door_serve.specs.Rooms.{desks_of}
 
 abbrev tail_of : {X : Type 0} → List X → List X
@@ -79,16 +80,7 @@ pub as_many : (passes : List Pass) (n : ℕ) (d : DeskId) → desks_of passes �
 as_many passes n d is =
     let l = ap length is in let m = length-map passes (λ (q : Pass). q.desk) in let r = length-replicate n d in omega (arith, l, m, r)
 
--- passes that belong to desks are theirs
-pub own_desks : (desks : List SetUp) (number : ℕ) (row : List Pass) → Belong desks number row → desks_of row ≡ map (λ d. d.desk) desks
-own_desks desks number row is =
-    map_both unseen (λ (p : Pass). p.desk) row ∙ (ap desks_of is ∙ sym (map_both (dealt_by number) (λ (p : Pass). p.desk) desks))
-  where
-    map_both : {X Y Z : Type 0} (f : X → Y) (g : Y → Z) (xs : List X) → map (λ x. g (f x)) xs ≡ map g (map f xs)
-    map_both f g [] = refl
-    map_both f g (x ∷ xs) = ap (λ l. g (f x) ∷ l) (map_both f g xs)
-
--- and so are they when they were handed back
+-- passes that were handed back are their desks' still
 pub handed_back : {Row : Type 0} (items : Row → List Pass) (desks : List SetUp) (rows back : List Row) → map (λ v. map unseen (items v)) back ≡ map (λ v. map unseen (items v)) rows
     → All (λ v. Belong desks (number_of (items v)) (items v)) rows → All (λ v. desks_of (items v) ≡ map (λ d. d.desk) desks) back
 handed_back {Row = Row} items desks rows back e own k v low =

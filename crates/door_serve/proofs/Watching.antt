@@ -1,5 +1,5 @@
 -- What passes have seen of the histories for which rooms stand: how these are gathered, one desk after another, and what that says of a watch.
-use Rattle.std.proofs.Common.{◌≡◌, ◌≢◌, ◌<◌, ◌≤◌, ◌+◌, ℕ, List, [], ◌∷◌, ◌++◌, length, refl, sym, ap, ◌∙◌, subst, arith, slice_index_or, slice_set}
+use Rattle.std.proofs.Common.{◌≡◌, ◌≢◌, ◌<◌, ◌≤◌, ◌+◌, ℕ, List, [], ◌∷◌, ◌++◌, length, inl, inr, refl, sym, ap, ◌∙◌, subst, arith, slice_index_or, slice_set}
 use Rattle.std.specs.Prelude.{All}
 use Rattle.std.proofs.lemmas.List.{append_assoc, get_or-set_other, get_or-set_same, get_or_append_left, get_or_default, get_or_push, length-set, map-append}
 use mathlib.Core.Logic.{dite}
@@ -7,19 +7,10 @@ use native.Mathlib.Decide.{ℕ_discrete}
 use Rattle.room_desk.specs.History.{Begins, DeskId}
 use Rattle.session_pool.specs.Passes.{Pass}
 use Rattle.session_pool.specs.Watched.{AllBegin, History, seen_of}
-use Rattle.door_serve.specs.Rooms.{Calls, LoseLast, Stand, desks_of}
-
-begins_through : (h w s : History) → Begins h w → Begins w s → Begins h s
-begins_through h w s a b = (a.0 ++ b.0, a.1 ∙ (ap (λ l. a.0 ++ l) b.1 ∙ sym (append_assoc a.0 b.0 s)))
-
--- beginnings of beginnings
-pub all_through : (histories watch seen : List History) → AllBegin histories watch → AllBegin watch seen → AllBegin histories seen
-all_through [] [] [] a b = tt
-all_through [] [] (s ∷ seen) a b = absurd b
-all_through [] (w ∷ watch) seen a b = absurd a
-all_through (h ∷ histories) [] seen a b = absurd a
-all_through (h ∷ histories) (w ∷ watch) [] a b = absurd b
-all_through (h ∷ histories) (w ∷ watch) (s ∷ seen) a b = (begins_through h w s a.0 b.0, all_through histories watch seen a.1 b.1)
+use Rattle.session_pool.proofs.Seeing.{all_same, stand_more}
+use Rattle.door_serve.specs.Ends.{AreBack, AreGiven}
+use Rattle.door_serve.specs.Rooms.{Calls, Hosted, LoseLast, Stand, desks_of}
+use Rattle.door_serve.specs.declared.serving.ServeEnd.{ServeEnd}
 
 -- one history more, of which one pass more has seen a beginning
 begin_more : (histories seen : List History) (h s : History) → AllBegin histories seen → Begins h s → AllBegin (histories ++ h ∷ []) (seen ++ s ∷ [])
@@ -90,15 +81,21 @@ module _ {Row : Type 0} (items : Row → List Pass) where
   none_begun rows ds e all k r low = none_seen (items (slice_index_or rows k r)) (all k r low ∙ e)
 
 module _ {B : Type 0} (stands_for : B → Calls → Type 0) where
-  stand_more : (rooms : List B) (histories : List Calls) (room : B) (h : Calls) → Stand stands_for rooms histories → stands_for room h → Stand stands_for (rooms ++ room ∷ []) (histories ++ h ∷ [])
-  stand_more [] [] room h all here = (here, tt)
-  stand_more [] (g ∷ histories) room h all here = absurd all
-  stand_more (b ∷ rooms) [] room h all here = absurd all
-  stand_more (b ∷ rooms) (g ∷ histories) room h all here = (all.0, stand_more rooms histories room h all.1 here)
-
   -- one room more
   pub one_room_more : (rooms after : List B) (room : B) (before histories : List Calls) (h : Calls) → after ≡ rooms ++ room ∷ [] → Stand stands_for rooms (before ++ histories) → stands_for room h
       → Stand stands_for after (before ++ (histories ++ h ∷ []))
   one_room_more rooms after room before histories h push all here =
       subst (λ bs. Stand stands_for bs (before ++ (histories ++ h ∷ []))) (sym push)
-      (subst (Stand stands_for (rooms ++ room ∷ [])) (append_assoc before histories (h ∷ [])) (stand_more rooms (before ++ histories) room h all here))
+      (subst (Stand stands_for (rooms ++ room ∷ [])) (append_assoc before histories (h ∷ [])) (stand_more stands_for rooms (before ++ histories) room h all here))
+
+-- ---- what rooms stood for when they were handed in
+
+-- histories that are the same begin alike
+pub all_alike : (seen watch pasts : List History) → seen ≡ pasts → watch ≡ pasts → AllBegin seen watch
+all_alike seen watch pasts e f = subst (AllBegin seen) (e ∙ sym f) (all_same seen)
+
+-- of rooms whose passes had seen what they stood for
+pub given_back : {B : Type 0} (known : Hosted B) (before rooms : List B) (many : ℕ) (how : ServeEnd) (seen pasts : List History) (served : List Calls → List Calls → Type 0) → Stand known.stands_for before pasts
+    → seen ≡ pasts → AreBack known many how rooms (λ histories. served seen histories) → AreGiven known many how before rooms served
+given_back known before rooms many how seen pasts served stood e (inl (histories, closed, told)) = inl (pasts, histories, stood, closed, subst (λ l. served l histories) e told)
+given_back known before rooms many how seen pasts served stood e (inr none) = inr none

@@ -38,8 +38,15 @@ pub record AreClosed {B : Type 0} (known : Hosted B) (count : ℕ) (rooms : List
   pub stand : Stand known.stands_for rooms histories
 
 -- the rooms come back, each standing for one history, and what was served fits these histories; or there was no memory to set them up
-abbrev pub AreGiven : {B : Type 0} → Hosted B → ℕ → ServeEnd → List B → (List Calls → Type 0) → Type 0
-AreGiven known many how rooms served = ((histories : List Calls) × AreClosed known many rooms histories × served histories) ⊎ ((how ≡ end.NoMemory) × (rooms ≡ []))
+abbrev pub AreBack : {B : Type 0} → Hosted B → ℕ → ServeEnd → List B → (List Calls → Type 0) → Type 0
+AreBack known many how rooms served = ((histories : List Calls) × AreClosed known many rooms histories × served histories) ⊎ ((how ≡ end.NoMemory) × (rooms ≡ []))
+
+-- the rooms stood for these histories when they were handed in; they come back, each standing for one history, and what was served fits both; or there
+-- was no memory to set them up
+abbrev pub AreGiven : {B : Type 0} → Hosted B → ℕ → ServeEnd → List B → List B → (List Calls → List Calls → Type 0) → Type 0
+AreGiven known many how before rooms served =
+    ((pasts : List Calls) × (histories : List Calls) × Stand known.stands_for before pasts × AreClosed known many rooms histories × served pasts histories)
+    ⊎ ((how ≡ end.NoMemory) × (rooms ≡ []))
 
 -- what is handed back, and what was printed: the report of so many rooms; or there was no memory to set them up, and nothing was printed
 abbrev pub Reports : {B : Type 0} → Hosted B → ℕ → ℕ → List B → ServeEnd → List ℕ → Option (List ℕ) → Type 0

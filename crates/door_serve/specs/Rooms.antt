@@ -7,6 +7,7 @@ use Rattle.match_master.specs.Held.{Held as Book, StandsFor}
 use Rattle.room_desk.specs.History.{DeskId, Held}
 use Rattle.room_history.specs.declared.call.RoomCall.{RoomCall}
 use Rattle.room_object.specs.Entry.{Entry}
+use Rattle.session_pool.specs.Rooms.{StandFor}
 
 -- the calls of a room, the latest first
 abbrev pub Calls : Type 0
@@ -32,9 +33,7 @@ hosted number stands_for has_stopped = record { number = number; stands_for = st
 
 -- rooms stand for these histories, one by one
 abbrev pub Stand : {B : Type 0} → (B → Calls → Type 0) → List B → List Calls → Type 0
-Stand stands_for [] [] = Unit {0}
-Stand stands_for (room ∷ rooms) (h ∷ histories) = stands_for room h × Stand stands_for rooms histories
-Stand stands_for rooms histories = ⊥
+Stand stands_for rooms histories = StandFor stands_for rooms histories
 
 -- rooms are numbered from one on
 abbrev pub Numbered : {B : Type 0} → (B → ℕ) → ℕ → List B → Type 0

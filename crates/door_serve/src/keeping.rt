@@ -5,7 +5,7 @@ ghost use Rattle.link_rounds.specs.Gate.{Ended};
 ghost use Rattle.session_pool.specs.Passes.{Belong, number_of, unseen};
 ghost use Rattle.session_pool.specs.Placed.{AttachedBy};
 ghost use Rattle.session_pool.specs.Sittings.{AreServed};
-ghost use Rattle.session_pool.specs.Watched.{StandsIn, seen_of};
+ghost use Rattle.session_pool.specs.Watched.{AllBegin, StandsIn, seen_of};
 ghost use Rattle.door_serve.specs.Rooms.{desks_of};
 
 use any_game::AnyGame;
@@ -143,6 +143,7 @@ where
     requires belong { All (λ p. Belong (H.lent desks.now).items (number_of p.items) p.items) passes.items }
     requires free { All (λ p. AttachedBy p.items None) passes.items }
     requires within { All (λ p. number_of p.items < vec_len passes) passes.items }
+    requires began { All (λ p. AllBegin (seen_of p.items) (seen_of watch.items)) passes.items }
     requires bench { (vec_len bench_passes ≡ vec_len passes) × All (λ p. p.desk ≡ bench.now.desk) bench_passes.items }
     requires watch { desks_of watch.items ≡ map (λ d. d.desk) (H.lent desks.now).items }
     requires fresh { (D.given door ≡ 0) × (D.out door ≡ 0) × (D.bots_out door ≡ 0) × (D.shut door ≡ false) }
@@ -151,7 +152,7 @@ where
     ensures given { D.given result.5 ≡ result.1 }
     ensures ended { Ended sessions (D.faults door) (D.left door) (D.shut result.5) (D.faults result.5) result.1 (Some result.0) }
     ensures watch { desks_of result.4.items ≡ map (λ d. d.desk) (H.lent desks.now).items }
-    ensures served { AreServed B.may_starve seed (vec_len passes) (StandsIn (seen_of result.4.items)) (D.returned result.5) }
+    ensures served { AreServed B.may_starve seed (vec_len passes) (seen_of watch.items) (StandsIn (seen_of result.4.items)) (D.returned result.5) }
     ensures handed { map (λ p. map unseen p.items) result.2.items ≡ map (λ p. map unseen p.items) passes.items }
 {
     let served = serve_door(
@@ -214,6 +215,7 @@ where
     requires belong { All (λ p. Belong (H.lent desks.now).items (number_of p.items) p.items) passes.items }
     requires free { All (λ p. AttachedBy p.items None) passes.items }
     requires within { All (λ p. number_of p.items < vec_len passes) passes.items }
+    requires began { All (λ p. AllBegin (seen_of p.items) (seen_of watch.items)) passes.items }
     requires own { desks_of own.items ≡ map (λ d. d.desk) (H.lent desks.now).items }
     requires bench { (vec_len bench_passes ≡ vec_len passes) × All (λ p. p.desk ≡ bench.now.desk) bench_passes.items }
     requires watch { desks_of watch.items ≡ map (λ d. d.desk) (H.lent desks.now).items }
@@ -223,7 +225,7 @@ where
     ensures given { D.given result.0.5 ≡ result.0.1 }
     ensures ended { Ended sessions (D.faults door) (D.left door) (D.shut result.0.5) (D.faults result.0.5) result.0.1 (Some result.0.0) }
     ensures watch { desks_of result.0.4.items ≡ map (λ d. d.desk) (H.lent desks.now).items }
-    ensures served { AreServed B.may_starve seed (vec_len passes) (StandsIn (seen_of result.0.4.items)) (D.returned result.0.5) }
+    ensures served { AreServed B.may_starve seed (vec_len passes) (seen_of watch.items) (StandsIn (seen_of result.0.4.items)) (D.returned result.0.5) }
     ensures handed { map (λ p. map unseen p.items) result.0.2.items ≡ map (λ p. map unseen p.items) passes.items }
     ensures own { desks_of result.1.items ≡ desks_of own.items }
 {
@@ -249,6 +251,7 @@ where
             requires belong { All (λ p. Belong (H.lent desks.now).items (number_of p.items) p.items) passes.items }
             requires free { All (λ p. AttachedBy p.items None) passes.items }
             requires within { All (λ p. number_of p.items < vec_len passes) passes.items }
+            requires began { All (λ p. AllBegin (seen_of p.items) (seen_of watch.items)) passes.items }
             requires bench { (vec_len bench_passes ≡ vec_len passes) × All (λ p. p.desk ≡ bench.now.desk) bench_passes.items }
             requires watch { desks_of watch.items ≡ map (λ d. d.desk) (H.lent desks.now).items }
             requires fresh { (D.given door ≡ 0) × (D.out door ≡ 0) × (D.bots_out door ≡ 0) × (D.shut door ≡ false) }
@@ -257,7 +260,7 @@ where
             ensures given { D.given result.5 ≡ result.1 }
             ensures ended { Ended sessions (D.faults door) (D.left door) (D.shut result.5) (D.faults result.5) result.1 (Some result.0) }
             ensures watch { desks_of result.4.items ≡ map (λ d. d.desk) (H.lent desks.entry.now).items }
-            ensures served { AreServed B.may_starve seed (vec_len passes) (StandsIn (seen_of result.4.items)) (D.returned result.5) }
+            ensures served { AreServed B.may_starve seed (vec_len passes) (seen_of watch.items) (StandsIn (seen_of result.4.items)) (D.returned result.5) }
             ensures handed { map (λ p. map unseen p.items) result.2.items ≡ map (λ p. map unseen p.items) passes.items }
         {
             serve_until_over(
@@ -321,6 +324,7 @@ where
     requires belong { All (λ p. Belong desks.now.items (number_of p.items) p.items) passes.items }
     requires free { All (λ p. AttachedBy p.items None) passes.items }
     requires within { All (λ p. number_of p.items < vec_len passes) passes.items }
+    requires began { All (λ p. AllBegin (seen_of p.items) (seen_of watch.items)) passes.items }
     requires own { desks_of own.items ≡ map (λ d. d.desk) desks.now.items }
     requires bench { (vec_len bench_passes ≡ vec_len passes) × All (λ p. p.desk ≡ bench.now.desk) bench_passes.items }
     requires watch { desks_of watch.items ≡ map (λ d. d.desk) desks.now.items }
@@ -330,7 +334,7 @@ where
     ensures given { D.given result.0.5 ≡ result.0.1 }
     ensures ended { Ended sessions (D.faults door) (D.left door) (D.shut result.0.5) (D.faults result.0.5) result.0.1 (Some result.0.0) }
     ensures watch { desks_of result.0.4.items ≡ map (λ d. d.desk) desks.now.items }
-    ensures served { AreServed B.may_starve seed (vec_len passes) (StandsIn (seen_of result.0.4.items)) (D.returned result.0.5) }
+    ensures served { AreServed B.may_starve seed (vec_len passes) (seen_of watch.items) (StandsIn (seen_of result.0.4.items)) (D.returned result.0.5) }
     ensures handed { map (λ p. map unseen p.items) result.0.2.items ≡ map (λ p. map unseen p.items) passes.items }
     ensures own { desks_of result.1.items ≡ desks_of own.items }
 {

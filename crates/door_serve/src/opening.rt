@@ -1,6 +1,6 @@
 //! The match at which bots are to sit, which is made before any link is taken.
 
-ghost use Rattle.std.specs.Prelude.{◌≡◌, ◌<◌, ℕ, All, None, length, not, vec_len};
+ghost use Rattle.std.specs.Prelude.{◌≡◌, ◌<◌, ℕ, List, All, None, length, not, vec_len};
 ghost use Rattle.dice_words.specs.Strip.{live};
 ghost use Rattle.game_hall.specs.Words.{seed_of};
 ghost use Rattle.match_master.specs.Held.{is_starved};
@@ -9,6 +9,8 @@ ghost use Rattle.room_history.specs.declared.reply.RoomReply.{RoomReply as Reply
 ghost use Rattle.session_driver.specs.Calls.{did};
 ghost use Rattle.session_pool.specs.Passes.{Belong, CallsDesk, number_of};
 ghost use Rattle.session_pool.specs.Placed.{AttachedBy};
+ghost use Rattle.session_pool.specs.Watched.{AllBegin, seen_of};
+ghost use Rattle.door_serve.specs.Rooms.{Calls};
 
 use any_game::AnyGame;
 use dice_words::Tape;
@@ -50,6 +52,7 @@ fn make_match<B: HostedRoom<AnyGame>, R: Wait>(
     ensures belong { Belong desks.now (number_of passes.new) passes.new }
     ensures number { number_of passes.new ≡ number_of passes.old }
     ensures free { AttachedBy passes.new None }
+    ensures began { (pasts : List Calls) → AllBegin (seen_of passes.old) pasts → AllBegin (seen_of passes.new) pasts }
 {
     let seed = seed_for(seed);
     let reply = desks[0].call(rt, &mut passes[0], RoomCall::Create { game, seats, seed });
@@ -84,6 +87,7 @@ pub(crate) fn open_match<B: HostedRoom<AnyGame>, R: Wait>(
     ensures belong { All (λ p. Belong desks.now (number_of p.items) p.items) rows.new.items }
     ensures free { All (λ p. AttachedBy p.items None) rows.new.items }
     ensures within { (places : ℕ) → All (λ p. number_of p.items < places) rows.old.items → All (λ p. number_of p.items < places) rows.new.items }
+    ensures began { (pasts : List Calls) → All (λ p. AllBegin (seen_of p.items) pasts) rows.old.items → All (λ p. AllBegin (seen_of p.items) pasts) rows.new.items }
 {
     let Some((game, seats)) = table else {
         return true;

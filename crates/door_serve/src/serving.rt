@@ -1,6 +1,6 @@
 //! Makes the match of bots, serves the links of a door beside a keeper, closes the rooms, and reports.
 
-ghost use Rattle.std.specs.Prelude.{◌≡◌, ◌≤◌, ◌<◌, ◌+◌, ◌++◌, ◌∷◌, ℕ, [], All, IfOk, IfSome, IsSome, None, false, length, map, vec_capacity, vec_len};
+ghost use Rattle.std.specs.Prelude.{◌≡◌, ◌≤◌, ◌<◌, ◌+◌, ◌++◌, ◌∷◌, ℕ, List, [], All, IfOk, IfSome, IsSome, None, false, length, map, vec_capacity, vec_len};
 ghost use Rattle.any_game.specs.AnyRules.{any_rules};
 ghost use Rattle.board_links.specs.Pieces.{told_bytes};
 ghost use Rattle.hosted_room.specs.Calls.{NobodyIn};
@@ -8,9 +8,9 @@ ghost use Rattle.session_pool.specs.Passes.{Belong, number_of, unseen};
 ghost use Rattle.session_pool.specs.Placed.{AttachedBy};
 ghost use Rattle.session_pool.specs.Rooms.{numbers, rows_from};
 ghost use Rattle.session_pool.specs.Sittings.{AreServed};
-ghost use Rattle.session_pool.specs.Watched.{StandsIn};
-ghost use Rattle.door_serve.specs.Ends.{AreGiven, EndsBy, Reports, end_of};
-ghost use Rattle.door_serve.specs.Rooms.{Calls, desks_of, hosted};
+ghost use Rattle.session_pool.specs.Watched.{AllBegin, StandsIn, seen_of};
+ghost use Rattle.door_serve.specs.Ends.{AreBack, AreGiven, EndsBy, Reports, end_of};
+ghost use Rattle.door_serve.specs.Rooms.{Calls, Stand, desks_of, hosted};
 
 use crate::closing::close_all;
 use crate::keeping::serve_with_keeper;
@@ -113,6 +113,8 @@ fn split_own<B: HostedRoom<AnyGame>>(
     ensures within { All (λ p. number_of p.items < places) result.0.items }
     ensures own { desks_of result.1.items ≡ map (λ d. d.desk) desks.now.items }
     ensures watch { desks_of result.2.items ≡ map (λ d. d.desk) desks.now.items }
+    ensures seen { (pasts : List Calls) → All (λ p. seen_of p.items ≡ pasts) rows.items
+        → All (λ p. seen_of p.items ≡ pasts) result.0.items × (seen_of result.2.items ≡ pasts) }
 {
     let Some(watch) = rows.pop() else {
         unreachable!()
@@ -164,7 +166,8 @@ fn end_of(end: DoorEnd, printed: Put) -> ServeEnd
 ///
 /// The rooms are numbered from 0. Each may have had calls before; at their end no pass of these places is attached, nor the two passes after them. Each
 /// room that comes back stands for one history. What each session whose link came back was told came from calls that are in these histories: its passes
-/// had seen beginnings of them. The report says of a room that hasn't stopped what its calls came to, and of one that has that it has stopped.
+/// had seen beginnings of them. Before its first turn they had seen all that the rooms stood for when they were handed in, so what it and others called
+/// since then comes later. The report says of a room that hasn't stopped what its calls came to, and of one that has that it has stopped.
 ///
 /// A keeper, if there is one, runs in a thread of its own from the first link on until serving is over. Each match that it names is cleared by the
 /// first pass after those of the places, if it stands then: an ordinary call of its room. When that is no clause says. The keeper ends within a second
@@ -208,11 +211,11 @@ where
     requires fresh { (D.given door ≡ 0) × (D.out door ≡ 0) × (D.bots_out door ≡ 0) × (D.shut door ≡ false) }
     requires none_back { IfSome (D.returned door) (λ told. told ≡ []) }
     ensures out { (D.out result.1 ≡ 0) × (D.bots_out result.1 ≡ 0) }
-    ensures served { AreServed B.may_starve seed places (λ s. Unit {0}) (D.returned result.1) }
+    ensures served { (pasts : List Calls) × Stand B.stands_for rooms.items pasts × AreServed B.may_starve seed places pasts (λ s. Unit {0}) (D.returned result.1) }
     ensures sink_never_falls { K.faults sink.old ≤ K.faults sink.new }
     ensures ended { EndsBy result.0 sessions (D.faults door) (D.left door) (D.shut result.1) (D.faults result.1) (D.given result.1) (K.faults sink.old) (K.faults sink.new) }
-    ensures closed { AreGiven (hosted B.number B.stands_for B.has_stopped) (vec_len rooms) result.0 result.2.items
-        (λ histories. AreServed B.may_starve seed places (StandsIn histories) (D.returned result.1)) }
+    ensures closed { AreGiven (hosted B.number B.stands_for B.has_stopped) (vec_len rooms) result.0 rooms.items result.2.items
+        (λ pasts histories. AreServed B.may_starve seed places pasts (StandsIn histories) (D.returned result.1)) }
     ensures reports { let known = hosted B.number B.stands_for B.has_stopped in IsSome (K.held sink.old)
         → Reports known (vec_len rooms) (D.given result.1) result.2.items result.0 (told_bytes (K.held sink.old)) (K.held sink.new) }
 {
@@ -275,11 +278,11 @@ where
     requires fresh { (D.given door ≡ 0) × (D.out door ≡ 0) × (D.bots_out door ≡ 0) × (D.shut door ≡ false) }
     requires none_back { IfSome (D.returned door) (λ told. told ≡ []) }
     ensures out { (D.out result.1 ≡ 0) × (D.bots_out result.1 ≡ 0) }
-    ensures served { AreServed B.may_starve seed places (λ s. Unit {0}) (D.returned result.1) }
+    ensures served { (pasts : List Calls) × Stand B.stands_for rooms.items pasts × AreServed B.may_starve seed places pasts (λ s. Unit {0}) (D.returned result.1) }
     ensures sink_never_falls { K.faults sink.old ≤ K.faults sink.new }
     ensures ended { EndsBy result.0 sessions (D.faults door) (D.left door) (D.shut result.1) (D.faults result.1) (D.given result.1) (K.faults sink.old) (K.faults sink.new) }
-    ensures closed { AreGiven (hosted B.number B.stands_for B.has_stopped) (vec_len rooms) result.0 result.2.items
-        (λ histories. AreServed B.may_starve seed places (StandsIn histories) (D.returned result.1)) }
+    ensures closed { AreGiven (hosted B.number B.stands_for B.has_stopped) (vec_len rooms) result.0 rooms.items result.2.items
+        (λ pasts histories. AreServed B.may_starve seed places pasts (StandsIn histories) (D.returned result.1)) }
     ensures reports { let known = hosted B.number B.stands_for B.has_stopped in IsSome (K.held sink.old)
         → Reports known (vec_len rooms) (D.given result.1) result.2.items result.0 (told_bytes (K.held sink.old)) (K.held sink.new) }
 {
@@ -362,17 +365,18 @@ where
     requires belong { All (λ p. Belong desks.items (number_of p.items) p.items) rows.items }
     requires free { All (λ p. AttachedBy p.items None) rows.items }
     requires within { All (λ p. number_of p.items < spare.places) rows.items }
+    requires began { All (λ p. AllBegin (seen_of p.items) (seen_of watch.items)) rows.items }
     requires own { desks_of own.items ≡ map (λ d. d.desk) desks.items }
     requires bench { (vec_len bench_passes ≡ spare.places) × All (λ p. p.desk ≡ bench.desk) bench_passes.items }
     requires watch { desks_of watch.items ≡ map (λ d. d.desk) desks.items }
     requires fresh { (D.given door ≡ 0) × (D.out door ≡ 0) × (D.bots_out door ≡ 0) × (D.shut door ≡ false) }
     requires none_back { IfSome (D.returned door) (λ told. told ≡ []) }
     ensures out { (D.out result.1 ≡ 0) × (D.bots_out result.1 ≡ 0) }
-    ensures served { AreServed B.may_starve seed spare.places (λ s. Unit {0}) (D.returned result.1) }
+    ensures served { AreServed B.may_starve seed spare.places (seen_of watch.items) (λ s. Unit {0}) (D.returned result.1) }
     ensures sink_never_falls { K.faults sink.old ≤ K.faults sink.new }
     ensures ended { EndsBy result.0 sessions (D.faults door) (D.left door) (D.shut result.1) (D.faults result.1) (D.given result.1) (K.faults sink.old) (K.faults sink.new) }
-    ensures closed { AreGiven (hosted B.number B.stands_for B.has_stopped) spare.rooms result.0 result.2.items
-        (λ histories. AreServed B.may_starve seed spare.places (StandsIn histories) (D.returned result.1)) }
+    ensures closed { AreBack (hosted B.number B.stands_for B.has_stopped) spare.rooms result.0 result.2.items
+        (λ histories. AreServed B.may_starve seed spare.places (seen_of watch.items) (StandsIn histories) (D.returned result.1)) }
     ensures reports { let known = hosted B.number B.stands_for B.has_stopped in IsSome (K.held sink.old)
         → Reports known spare.rooms (D.given result.1) result.2.items result.0 (told_bytes (K.held sink.old)) (K.held sink.new) }
 {
@@ -445,17 +449,18 @@ where
     requires belong { All (λ p. Belong desks.items (number_of p.items) p.items) rows.items }
     requires free { All (λ p. AttachedBy p.items None) rows.items }
     requires within { All (λ p. number_of p.items < spare.places) rows.items }
+    requires began { All (λ p. AllBegin (seen_of p.items) (seen_of watch.items)) rows.items }
     requires own { desks_of own.items ≡ map (λ d. d.desk) desks.items }
     requires bench { (vec_len bench_passes ≡ spare.places) × All (λ p. p.desk ≡ bench.desk) bench_passes.items }
     requires watch { desks_of watch.items ≡ map (λ d. d.desk) desks.items }
     requires fresh { (D.given door ≡ 0) × (D.out door ≡ 0) × (D.bots_out door ≡ 0) × (D.shut door ≡ false) }
     requires none_back { IfSome (D.returned door) (λ told. told ≡ []) }
     ensures out { (D.out result.1 ≡ 0) × (D.bots_out result.1 ≡ 0) }
-    ensures served { AreServed B.may_starve seed spare.places (λ s. Unit {0}) (D.returned result.1) }
+    ensures served { AreServed B.may_starve seed spare.places (seen_of watch.items) (λ s. Unit {0}) (D.returned result.1) }
     ensures sink_never_falls { K.faults sink.old ≤ K.faults sink.new }
     ensures ended { EndsBy result.0 sessions (D.faults door) (D.left door) (D.shut result.1) (D.faults result.1) (D.given result.1) (K.faults sink.old) (K.faults sink.new) }
-    ensures closed { AreGiven (hosted B.number B.stands_for B.has_stopped) spare.rooms result.0 result.2.items
-        (λ histories. AreServed B.may_starve seed spare.places (StandsIn histories) (D.returned result.1)) }
+    ensures closed { AreBack (hosted B.number B.stands_for B.has_stopped) spare.rooms result.0 result.2.items
+        (λ histories. AreServed B.may_starve seed spare.places (seen_of watch.items) (StandsIn histories) (D.returned result.1)) }
     ensures reports { let known = hosted B.number B.stands_for B.has_stopped in IsSome (K.held sink.old)
         → Reports known spare.rooms (D.given result.1) result.2.items result.0 (told_bytes (K.held sink.old)) (K.held sink.new) }
 {

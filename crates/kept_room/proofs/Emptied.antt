@@ -1,5 +1,5 @@
 -- A room that was opened, after Detaches.
-use Rattle.std.proofs.Common.{◌≡◌, ◌≤◌, ◌<◌, ◌==◌, ℕ, ◌+◌, Bool, true, false, if◌then◌else◌, List, [], ◌∷◌, Some, None, refl, sym, ap, ◌∙◌, subst, arith}
+use Rattle.std.proofs.Common.{◌≡◌, ◌≤◌, ◌<◌, ◌==◌, ℕ, ◌+◌, Bool, true, false, if◌then◌else◌, List, [], ◌∷◌, Some, refl, sym, ap, ◌∙◌, subst, arith}
 use Rattle.std.proofs.lemmas.Bool.Decides.{nat_tests}
 use Rattle.any_game.specs.AnyRules.{any_rules}
 use Rattle.any_game.specs.GameKind.{GameKind}
@@ -16,7 +16,7 @@ use Rattle.room_journal.specs.Kept.{changes_read, may_follow, room_records, text
 use Rattle.room_object.specs.Entry.{Entry, entry}
 use Rattle.kept_room.specs.Hosting.{NobodyAfter}
 use Rattle.kept_room.specs.Journal.{Calls, HasPart, Since}
-use Rattle.kept_room.specs.Opened.{IsOpenedRoom}
+use Rattle.kept_room.specs.Opened.{IsOpenedAs, IsOpenedRoom}
 use Rattle.kept_room.specs.declared.room.KeptRoom.{KeptRoom}
 use Rattle.kept_room.proofs.Asides.{detached, is_detach_fed, same_changes, same_records}
 
@@ -38,38 +38,9 @@ one_fewer room h pass nobody q low = detached room h pass q ∙ by (pass == q) r
         below : (pass == q) ≡ false → q < pass
         below e = grind (arith, nat_tests, low, e)
 
-same_disk : {D : Type 0} (x y : D) → Some x ≡ Some y → x ≡ y
-same_disk x y e = cc
-
-none_some : {D : Type 0} (x : D) → None ≡ Some x → ⊥
-none_some x e = cc
-
--- whether it is known of a disk or not
-pub by_told : (P : Bool → Type 0) (Known : Type 0) → P false → (Known → P true) → (told : Bool) → (told ≡ true → Known) → P told
-by_told P Known without known true is = known (is refl)
-by_told P Known without known false is = without
-
 module _ {D : Type 0} (is_told : D → Type 0) (seen : D → List ℕ) (may_leave : D → List ℕ → Type 0) (moment : D → ℕ) (left_since : D → ℕ → List ℕ → Type 0) (faults : D → ℕ) where
   abbrev Opened : ℕ → D → Calls → Bool → KeptRoom D → Type 0
   Opened room start first told r = IsOpenedRoom is_told seen may_leave moment left_since faults room start first told r
-
-  -- where it was known that the disk goes by the model, this may be passed over
-  pub opened_untold : (room : ℕ) (start : D) (first : Calls) (told known : Bool) (r : KeptRoom D) → (known ≡ true → told ≡ true) → Opened room start first told r → Opened room start first known r
-  opened_untold room start first told known r by o = record {
-    numbered = o.numbered;
-    whole = o.whole;
-    stands = o.stands;
-    journal = record {
-      stands = o.journal.stands;
-      keeps = λ e. o.journal.keeps (by e);
-      crash = λ e. o.journal.crash (by e);
-      fits = λ e. o.journal.fits (by e);
-      never_falls = o.journal.never_falls;
-    };
-    had = λ e. o.had (by e);
-    reads = o.reads;
-    follow = o.follow;
-  }
 
   module _ (room : ℕ) (start : D) (first : Calls) (told : Bool) (old new : KeptRoom D) (pass : ℕ) (since : Since is_told seen may_leave moment left_since faults old new (entry pass Detach false ∷ []))
       (same : new.stopped ≡ old.stopped) (file : new.file ≡ old.file) where
@@ -88,6 +59,7 @@ module _ {D : Type 0} (is_told : D → Type 0) (seen : D → List ℕ) (may_leav
         never_falls = subst (λ (f : RecordFile D). faults start ≤ faults f.disk) (sym file) o.journal.never_falls;
       };
       had = λ e. subst (λ (records : List (List ℕ)). HasRecords (seen start) records) (sym records_stay) (o.had e);
+      only = λ e others has. o.only e others has ∙ sym records_stay;
       reads = subst (λ (cs : List (Change GameKind)). changes_read (texts cs) ≡ Some cs) (sym (same_changes room first pass Detach false refl)) o.reads;
       follow = subst (λ (records : List (List ℕ)). AllFollow (may_follow room) [] records) (sym records_stay) o.follow;
     }
@@ -97,21 +69,25 @@ module _ {D : Type 0} (is_told : D → Type 0) (seen : D → List ℕ) (may_leav
 
   -- ---- Detaches of one pass after another
 
-  abbrev Empties : ℕ → D → Bool → KeptRoom D → ℕ → Type 0
-  Empties room start told r passes = (after : Calls) × Opened room start after told r × NobodyAfter room passes after
+  abbrev OpenedAs : ℕ → D → Calls → KeptRoom D → Type 0
+  OpenedAs room start first r = IsOpenedAs is_told seen may_leave moment left_since faults room start first r
 
-  pub first_emptied : (room : ℕ) (start : D) (first : Calls) (told : Bool) (r : KeptRoom D) → Opened room start first told r → Empties room start told r 0
-  first_emptied room start first told r o = (first, o, λ pass low. absurd (omega (arith, low)))
+  abbrev Empties : ℕ → D → KeptRoom D → ℕ → Type 0
+  Empties room start r passes = (after : Calls) × OpenedAs room start after r × NobodyAfter room passes after
 
-  pub emptied_more : (room : ℕ) (start : D) (told : Bool) (old new : KeptRoom D) (pass : ℕ) (starved : Bool) → (starved ≡ true → may_starve {X = GameKind} Detach ≡ true)
-      → Since is_told seen may_leave moment left_since faults old new (entry pass Detach starved ∷ []) → new.stopped ≡ old.stopped → new.file ≡ old.file → Empties room start told old pass
-      → Empties room start told new (pass + 1)
-  emptied_more room start told old new pass starved fed since same file (after, o, nobody) =
-      let e : entry pass Detach starved ≡ entry pass Detach false = ap (λ (b : Bool). entry pass Detach b) (is_detach_fed Detach starved refl fed) in (
+  pub first_emptied : (room : ℕ) (start : D) (first : Calls) (r : KeptRoom D) → OpenedAs room start first r → Empties room start r 0
+  first_emptied room start first r o = (first, o, λ pass low. absurd (omega (arith, low)))
+
+  pub emptied_more : (room : ℕ) (start : D) (old new : KeptRoom D) (pass : ℕ) (starved : Bool) → (starved ≡ true → may_starve {X = GameKind} Detach ≡ true)
+      → Since is_told seen may_leave moment left_since faults old new (entry pass Detach starved ∷ []) → new.stopped ≡ old.stopped → new.file ≡ old.file → Empties room start old pass
+      → Empties room start new (pass + 1)
+  emptied_more room start old new pass starved fed since same file (after, o, nobody) =
+      let e : entry pass Detach starved ≡ entry pass Detach false = ap (λ (b : Bool). entry pass Detach b) (is_detach_fed Detach starved refl fed) in
+      let one : Since is_told seen may_leave moment left_since faults old new (entry pass Detach false ∷ []) = subst (λ (x : Entry (RoomCall GameKind)). Since is_told seen may_leave moment left_since faults old new (x ∷ [])) e since in (
         entry pass Detach false ∷ after,
-        detach_opened room start after told old new pass (subst (λ (x : Entry (RoomCall GameKind)). Since is_told seen may_leave moment left_since faults old new (x ∷ [])) e since) same file o,
+        (detach_opened room start after false old new pass one same file o.0, λ told. detach_opened room start after true old new pass one same file (o.1 told)),
         one_fewer room after pass nobody,
       )
 
-  pub all_fewer : (room : ℕ) (start : D) (told : Bool) (r : KeptRoom D) (most passes : ℕ) → passes ≤ most → Empties room start told r most → Empties room start told r passes
-  all_fewer room start told r most passes low (after, o, nobody) = (after, o, λ pass under. nobody pass (omega (arith, low, under)))
+  pub all_fewer : (room : ℕ) (start : D) (r : KeptRoom D) (most passes : ℕ) → passes ≤ most → Empties room start r most → Empties room start r passes
+  all_fewer room start r most passes low (after, o, nobody) = (after, o, λ pass under. nobody pass (omega (arith, low, under)))

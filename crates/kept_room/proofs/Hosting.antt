@@ -6,7 +6,7 @@ use Rattle.board_links.specs.Faults.{HasRisen}
 use Rattle.hosted_room.specs.Calls.{IsRowOf}
 use Rattle.object_journal.specs.declared.performing.Stop.{Stop}
 use Rattle.object_journal.specs.declared.performing.Stop.TheVariants as stop
-use Rattle.record_file.specs.Records.{HasRecords, IsSettled}
+use Rattle.record_file.specs.Records.{IsSettled}
 use Rattle.record_file.specs.declared.append.RecordFile.{RecordFile}
 use Rattle.record_file.proofs.Composing.{and_then, weaker}
 use Rattle.room_disk.specs.Disk.{LeavesOnly}
@@ -21,7 +21,7 @@ use Rattle.room_journal.specs.Kept.{room_records}
 use Rattle.room_journal.specs.declared.room_book.RoomBook.{RoomBook}
 use Rattle.room_object.specs.Entry.{Entry, entry}
 use Rattle.kept_room.specs.Asides.{is_aside, is_detach}
-use Rattle.kept_room.specs.Hosting.{IsOnDisk, IsOpenedBy, NobodyAfter, StandsFrom, StandsHosted, StopsBy, WasOn}
+use Rattle.kept_room.specs.Hosting.{HasJust, IsOnDisk, IsOpenedBy, NobodyAfter, StandsFrom, StandsHosted, StopsBy, WasOn}
 use Rattle.kept_room.specs.Opened.{IsOpenedRoom}
 use Rattle.kept_room.specs.Journal.{AllFit, Calls, FillsFile, Goes, HasPart, Keeps, Since, StopRaises, stands_in}
 use Rattle.kept_room.specs.declared.room.KeptRoom.{KeptRoom}
@@ -40,9 +40,6 @@ none_split (x ∷ later) e earlier is = cc
 
 none_some : {A : Type 0} (x : A) → None ≡ Some x → ⊥
 none_some x e = cc
-
-same_inside : {A : Type 0} (x y : A) → Some x ≡ Some y → x ≡ y
-same_inside x y e = cc
 
 -- the same passes are attached after each history that a book stands for
 same_attached : (b : RoomBook) (h l : Calls) (pass : ℕ) → stands_in b h → stands_in b l → is_attached any_rules b.room h pass ≡ is_attached any_rules b.room l pass
@@ -319,21 +316,14 @@ module _ {D : Type 0} (is_told : D → Type 0) (seen : D → List ℕ) (may_leav
 
   -- ---- a room that was just opened
 
-  pub opens_hosted : (room : ℕ) (past : Calls) (start : Option D) (told : Bool) (disk : D) (r : KeptRoom D) → IsOpenedRoom is_told seen may_leave moment left_since faults room disk past told r
-      → ((s : D) → start ≡ Some s → is_told s → (told ≡ true) × (disk ≡ s)) → Stands room past start r []
-  opens_hosted room past start told disk r o known = record {
-    real = past;
-    stands = o.stands;
-    present = λ q. refl;
-    whole = λ n. refl;
-    on_disk = λ from is is_told. let k = known from is is_told in subst (λ (s : D). On room past s r []) k.1 (record {
-      keeps = λ n. o.journal.keeps k.0;
-      crash = λ only. o.journal.crash k.0 only;
-      safe = λ later e earlier is fed live. absurd (none_split later e earlier is);
-      never_falls = λ n. o.journal.never_falls;
-      fits = λ n. tt;
-      cause = λ why n. absurd (none_some why (sym o.whole ∙ n));
-    });
+  opens_on : (room : ℕ) (past : Calls) (start : D) (r : KeptRoom D) → IsOpenedRoom is_told seen may_leave moment left_since faults room start past true r → On room past start r []
+  opens_on room past start r o = record {
+    keeps = λ n. o.journal.keeps refl;
+    crash = λ only. o.journal.crash refl only;
+    safe = λ later e earlier is fed live. absurd (none_split later e earlier is);
+    never_falls = λ n. o.journal.never_falls;
+    fits = λ n. tt;
+    cause = λ why n. absurd (none_some why (sym o.whole ∙ n));
   }
 
   -- ---- all of its history
@@ -348,10 +338,8 @@ module _ {D : Type 0} (is_told : D → Type 0) (seen : D → List ℕ) (may_leav
     past = s.past;
     made = e ∷ s.made;
     split = ap (λ (l : Calls). e ∷ l) s.split;
-    stands = step s.past s.made None s.stands;
-    told = λ from is told.
-        let t = s.told from (subst (λ (n : ℕ). start n ≡ Some from) same is) told in
-        (t.0, subst (λ (n : ℕ). HasRecords (seen from) (room_records n t.0)) (sym same) t.1, step t.0 s.made (Some from) t.2);
+    stands = subst (λ (n : ℕ). Stands new.object.room s.past (start n) new (e ∷ s.made)) (sym same) (step s.past s.made (start old.object.room) s.stands);
+    had = λ from is told. subst (λ (n : ℕ). HasJust (seen from) (room_records n s.past)) (sym same) (s.had from (subst (λ (n : ℕ). start n ≡ Some from) same is) told);
   }
 
   -- a room that was just opened
@@ -360,10 +348,14 @@ module _ {D : Type 0} (is_told : D → Type 0) (seen : D → List ℕ) (may_leav
     past = past;
     made = [];
     split = refl;
-    stands = opens_hosted room past None false o.disk r o.opened (λ s is told. absurd (cc (is)));
-    told = λ s is told.
-        let t = o.told s is told in
-        (t.0, t.1.had refl, opens_hosted room t.0 (Some s) true s r t.1 (λ from same goes. (refl, same_inside s from same)));
+    stands = record {
+      real = past;
+      stands = o.opened.stands;
+      present = λ q. refl;
+      whole = λ n. refl;
+      on_disk = λ from is told. opens_on room past from r (o.told from is told);
+    };
+    had = λ from is told. let t = o.told from is told in (t.had refl, t.only refl);
   }
 
   -- it has the same passes attached after each history that it stands for

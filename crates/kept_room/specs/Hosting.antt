@@ -17,6 +17,10 @@ use Rattle.kept_room.specs.Journal.{AllFit, Calls, FillsFile, HasPart, Keeps, st
 use Rattle.kept_room.specs.Opened.{IsOpenedRoom}
 use Rattle.kept_room.specs.declared.room.KeptRoom.{KeptRoom}
 
+-- a file has these records and no others
+abbrev pub HasJust : List ℕ → List (List ℕ) → Type 0
+HasJust file records = HasRecords file records × ((others : List (List ℕ)) → HasRecords file others → others ≡ records)
+
 -- no pass below this number is attached after these calls
 abbrev pub NobodyAfter : ℕ → ℕ → Calls → Type 0
 NobodyAfter room passes h = (pass : ℕ) → pass < passes → is_attached any_rules room h pass ≡ false
@@ -61,18 +65,18 @@ module _ {D : Type 0} (is_told : D → Type 0) (seen : D → List ℕ) (may_leav
     pub on_disk : (s : D) → start ≡ Some s → is_told s → IsOnDisk room past s r h
 
   -- It stands for a history: for some calls before it was put behind its desk, and for those behind it. Where the disk that it was opened from is known,
-  -- and goes by the model, the calls before may be those that made the records again that its file had.
+  -- and goes by the model, the calls before have just the records that its file had.
   pub record StandsFrom (room : ℕ) (start : Option D) (r : KeptRoom D) (h : Calls) : Type 0 where
     pub past : Calls
     pub made : Calls
     pub split : h ≡ made ++ past
-    pub stands : StandsHosted room past None r made
-    pub told : (s : D) → start ≡ Some s → is_told s → (first : Calls) × HasRecords (seen s) (room_records room first) × StandsHosted room first (Some s) r made
+    pub stands : StandsHosted room past start r made
+    pub had : (s : D) → start ≡ Some s → is_told s → HasJust (seen s) (room_records room past)
 
-  -- The room of this number was opened by these calls; and where the disk that it was opened from is known, and goes by the model, by calls that made
-  -- the records again that its file had. After either no pass below this number is attached.
+  -- The room of this number was opened by these calls; where the disk that it was opened from is known, and goes by the model, they have just the records
+  -- that its file had. After them no pass below this number is attached.
   pub record IsOpenedBy (room passes : ℕ) (past : Calls) (start : Option D) (r : KeptRoom D) : Type 0 where
     pub disk : D
     pub opened : IsOpenedRoom is_told seen may_leave moment left_since faults room disk past false r
     pub nobody : NobodyAfter room passes past
-    pub told : (s : D) → start ≡ Some s → is_told s → (first : Calls) × IsOpenedRoom is_told seen may_leave moment left_since faults room s first true r
+    pub told : (s : D) → start ≡ Some s → is_told s → IsOpenedRoom is_told seen may_leave moment left_since faults room s past true r

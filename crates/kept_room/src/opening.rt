@@ -1,11 +1,11 @@
 //! Opens a room from its journal.
 
-ghost use Rattle.std.specs.Prelude.{◌≡◌, ◌≤◌, ℕ, Bool, None, IfErr, IfOk, true, false};
+ghost use Rattle.std.specs.Prelude.{◌≡◌, ◌≤◌, ℕ, None, IfErr, IfOk, true, false};
 ghost use Rattle.object_journal.specs.Opening.{IsRefused};
 ghost use Rattle.room_journal.specs.Kept.{may_follow};
 ghost use Rattle.kept_room.specs.Hosting.{NobodyAfter};
 ghost use Rattle.kept_room.specs.Journal.{Calls, stands_in};
-ghost use Rattle.kept_room.specs.Opened.{IsOpenedRoom};
+ghost use Rattle.kept_room.specs.Opened.{IsOpenedAs, IsOpenedRoom};
 
 use crate::room::KeptRoom;
 use object_journal::OpenNo;
@@ -23,7 +23,8 @@ pub fn open_room<D: Disk + Drop>(
     disk: D,
 ) -> Result<KeptRoom<D>, (OpenNo, D)>
     requires { room ≤ 63 }
-    ensures opened { IfOk result (λ r. (first : Calls) × IsOpenedRoom D.is_told D.seen D.may_leave D.moment D.left_since D.faults room disk first false r) }
+    ensures opened { IfOk result (λ r. (first : Calls) × IsOpenedRoom D.is_told D.seen D.may_leave D.moment D.left_since D.faults room disk first false r
+        × (D.is_told disk → IsOpenedRoom D.is_told D.seen D.may_leave D.moment D.left_since D.faults room disk first true r)) }
     ensures keeps { D.is_told disk → IfOk result (λ r. (first : Calls) × IsOpenedRoom D.is_told D.seen D.may_leave D.moment D.left_since D.faults room disk first true r) }
     ensures refused { IfErr result (λ e. IsRefused (may_follow room) D.is_told D.seen D.faults disk e.1 e.0) }
 {
@@ -48,8 +49,7 @@ pub fn open_hosted<D: Disk + Drop>(
     disk: D,
 ) -> Result<KeptRoom<D>, (OpenNo, D)>
     requires { room ≤ 63 }
-    ensures opened { (told : Bool) → (told ≡ true → D.is_told disk)
-        → IfOk result (λ r. (first : Calls) × IsOpenedRoom D.is_told D.seen D.may_leave D.moment D.left_since D.faults room disk first told r × NobodyAfter room passes first) }
+    ensures opened { IfOk result (λ r. (first : Calls) × IsOpenedAs D.is_told D.seen D.may_leave D.moment D.left_since D.faults room disk first r × NobodyAfter room passes first) }
     ensures refused { IfErr result (λ e. IsRefused (may_follow room) D.is_told D.seen D.faults disk e.1 e.0) }
 {
     match open_room(alloc, room, disk) {
@@ -61,8 +61,8 @@ pub fn open_hosted<D: Disk + Drop>(
 /// The room, with the passes below this number detached.
 fn emptied<D: Disk + Drop>(room: KeptRoom<D>, passes: u32) -> KeptRoom<D>
     requires { (h : Calls) × stands_in room.object h }
-    ensures { (number : ℕ) (disk : D) (first : Calls) (told : Bool) → IsOpenedRoom D.is_told D.seen D.may_leave D.moment D.left_since D.faults number disk first told room
-        → (after : Calls) × IsOpenedRoom D.is_told D.seen D.may_leave D.moment D.left_since D.faults number disk after told result × NobodyAfter number passes after }
+    ensures { (number : ℕ) (disk : D) (first : Calls) → IsOpenedAs D.is_told D.seen D.may_leave D.moment D.left_since D.faults number disk first room
+        → (after : Calls) × IsOpenedAs D.is_told D.seen D.may_leave D.moment D.left_since D.faults number disk after result × NobodyAfter number passes after }
 {
     let mut room = room;
     for pass in 0..passes {

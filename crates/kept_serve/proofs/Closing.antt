@@ -1,5 +1,5 @@
 -- What the disks of rooms have, once the rooms are closed.
-use Rattle.std.proofs.Common.{◌≡◌, ◌+◌, ℕ, List, [], ◌∷◌, ◌++◌, length, map, Option, Some, refl, ap, sym, ◌∙◌, subst, inl, inr}
+use Rattle.std.proofs.Common.{◌≡◌, ◌+◌, ℕ, List, [], ◌∷◌, ◌++◌, length, map, Option, Some, refl, ap, sym, ◌∙◌, subst, arith, inl, inr}
 use Rattle.std.proofs.lemmas.List.{append-nil, append_assoc, length-map, nil_from_length}
 use Rattle.std.specs.Prelude.{Bool}
 use Rattle.door_serve.specs.Ends.{AreGiven}
@@ -8,8 +8,9 @@ use Rattle.door_serve.specs.declared.serving.ServeEnd.{ServeEnd}
 use Rattle.kept_room.specs.Hosting.{StandsFrom}
 use Rattle.kept_room.specs.Journal.{Calls}
 use Rattle.kept_room.specs.declared.room.KeptRoom.{KeptRoom}
-use Rattle.kept_serve.specs.Kept.{HasKept, HaveKept, Leave, left_of}
+use Rattle.kept_serve.specs.Kept.{GoesOnFrom, HasKept, HaveKept, Leave, left_of}
 use Rattle.kept_serve.specs.declared.opened_room.ClosedRoom.{ClosedRoom}
+use Rattle.kept_serve.proofs.Since.{is_made}
 use Rattle.object_journal.specs.declared.performing.Stop.{Stop}
 
 -- one more that was closed
@@ -31,17 +32,30 @@ pub left_so : {D : Type 0} (r : KeptRoom D) (disk : D) (stopped : Option Stop) �
 left_so r disk stopped d s = ap (λ x. closed_of x stopped) d ∙ ap (closed_of r.file.disk) s
 
 module _ {D : Type 0} (is_told : D → Type 0) (seen : D → List ℕ) (may_leave : D → List ℕ → Type 0) (moment : D → ℕ) (left_since : D → ℕ → List ℕ → Type 0) (faults : D → ℕ) where
-  kept_one : (start : ℕ → Option D) (k : ℕ) (r : KeptRoom D) (h : Calls) → r.object.room ≡ k → StandsFrom is_told seen may_leave moment left_since faults r.object.room (start r.object.room) r h
-      → (disk : D) → start k ≡ Some disk → is_told disk → HasKept is_told seen may_leave moment left_since faults k disk h (left_of r)
-  kept_one start k r h at s disk is told =
-      let known = s.told disk (ap start at ∙ is) told in
-      let on = known.2.on_disk disk refl told in
-      subst (λ (n : ℕ). HasKept is_told seen may_leave moment left_since faults n disk h (left_of r)) at (record {
-        first = known.0;
+  abbrev From : (ℕ → Option D) → KeptRoom D → Calls → Type 0
+  From start r h = StandsFrom is_told seen may_leave moment left_since faults r.object.room (start r.object.room) r h
+
+  abbrev GoesOn : ℕ → D → Calls → Type 0
+  GoesOn room start h = GoesOnFrom is_told seen may_leave moment left_since faults room start h
+
+  -- a room stands for what goes on from the records of its file
+  goes_on : (start : ℕ → Option D) (k : ℕ) (r : KeptRoom D) (h : Calls) → r.object.room ≡ k → From start r h → (disk : D) → start k ≡ Some disk → is_told disk → GoesOn k disk h
+  goes_on start k r h at s disk is told = subst (λ (n : ℕ). GoesOn n disk h) at (s.past, s.made, s.split, (s.had disk (ap start at ∙ is) told).0)
+
+  kept_one : (start : ℕ → Option D) (k : ℕ) (old : KeptRoom D) (past : Calls) (r : KeptRoom D) (h : Calls) → old.object.room ≡ k → From start old past → r.object.room ≡ k → From start r h
+      → (disk : D) → start k ≡ Some disk → is_told disk → HasKept is_told seen may_leave moment left_since faults k disk past h (left_of r)
+  kept_one start k old past r h was stood at s disk is told =
+      let from : start r.object.room ≡ Some disk = ap start at ∙ is in
+      let on = s.stands.on_disk disk from told in
+      let just = s.had disk from told in
+      let began = subst (λ (n : ℕ). GoesOn n disk past) (sym at) (goes_on start k old past was stood disk is told) in
+      subst (λ (n : ℕ). HasKept is_told seen may_leave moment left_since faults n disk past h (left_of r)) at (record {
+        first = s.past;
         made = s.made;
-        past = s.past;
         split = s.split;
-        had = known.1;
+        had = just.0;
+        began = began;
+        since = is_made r.object.room (seen disk) s.past s.made h past began.0 began.1 s.split just began.2 began.3;
         settled = λ n. (r.file.end, (on.keeps n).settled);
         crash = on.crash;
         safe = on.safe;
@@ -49,24 +63,38 @@ module _ {D : Type 0} (is_told : D → Type 0) (seen : D → List ℕ) (may_leav
         cause = on.cause;
       })
 
-  pub kept_all : {B : Type 0} (room_in : B → KeptRoom D) (start : ℕ → Option D) (k : ℕ) (rooms : List B) (histories : List Calls) → Numbered (λ b. (room_in b).object.room) k rooms
-      → Stand (λ b h. StandsFrom is_told seen may_leave moment left_since faults (room_in b).object.room (start (room_in b).object.room) (room_in b) h) rooms histories
-      → HaveKept is_told seen may_leave moment left_since faults start k histories (map (λ b. left_of (room_in b)) rooms)
-  kept_all room_in start k [] [] n s = tt
-  kept_all room_in start k [] (h ∷ histories) n s = absurd s
-  kept_all room_in start k (b ∷ rooms) [] n s = absurd s
-  kept_all room_in start k (b ∷ rooms) (h ∷ histories) n s = (kept_one start k (room_in b) h n.0 s.0, kept_all room_in start (k + 1) rooms histories n.1 s.1)
+  module _ {B : Type 0} (room_in : B → KeptRoom D) (start : ℕ → Option D) where
+    abbrev number_in : B → ℕ
+    number_in b = (room_in b).object.room
 
-  -- rooms that come back from their desks, and are closed then
-  pub leaves : {B : Type 0} (room_in : B → KeptRoom D) (has_stopped : B → Bool) (start : ℕ → Option D) (served : List Calls → Type 0) (count many : ℕ) (how : ServeEnd) (rooms : List B) (closed : List (ClosedRoom D)) → count ≡ many
-      → closed ≡ map (λ b. left_of (room_in b)) rooms
-      → AreGiven (hosted (λ b. (room_in b).object.room) (λ b h. StandsFrom is_told seen may_leave moment left_since faults (room_in b).object.room (start (room_in b).object.room) (room_in b) h) has_stopped) count how rooms served
-      → Leave is_told seen may_leave moment left_since faults start many served how closed
-  leaves room_in has_stopped start served count many how rooms closed same closes (inl (histories, are, told)) =
-      inl (
-        histories,
-        ap length closes ∙ (length-map rooms (λ b. left_of (room_in b)) ∙ (are.many ∙ same)),
-        subst (HaveKept is_told seen may_leave moment left_since faults start 0 histories) (sym closes) (kept_all room_in start 0 rooms histories are.numbered are.stand),
-        told,
-      )
-  leaves room_in has_stopped start served count many how rooms closed same closes (inr (starved, none)) = inr (starved, closes ∙ ap (map (λ b. left_of (room_in b))) none)
+    abbrev stands_from : B → Calls → Type 0
+    stands_from b h = From start (room_in b) h
+
+    pub kept_all : (k : ℕ) (before : List B) (pasts : List Calls) (rooms : List B) (histories : List Calls) → length before ≡ length rooms → Numbered number_in k before → Stand stands_from before pasts
+        → Numbered number_in k rooms → Stand stands_from rooms histories → HaveKept is_told seen may_leave moment left_since faults start k pasts histories (map (λ b. left_of (room_in b)) rooms)
+    kept_all k [] [] [] [] same was stood n s = tt
+    kept_all k [] [] [] (h ∷ histories) same was stood n s = absurd s
+    kept_all k [] [] (b ∷ rooms) histories same was stood n s = absurd (omega (arith, same))
+    kept_all k [] (past ∷ pasts) rooms histories same was stood n s = absurd stood
+    kept_all k (old ∷ before) [] rooms histories same was stood n s = absurd stood
+    kept_all k (old ∷ before) (past ∷ pasts) [] histories same was stood n s = absurd (omega (arith, same))
+    kept_all k (old ∷ before) (past ∷ pasts) (b ∷ rooms) [] same was stood n s = absurd s
+    kept_all k (old ∷ before) (past ∷ pasts) (b ∷ rooms) (h ∷ histories) same was stood n s = (
+      kept_one start k (room_in old) past (room_in b) h was.0 stood.0 n.0 s.0,
+      kept_all (k + 1) before pasts rooms histories (omega (arith, same)) was.1 stood.1 n.1 s.1,
+    )
+
+    -- rooms that come back from their desks, and are closed then
+    pub leaves : (has_stopped : B → Bool) (served : List Calls → List Calls → Type 0) (count many : ℕ) (how : ServeEnd) (before rooms : List B) (closed : List (ClosedRoom D)) → count ≡ many → length before ≡ count
+        → Numbered number_in 0 before → closed ≡ map (λ b. left_of (room_in b)) rooms → AreGiven (hosted number_in stands_from has_stopped) count how before rooms served
+        → Leave is_told seen may_leave moment left_since faults start many served how closed
+    leaves has_stopped served count many how before rooms closed same few was closes (inl (pasts, histories, stood, are, told)) =
+        inl (
+          pasts,
+          histories,
+          ap length closes ∙ (length-map rooms (λ b. left_of (room_in b)) ∙ (are.many ∙ same)),
+          subst (HaveKept is_told seen may_leave moment left_since faults start 0 pasts histories) (sym closes)
+              (kept_all 0 before pasts rooms histories (few ∙ sym are.many) was stood are.numbered are.stand),
+          told,
+        )
+    leaves has_stopped served count many how before rooms closed same few was closes (inr (starved, none)) = inr (starved, closes ∙ ap (map (λ b. left_of (room_in b))) none)

@@ -35,6 +35,5 @@ module _ {D : Type 0} (is_told : D → Type 0) (seen : D → List ℕ) (may_leav
     nobody = o.alone;
     told = λ s is told.
         let same : r.start.value ≡ s = same_inside r.start.value s (sym at ∙ is) in
-        let known = o.told (subst is_told (sym same) told) in
-        (known.0, subst (λ (d : D). IsOpenedRoom is_told seen may_leave moment left_since faults (room_of r) d known.0 true r.room) same known.1);
+        subst (λ (d : D). IsOpenedRoom is_told seen may_leave moment left_since faults (room_of r) d o.first true r.room) same (o.told (subst is_told (sym same) told));
   }

@@ -76,9 +76,6 @@ kept_all {X} {E} done coming all none is =
     let ok : X → Result X E = Ok in
     sym (append-nil (map ok done)) ∙ (ap (λ l. map ok done ++ l) (sym (nil_from_length coming none)) ∙ is)
 
-pub false_true : false ≡ true → ⊥
-false_true e = cc
-
 pub some_none : {X : Type 0} (x : X) → Some x ≡ None → ⊥
 some_none x e = cc
 
@@ -192,13 +189,13 @@ module _ {D : Type 0} (is_told : D → Type 0) (seen : D → List ℕ) (may_leav
       }
 
   -- what is said where one of the rooms wasn't opened
-  pub were_refused : {X : Type 0} (jobs : List (Job D)) (results : List (Result (OpenedRoom D) OpenNo)) (count : ℕ) (r : Result X OpenNo) (first now next : Option (List D))
+  pub were_refused : {X : Type 0} (jobs : List (Job D)) (results : List (Result (OpenedRoom D) OpenNo)) (count : ℕ) (r : Result X OpenNo) (first now next : Option (List D)) (old new : ℕ)
       → map (λ j. j.room) jobs ≡ numbers 0 count → AllFrom jobs results → now ≡ option_map (λ before. before ++ map (λ j. j.disk) jobs) first → next ≡ now
       → IfErr r (λ why. (why ≡ open_no.NoMemory) ⊎ ((before : List (Result (OpenedRoom D) OpenNo)) × (after : List (Result (OpenedRoom D) OpenNo)) × (results ≡ before ++ Err why ∷ after)))
-      → IfErr r (λ why. WereRefused is_told seen faults count first next why)
-  were_refused jobs results count (Ok x) first now next numbered all is same why_is = tt
-  were_refused jobs results count (Err why) first now next numbered all is same (inl none) = record { disks = map (λ j. j.disk) jobs; gave = same ∙ is; cause = inl (inl none) }
-  were_refused jobs results count (Err why) first now next numbered all is same (inr (before, after, e)) = record {
+      → IfErr r (λ why. WereRefused is_told seen faults count first next old new why)
+  were_refused jobs results count (Ok x) first now next old new numbered all is same why_is = tt
+  were_refused jobs results count (Err why) first now next old new numbered all is same (inl none) = record { disks = map (λ j. j.disk) jobs; gave = same ∙ is; cause = inl (inl none) }
+  were_refused jobs results count (Err why) first now next old new numbered all is same (inr (before, after, e)) = record {
     disks = map (λ j. j.disk) jobs;
     gave = same ∙ is;
     cause = inr (was_refused jobs results count why numbered all before after e);

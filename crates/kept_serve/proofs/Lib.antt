@@ -2,3 +2,4 @@ pub mod Closing
 pub mod Crossing
 pub mod Hosting
 pub mod Jobs
+pub mod Since

@@ -16,12 +16,12 @@ room_of r = r.room.object.room
 
 module _ {D : Type 0} (is_told : D → Type 0) (seen : D → List ℕ) (may_leave : D → List ℕ → Type 0) (moment : D → ℕ) (left_since : D → ℕ → List ℕ → Type 0) (faults : D → ℕ) where
   -- The room of this number was opened from the file of a disk, and stands for some first calls, after which no pass below that number is attached there.
-  -- Where the disk goes by the model, these may be calls that made the file's records again.
+  -- Where the disk goes by the model, these have just the file's records.
   pub record IsOpened (passes room : ℕ) (r : OpenedRoom D) : Type 0 where
     pub first : Calls
     pub opened : IsOpenedRoom is_told seen may_leave moment left_since faults room r.start.value first false r.room
     pub alone : NobodyIn any_rules passes room first
-    pub told : is_told r.start.value → (known : Calls) × IsOpenedRoom is_told seen may_leave moment left_since faults room r.start.value known true r.room
+    pub told : is_told r.start.value → IsOpenedRoom is_told seen may_leave moment left_since faults room r.start.value first true r.room
 
   -- the room of a job was, from its disk
   abbrev pub IsOpenedFrom : ℕ → Job D → OpenedRoom D → Type 0

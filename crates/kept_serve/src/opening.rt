@@ -26,7 +26,8 @@ pub struct Job<D: Disk + Drop> {
 }
 
 /// Opens the rooms of a server, up to 64 of them, numbered from 0, each from its disk and in a thread of its own, so that no pass below this number
-/// is attached anywhere. The first that can't be opened is its error, which **refused** says of; a shelf that has no disk counts as a fault of the disk.
+/// is attached anywhere. The first that can't be opened is its error, which **refused** says of; a shelf that has no disk, and whose count of faults has
+/// risen, counts as a fault of the disk.
 pub fn open_rooms<S: Shelf, R: Threads + Sync>(
     rt: &R,
     alloc: Global,
@@ -39,7 +40,8 @@ where
     requires { rooms ≤ 64 }
     ensures opened { IfOk result (λ r. AreOpened S.D.is_told S.D.seen S.D.may_leave S.D.moment S.D.left_since S.D.faults passes rooms r.items) }
     ensures given { IfOk result (λ r. S.given shelf.new ≡ option_map (λ before. before ++ starts_of r.items) (S.given shelf.old)) }
-    ensures refused { IfErr result (λ why. WereRefused S.D.is_told S.D.seen S.D.faults rooms (S.given shelf.old) (S.given shelf.new) why) }
+    ensures never_falls { S.faults shelf.old ≤ S.faults shelf.new }
+    ensures refused { IfErr result (λ why. WereRefused S.D.is_told S.D.seen S.D.faults rooms (S.given shelf.old) (S.given shelf.new) (S.faults shelf.old) (S.faults shelf.new) why) }
 {
     let jobs = take_disks(alloc, shelf, rooms)?;
     match open_jobs(rt, alloc, jobs, passes) {
@@ -53,7 +55,9 @@ fn take_disks<S: Shelf>(alloc: Global, shelf: &mut S, rooms: u8) -> Result<Vec<J
     requires { rooms ≤ 64 }
     ensures numbered { IfOk result (λ jobs. map (λ j. j.room) jobs.items ≡ numbers 0 rooms) }
     ensures given { IfOk result (λ jobs. S.given shelf.new ≡ option_map (λ before. before ++ map (λ j. j.disk) jobs.items) (S.given shelf.old)) }
-    ensures refused { IfErr result (λ why. (disks : List S.D) × (S.given shelf.new ≡ option_map (λ before. before ++ disks) (S.given shelf.old)) × LacksDisk rooms disks why) }
+    ensures never_falls { S.faults shelf.old ≤ S.faults shelf.new }
+    ensures refused { IfErr result (λ why. (disks : List S.D) × (S.given shelf.new ≡ option_map (λ before. before ++ disks) (S.given shelf.old))
+        × LacksDisk rooms disks (S.faults shelf.old) (S.faults shelf.new) why) }
 {
     let Ok(mut jobs) = Vec::with_capacity(alloc, usize::from(rooms)) else {
         return Err(OpenNo::NoMemory);
@@ -118,6 +122,7 @@ fn gather<S: Shelf>(
     requires { vec_len results ≤ 64 }
     ensures all { IfOk result (λ r. map Ok r.items ≡ results.items) }
     ensures given { S.given shelf.new ≡ S.given shelf.old }
+    ensures never_falls { S.faults shelf.old ≤ S.faults shelf.new }
     ensures refused { IfErr result (λ why. (why ≡ open_no.NoMemory) ⊎ ((before : _) × (after : _) × (results.items ≡ before ++ Err why ∷ after))) }
 {
     let Ok(mut rooms) = Vec::with_capacity(alloc, results.len()) else {

@@ -1,6 +1,6 @@
 //! Serves a door over rooms that were opened from their journals, and gives their disks back.
 
-ghost use Rattle.std.specs.Prelude.{◌≡◌, ◌≤◌, ◌<◌, ◌+◌, [], All, IfOk, IfSome, Some, false, map, vec_capacity, vec_len};
+ghost use Rattle.std.specs.Prelude.{◌≡◌, ◌≤◌, ◌<◌, ◌+◌, List, [], All, IfOk, IfSome, Some, false, map, vec_capacity, vec_len};
 ghost use Rattle.any_game.specs.AnyRules.{any_rules};
 ghost use Rattle.door_serve.specs.Ends.{EndsBy};
 ghost use Rattle.hosted_room.specs.Calls.{NobodyIn};
@@ -33,9 +33,11 @@ use std::thread::Threads;
 ///
 /// **kept** says what the disk of each has, if it went by the model of a disk when its room was opened: a room that hasn't stopped has the records of
 /// all its calls on its disk; whenever a crash came, it left the records of a first part of them; and from the moment of each reply that told a
-/// session anything, at least those of all calls up to that one. These calls are what the room's history has on top of what came before it was opened;
-/// and by these very histories, one of each room, were the links served that the door tells of: what the passes of their sessions had seen in the end
-/// are beginnings of them. A room stops only for a cause.
+/// session anything, at least those of all calls up to that one. These calls are what the room's history has on top of calls that have just the records
+/// that its file had when it was opened. By these very histories, one of each room, were the links served that the door tells of: what the passes of
+/// their sessions had seen in the end are beginnings of them, and before its first turn each session's passes had seen what the rooms stood for when
+/// serving began, which has all records of the file. So every call that was made since then, and added a record, is one of those that the room made since
+/// it was opened. A room stops only for a cause.
 pub fn serve_opened<
     D: Disk + Drop + Send,
     P: Door + Send,
@@ -68,9 +70,9 @@ where
     ensures out { (P.out result.1 ≡ 0) × (P.bots_out result.1 ≡ 0) }
     ensures sink_never_falls { K.faults sink.old ≤ K.faults sink.new }
     ensures ended { EndsBy result.0 sessions (P.faults door) (P.left door) (P.shut result.1) (P.faults result.1) (P.given result.1) (K.faults sink.old) (K.faults sink.new) }
-    ensures served { AreServed may_refuse seed places (λ s. Unit {0}) (P.returned result.1) }
+    ensures served { (pasts : List Calls) × AreServed may_refuse seed places pasts (λ s. Unit {0}) (P.returned result.1) }
     ensures kept { Leave D.is_told D.seen D.may_leave D.moment D.left_since D.faults (starts_at rooms.items) (vec_len rooms)
-        (λ histories. AreServed may_refuse seed places (StandsIn histories) (P.returned result.1)) result.0 result.2.items }
+        (λ pasts histories. AreServed may_refuse seed places pasts (StandsIn histories) (P.returned result.1)) result.0 result.2.items }
 {
     serve_hosted::<Brand, D, P, W, K, R, C>(
         rt, alloc, rooms, places, readies, idle, outside, sessions, door, sink, seed,
@@ -112,9 +114,9 @@ where
     ensures out { (P.out result.1 ≡ 0) × (P.bots_out result.1 ≡ 0) }
     ensures sink_never_falls { K.faults sink.old ≤ K.faults sink.new }
     ensures ended { EndsBy result.0 sessions (P.faults door) (P.left door) (P.shut result.1) (P.faults result.1) (P.given result.1) (K.faults sink.old) (K.faults sink.new) }
-    ensures served { AreServed may_refuse seed places (λ s. Unit {0}) (P.returned result.1) }
+    ensures served { (pasts : List Calls) × AreServed may_refuse seed places pasts (λ s. Unit {0}) (P.returned result.1) }
     ensures kept { Leave D.is_told D.seen D.may_leave D.moment D.left_since D.faults O.start (vec_len rooms)
-        (λ histories. AreServed may_refuse seed places (StandsIn histories) (P.returned result.1)) result.0 result.2.items }
+        (λ pasts histories. AreServed may_refuse seed places pasts (StandsIn histories) (P.returned result.1)) result.0 result.2.items }
 {
     let Ok(closed) = Vec::with_capacity(alloc, rooms.len()) else {
         drop(rooms);

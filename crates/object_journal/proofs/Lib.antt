@@ -1,3 +1,4 @@
+pub mod Opens
 pub mod Either
 pub mod Scans
 pub mod Usable

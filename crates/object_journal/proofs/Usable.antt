@@ -1,5 +1,5 @@
 -- A kept object can be called again after each of its answers.
-use Rattle.std.proofs.Common.{◌≡◌, inl, inr, ℕ, Bool, true, false, List, ◌∷◌, Option, Some, None, sym, ◌∙◌, subst}
+use Rattle.std.proofs.Common.{◌≡◌, inl, inr, ℕ, Bool, true, false, List, ◌∷◌, Option, None, sym, ◌∙◌, subst}
 use Rattle.room_object.specs.Entry.{Entry, entry}
 use Rattle.object_journal.specs.Keeping.{BreaksBy, IsBrokenBy, IsUnlessKept, StandsBy}
 use Rattle.object_journal.specs.declared.kept_object.KeptReply.{KeptReply}

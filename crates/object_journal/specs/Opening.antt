@@ -11,14 +11,15 @@ use Rattle.object_journal.specs.Keeping.{IsKeeping}
 use Rattle.object_journal.specs.declared.replaying.OpenNo.{OpenNo}
 use Rattle.object_journal.specs.declared.replaying.OpenNo.TheVariants as open_no
 
--- the object has come to a history by records alone, and keeps it: it has just the records of the file as it was, each of which may follow those
--- before it
+-- the object has come to a history by records alone, and keeps it: it has just the records of the file as it was, which had no others, and each of them
+-- may follow those before it
 pub record IsOpened {O C D : Type 0} (stands_for has_come : O → List (Entry C) → Type 0) (records : List (Entry C) → List (List ℕ)) (may_follow : List (List ℕ) → List ℕ → Bool) (is_told : D → Type 0) (seen : D → List ℕ) (may_leave : D → List ℕ → Type 0)
     (disk : D) (object : O) (disk_after : D) (end : ℕ) (broken : Option ℕ) (h : List (Entry C)) : Type 0 where
   pub whole : broken ≡ None
   pub came : has_come object h
   pub keeping : IsKeeping stands_for records is_told seen may_leave object disk_after end h
   pub had : HasRecords (seen disk) (records h)
+  pub only : (others : List (List ℕ)) → HasRecords (seen disk) others → others ≡ records h
   pub follow : AllFollow may_follow [] (records h)
 
 -- whatever the disk tells: the object stands for a history whose records end at this place, and each of them may follow those before it

@@ -22,7 +22,8 @@ pub fn open<O: Replays, D: Disk + Drop>(
 ) -> Result<KeptObject<O, D>, (OpenNo, D)>
     requires { O.stands_for object [] }
     ensures opened { D.is_told disk → IfOk result (λ k. (h : List (Entry O.Call)) × IsOpened O.stands_for O.has_come (O.records (O.number object)) (O.may_follow (O.number object)) D.is_told D.seen D.may_leave disk k.object k.file.disk k.file.end k.broken h) }
-    ensures stands { IfOk result (λ k. (h : List (Entry O.Call)) × StandsOpen O.stands_for O.has_come (O.records (O.number object)) (O.may_follow (O.number object)) k.object k.file.end k.broken h) }
+    ensures stands { IfOk result (λ k. (h : List (Entry O.Call)) × StandsOpen O.stands_for O.has_come (O.records (O.number object)) (O.may_follow (O.number object)) k.object k.file.end k.broken h
+        × (D.is_told disk → IsOpened O.stands_for O.has_come (O.records (O.number object)) (O.may_follow (O.number object)) D.is_told D.seen D.may_leave disk k.object k.file.disk k.file.end k.broken h)) }
     ensures number { IfOk result (λ k. O.number k.object ≡ O.number object) }
     ensures never_falls { IfOk result (λ k. D.faults disk ≤ D.faults k.file.disk) }
     ensures refused { IfErr result (λ e. IsRefused (O.may_follow (O.number object)) D.is_told D.seen D.faults disk e.1 e.0) }

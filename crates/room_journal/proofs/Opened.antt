@@ -45,34 +45,41 @@ module _ (room : ℕ) (book now : RoomBook) (same_room : now.room ≡ book.room)
       let told : ReadsBack room h = subst (λ (n : ℕ). ReadsBack n h) is came.told in
       ap (λ (cs : List (Change GameKind)). changes_read (texts cs)) same ∙ told ∙ ap (λ (cs : List (Change GameKind)). Some cs) (sym same)
 
-  pub opened_on : {D : Type 0} (is_told : D → Type 0) (seen : D → List ℕ) (may_leave : D → List ℕ → Type 0) (disk after : D) (end : ℕ) (broken : Option ℕ) → book.room ≡ room
-      → ((h : Entries) × IsOpened Stands Comes (room_records room) (may_follow room) is_told seen may_leave disk book after end broken h)
-      → ((h : Entries) × IsOpened Stands (Reads room) (room_records room) (may_follow room) is_told seen may_leave disk now after end broken h)
-  opened_on is_told seen may_leave disk after end broken is o =
-      let stands = o.1.keeping.stands in
-      let records = same_records o.0 stands in (
-        (stays room o.0 stands.stands).after,
-        record {
-          whole = o.1.whole;
-          came = same_read o.0 stands is o.1.came;
-          keeping = record { stands = stands_on o.0 stands; settled = subst (λ (rs : List (List ℕ)). IsSettled is_told seen may_leave after end rs) records o.1.keeping.settled };
-          had = subst (λ (rs : List (List ℕ)). HasRecords (seen disk) rs) records o.1.had;
-          follow = subst (λ (rs : List (List ℕ)). AllFollow (may_follow room) [] rs) records o.1.follow;
-        },
-      )
+  module _ {D : Type 0} (is_told : D → Type 0) (seen : D → List ℕ) (may_leave : D → List ℕ → Type 0) (disk after : D) (end : ℕ) (broken : Option ℕ) (is : book.room ≡ room) where
+    abbrev Before : Entries → Type 0
+    Before h = IsOpened Stands Comes (room_records room) (may_follow room) is_told seen may_leave disk book after end broken h
 
-  pub stands_open : (end : ℕ) (broken : Option ℕ) → book.room ≡ room
-      → ((h : Entries) × StandsOpen Stands Comes (room_records room) (may_follow room) book end broken h)
-      → ((h : Entries) × StandsOpen Stands (Reads room) (room_records room) (may_follow room) now end broken h)
-  stands_open end broken is o =
-      let stands = o.1.stands in
-      let records = same_records o.0 stands in (
-        (stays room o.0 stands.stands).after,
+    abbrev Now : Entries → Type 0
+    Now h = IsOpened Stands (Reads room) (room_records room) (may_follow room) is_told seen may_leave disk now after end broken h
+
+    opened_at : (h : Entries) (stands : Stands book h) → Before h → Now (stays room h stands.stands).after
+    opened_at h stands o =
+        let records = same_records h stands in
         record {
-          whole = o.1.whole;
-          stands = stands_on o.0 stands;
-          came = same_read o.0 stands is o.1.came;
-          place = o.1.place ∙ ap (λ (rs : List (List ℕ)). length (open_records rs)) records;
-          follow = subst (λ (rs : List (List ℕ)). AllFollow (may_follow room) [] rs) records o.1.follow;
-        },
-      )
+          whole = o.whole;
+          came = same_read h stands is o.came;
+          keeping = record { stands = stands_on h stands; settled = subst (λ (rs : List (List ℕ)). IsSettled is_told seen may_leave after end rs) records o.keeping.settled };
+          had = subst (λ (rs : List (List ℕ)). HasRecords (seen disk) rs) records o.had;
+          only = λ others has. o.only others has ∙ records;
+          follow = subst (λ (rs : List (List ℕ)). AllFollow (may_follow room) [] rs) records o.follow;
+        }
+
+    pub opened_on : ((h : Entries) × Before h) → ((h : Entries) × Now h)
+    opened_on o = let stands = o.1.keeping.stands in ((stays room o.0 stands.stands).after, opened_at o.0 stands o.1)
+
+    -- it stands for a history, and was opened by the very same where its disk is known
+    pub stands_open : ((h : Entries) × StandsOpen Stands Comes (room_records room) (may_follow room) book end broken h × (is_told disk → Before h))
+        → ((h : Entries) × StandsOpen Stands (Reads room) (room_records room) (may_follow room) now end broken h × (is_told disk → Now h))
+    stands_open o =
+        let stands = o.1.stands in
+        let records = same_records o.0 stands in (
+          (stays room o.0 stands.stands).after,
+          record {
+            whole = o.1.whole;
+            stands = stands_on o.0 stands;
+            came = same_read o.0 stands is o.1.came;
+            place = o.1.place ∙ ap (λ (rs : List (List ℕ)). length (open_records rs)) records;
+            follow = subst (λ (rs : List (List ℕ)). AllFollow (may_follow room) [] rs) records o.1.follow;
+          },
+          λ told. opened_at o.0 stands (o.2 told),
+        )

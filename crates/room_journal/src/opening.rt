@@ -24,7 +24,8 @@ pub fn open_book<D: Disk + Drop>(
 ) -> Result<KeptObject<RoomBook, D>, (OpenNo, D)>
     requires { room ≤ 63 }
     ensures opened { D.is_told disk → IfOk result (λ k. (h : List (Entry (Asks GameKind))) × IsOpened (λ b h. StandsIn b.room b.book h) (λ b h. ReadsBack room h) (room_records room) (may_follow room) D.is_told D.seen D.may_leave disk k.object k.file.disk k.file.end k.broken h) }
-    ensures stands { IfOk result (λ k. (h : List (Entry (Asks GameKind))) × StandsOpen (λ b h. StandsIn b.room b.book h) (λ b h. ReadsBack room h) (room_records room) (may_follow room) k.object k.file.end k.broken h) }
+    ensures stands { IfOk result (λ k. (h : List (Entry (Asks GameKind))) × StandsOpen (λ b h. StandsIn b.room b.book h) (λ b h. ReadsBack room h) (room_records room) (may_follow room) k.object k.file.end k.broken h
+        × (D.is_told disk → IsOpened (λ b h. StandsIn b.room b.book h) (λ b h. ReadsBack room h) (room_records room) (may_follow room) D.is_told D.seen D.may_leave disk k.object k.file.disk k.file.end k.broken h)) }
     ensures room { IfOk result (λ k. k.object.room ≡ room) }
     ensures never_falls { IfOk result (λ k. D.faults disk ≤ D.faults k.file.disk) }
     ensures refused { IfErr result (λ e. IsRefused (may_follow room) D.is_told D.seen D.faults disk e.1 e.0) }
@@ -47,7 +48,8 @@ fn open_for<D: Disk + Drop>(
 ) -> Result<KeptObject<RoomBook, D>, (OpenNo, D)>
     requires { StandsIn book.room book.book [] }
     ensures opened { D.is_told disk → IfOk result (λ k. (h : List (Entry (Asks GameKind))) × IsOpened (λ b h. StandsIn b.room b.book h) (λ b h. ReadsBack book.room h) (room_records book.room) (may_follow book.room) D.is_told D.seen D.may_leave disk k.object k.file.disk k.file.end k.broken h) }
-    ensures stands { IfOk result (λ k. (h : List (Entry (Asks GameKind))) × StandsOpen (λ b h. StandsIn b.room b.book h) (λ b h. ReadsBack book.room h) (room_records book.room) (may_follow book.room) k.object k.file.end k.broken h) }
+    ensures stands { IfOk result (λ k. (h : List (Entry (Asks GameKind))) × StandsOpen (λ b h. StandsIn b.room b.book h) (λ b h. ReadsBack book.room h) (room_records book.room) (may_follow book.room) k.object k.file.end k.broken h
+        × (D.is_told disk → IsOpened (λ b h. StandsIn b.room b.book h) (λ b h. ReadsBack book.room h) (room_records book.room) (may_follow book.room) D.is_told D.seen D.may_leave disk k.object k.file.disk k.file.end k.broken h)) }
     ensures room { IfOk result (λ k. k.object.room ≡ book.room) }
     ensures never_falls { IfOk result (λ k. D.faults disk ≤ D.faults k.file.disk) }
     ensures refused { IfErr result (λ e. IsRefused (may_follow book.room) D.is_told D.seen D.faults disk e.1 e.0) }

@@ -1,5 +1,5 @@
 -- What the calls of a turn on the bench leave.
-use Rattle.std.proofs.Common.{◌≡◌, ◌∙◌, ℕ, Bool, List, Option, Some, None, inl, inr, ap}
+use Rattle.std.proofs.Common.{◌≡◌, ◌≤◌, ◌∙◌, ℕ, Bool, List, Option, Some, None, inl, inr, ap, refl}
 use Rattle.any_game.specs.GameKind.{GameKind}
 use Rattle.dice_words.specs.Strip.{Strip}
 use Rattle.game_hall.specs.Core.{Core, fresh, with_bench}
@@ -23,6 +23,14 @@ idle_sat rooms c sat idle = record {
   done = record { rooms_are = idle.done.rooms_are; few = idle.done.few; uncalled = idle.done.uncalled; closed = idle.done.closed };
   written = idle.written;
   rests = idle.rests;
+}
+
+-- a core that has done nothing is idle
+pub idle_fresh : (pass rooms : ℕ) → rooms ≤ 64 → IsIdle rooms (with_bench (fresh pass rooms))
+idle_fresh pass rooms few = record {
+  done = record { rooms_are = refl; few = few; uncalled = refl; closed = refl };
+  written = refl;
+  rests = tt;
 }
 
 -- what is left of a session: a Detach, a bot that rose, and a core that has done nothing

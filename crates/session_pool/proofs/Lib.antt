@@ -11,6 +11,7 @@ pub mod Places
 pub mod Placing
 pub mod Replies
 pub mod Saying
+pub mod Seeing
 pub mod Sends
 pub mod Turns
 pub mod Watching

@@ -11,6 +11,7 @@ use Rattle.session_pool.specs.Passes.{Pass, dealt_by, number_of, unseen}
 use Rattle.session_pool.specs.Placed.{AttachedBy}
 use Rattle.session_pool.specs.Sittings.{AreServed, Fits, Rests}
 use Rattle.session_pool.specs.Turn.{Stand}
+use Rattle.session_pool.specs.Watched.{History}
 use Rattle.session_pool.proofs.Passes.{number_is}
 
 pub all_next : {X : Type 0} (P : X → Type 0) (xs ys : List X) (x : X) → xs ≡ x ∷ ys → All P xs → P x × All P ys
@@ -94,26 +95,26 @@ pub as_many_mapped : {X Y Z : Type 0} (f : X → Y) (g : Z → Y) (xs : List X) 
 as_many_mapped f g xs zs e = let l = ap length e in let m = length-map xs f in let n = length-map zs g in omega (arith, l, m, n)
 
 -- the passes of a place are those of its number
-passes_of : (desks : List SetUp) (bench : DeskId) (seed : List ℕ) (places : ℕ) (s : Stand) → Fits desks bench seed places s → map unseen s.passes ≡ map (dealt_by (number_of s.passes)) desks
-passes_of desks bench seed places s fit =
+passes_of : (desks : List SetUp) (bench : DeskId) (seed : List ℕ) (places : ℕ) (pasts : List History) (s : Stand) → Fits desks bench seed places pasts s → map unseen s.passes ≡ map (dealt_by (number_of s.passes)) desks
+passes_of desks bench seed places pasts s fit =
     fit.belong ∙ ap (λ n. map (dealt_by n) desks) (sym (number_is desks s.core.pass s.passes fit.some fit.belong))
 
 -- places of the same numbers have the same passes, whatever these have seen
-pub same_passes : (desks : List SetUp) (bench : DeskId) (seed : List ℕ) (places : ℕ) (before after : List Stand) → map (λ s. number_of s.passes) after ≡ map (λ s. number_of s.passes) before
-    → All (Fits desks bench seed places) before → All (Fits desks bench seed places) after → map (λ s. map unseen s.passes) after ≡ map (λ s. map unseen s.passes) before
-same_passes desks bench seed places before after e fit fits =
+pub same_passes : (desks : List SetUp) (bench : DeskId) (seed : List ℕ) (places : ℕ) (pasts : List History) (before after : List Stand) → map (λ s. number_of s.passes) after ≡ map (λ s. number_of s.passes) before
+    → All (Fits desks bench seed places pasts) before → All (Fits desks bench seed places pasts) after → map (λ s. map unseen s.passes) after ≡ map (λ s. map unseen s.passes) before
+same_passes desks bench seed places pasts before after e fit fits =
     let number : Stand → ℕ = λ s. number_of s.passes in
     let many = as_many_mapped number number after before e in
     same_map (λ s. map unseen s.passes) before after (sym many) (λ k d low.
     let there : k < length after = omega (arith, low, many) in
     let same : number (slice_index_or after k d) ≡ number (slice_index_or before k d) =
     sym (get_or-map number after k d (number d) there) ∙ (ap (λ l. slice_index_or l k (number d)) e ∙ get_or-map number before k d (number d) low) in
-    passes_of desks bench seed places (slice_index_or after k d) (fits k d there)
-    ∙ (ap (λ n. map (dealt_by n) desks) same ∙ sym (passes_of desks bench seed places (slice_index_or before k d) (fit k d low))))
+    passes_of desks bench seed places pasts (slice_index_or after k d) (fits k d there)
+    ∙ (ap (λ n. map (dealt_by n) desks) same ∙ sym (passes_of desks bench seed places pasts (slice_index_or before k d) (fit k d low))))
 
 -- at a place without a session no pass is attached
-free_at : (desks : List SetUp) (bench : DeskId) (seed : List ℕ) (places : ℕ) (s : Stand) → Fits desks bench seed places s → Rests seed places s → AttachedBy s.passes None
-free_at desks bench seed places s fit rest = subst (AttachedBy s.passes) (ap (λ c. c.at) rest.fresh_is) fit.attached
+free_at : (desks : List SetUp) (bench : DeskId) (seed : List ℕ) (places : ℕ) (pasts : List History) (s : Stand) → Fits desks bench seed places pasts s → Rests seed places pasts s → AttachedBy s.passes None
+free_at desks bench seed places pasts s fit rest = subst (AttachedBy s.passes) (ap (λ c. c.at) rest.fresh_is) fit.attached
 
 pub all_of_map : {X Y : Type 0} (P : Y → Type 0) (f : X → Y) (xs : List X) (ys : List Y) → map f xs ≡ ys → All P ys → All (λ x. P (f x)) xs
 all_of_map P f xs ys e all k d low =
@@ -121,31 +122,31 @@ all_of_map P f xs ys e all k d low =
     let len = ap length e in
     subst P (ap (λ z. slice_index_or z k (f d)) (sym e) ∙ get_or-map f xs k d (f d) low) (all k (f d) (omega arith))
 
-pub all_free : {V : Type 0} (items : V → List Pass) (desks : List SetUp) (bench : DeskId) (seed : List ℕ) (places : ℕ) (sittings : List Stand) (back : List V) → map items back ≡ map (λ s. s.passes) sittings
-    → All (Fits desks bench seed places) sittings → All (Rests seed places) sittings → All (λ v. AttachedBy (items v) None) back
-all_free items desks bench seed places sittings back e fit rest =
+pub all_free : {V : Type 0} (items : V → List Pass) (desks : List SetUp) (bench : DeskId) (seed : List ℕ) (places : ℕ) (pasts : List History) (sittings : List Stand) (back : List V) → map items back ≡ map (λ s. s.passes) sittings
+    → All (Fits desks bench seed places pasts) sittings → All (Rests seed places pasts) sittings → All (λ v. AttachedBy (items v) None) back
+all_free items desks bench seed places pasts sittings back e fit rest =
     all_of_map (λ p. AttachedBy p None) items back (map (λ s. s.passes) sittings) e
-    (All-map (λ p. AttachedBy p None) (λ s. s.passes) sittings (λ k d low. free_at desks bench seed places (slice_index_or sittings k d) (fit k d low) (rest k d low)))
+    (All-map (λ p. AttachedBy p None) (λ s. s.passes) sittings (λ k d low. free_at desks bench seed places pasts (slice_index_or sittings k d) (fit k d low) (rest k d low)))
 
 -- a door that tells of no link that came back
-pub none_served : (may_refuse : RoomCall GameKind → Bool) (seed : List ℕ) (places : ℕ) (known : Stand → Type 0) (told : Option (List Returned)) → IfSome told (λ links. links ≡ []) → AreServed may_refuse seed places known told
-none_served may_refuse seed places known None none = tt
-none_served may_refuse seed places known (Some links) none = subst (λ l. AreServed may_refuse seed places known (Some l)) (sym none) (λ k d low. absurd (omega arith))
+pub none_served : (may_refuse : RoomCall GameKind → Bool) (seed : List ℕ) (places : ℕ) (pasts : List History) (known : Stand → Type 0) (told : Option (List Returned)) → IfSome told (λ links. links ≡ []) → AreServed may_refuse seed places pasts known told
+none_served may_refuse seed places pasts known None none = tt
+none_served may_refuse seed places pasts known (Some links) none = subst (λ l. AreServed may_refuse seed places pasts known (Some l)) (sym none) (λ k d low. absurd (omega arith))
 
 -- what is known of where sessions stood in the end says something else too
-pub served_as : (may_refuse : RoomCall GameKind → Bool) (seed : List ℕ) (places : ℕ) (known other : Stand → Type 0) → ((s : Stand) → known s → other s) → (told : Option (List Returned))
-    → AreServed may_refuse seed places known told → AreServed may_refuse seed places other told
-served_as may_refuse seed places known other says None served = tt
-served_as may_refuse seed places known other says (Some links) served = λ k d low.
+pub served_as : (may_refuse : RoomCall GameKind → Bool) (seed : List ℕ) (places : ℕ) (pasts : List History) (known other : Stand → Type 0) → ((s : Stand) → known s → other s) → (told : Option (List Returned))
+    → AreServed may_refuse seed places pasts known told → AreServed may_refuse seed places pasts other told
+served_as may_refuse seed places pasts known other says None served = tt
+served_as may_refuse seed places pasts known other says (Some links) served = λ k d low.
     let was = served k d low in
     (was.0, says was.0 was.1, was.2)
 
 -- places whose passes at the bench are of its desk
-at_the_bench : (desks : List SetUp) (bench : DeskId) (seed : List ℕ) (places : ℕ) (sittings : List Stand) → All (Fits desks bench seed places) sittings → All (λ (s : Stand). s.bench.desk ≡ bench) sittings
-at_the_bench desks bench seed places sittings fit k d low = (fit k d low).at_bench
+at_the_bench : (desks : List SetUp) (bench : DeskId) (seed : List ℕ) (places : ℕ) (pasts : List History) (sittings : List Stand) → All (Fits desks bench seed places pasts) sittings → All (λ (s : Stand). s.bench.desk ≡ bench) sittings
+at_the_bench desks bench seed places pasts sittings fit k d low = (fit k d low).at_bench
 
-pub all_at_bench : {V : Type 0} (desk : V → DeskId) (desks : List SetUp) (bench : DeskId) (seed : List ℕ) (places : ℕ) (sittings : List Stand) (back : List V) → map desk back ≡ map (λ s. s.bench.desk) sittings
-    → All (Fits desks bench seed places) sittings → All (λ v. desk v ≡ bench) back
-all_at_bench desk desks bench seed places sittings back e fit =
+pub all_at_bench : {V : Type 0} (desk : V → DeskId) (desks : List SetUp) (bench : DeskId) (seed : List ℕ) (places : ℕ) (pasts : List History) (sittings : List Stand) (back : List V) → map desk back ≡ map (λ s. s.bench.desk) sittings
+    → All (Fits desks bench seed places pasts) sittings → All (λ v. desk v ≡ bench) back
+all_at_bench desk desks bench seed places pasts sittings back e fit =
     all_of_map (λ b. b ≡ bench) desk back (map (λ s. s.bench.desk) sittings) e
-    (All-map (λ b. b ≡ bench) (λ s. s.bench.desk) sittings (at_the_bench desks bench seed places sittings fit))
+    (All-map (λ b. b ≡ bench) (λ s. s.bench.desk) sittings (at_the_bench desks bench seed places pasts sittings fit))

@@ -6,11 +6,9 @@ use Rattle.std.proofs.lemmas.List.{append-nil, get_or-map, get_or_default, lengt
 use Rattle.room_desk.specs.History.{Begins, DeskId, SetUp}
 use Rattle.session_pool.specs.Passes.{Belong, Pass, dealt_by, unseen}
 use Rattle.session_pool.specs.Watched.{AllBegin, AllKnow, History, Knows, desk_at, seen_of}
+use Rattle.session_pool.proofs.Seeing.{begins_on}
 
 -- ---- one pass
-
-begins_on : (h seen more : History) → Begins h seen → Begins seen more → Begins h more
-begins_on h seen more (later, is) (newer, e) = (later ++ newer, is ∙ (ap (λ l. later ++ l) e ∙ sym (append_assoc later newer more)))
 
 -- what a pass of a watch knew, it still knows once it has seen more
 pub knows_on : (at : Option Pass) (w : Pass) (seen : History) → at ≡ Some w → Begins seen w.seen → (p : Pass) → Knows at p → Begins seen p.seen

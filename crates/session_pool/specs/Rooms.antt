@@ -1,7 +1,8 @@
--- Passes of all rooms: those that each room has dealt, and those that each place has.
-use Rattle.std.specs.Prelude.{ℕ, ◌+◌, zero, suc, List, [], ◌∷◌, ◌++◌, map}
+-- Passes of all rooms: those that each room has dealt, those that each place has, and what they have seen.
+use Rattle.std.specs.Prelude.{◌≡◌, ℕ, ◌+◌, zero, suc, List, [], ◌∷◌, ◌++◌, map, All}
 use Rattle.room_desk.specs.History.{SetUp, dealt}
 use Rattle.session_pool.specs.Passes.{Pass, dealt_by}
+use Rattle.session_pool.specs.Watched.{History}
 
 -- the first passes of each room, as if they had seen nothing
 abbrev pub dealt_to : List SetUp → ℕ → List (List Pass)
@@ -20,3 +21,15 @@ rows_from desks k (suc n) = row_of desks k ∷ rows_from desks (k + 1) n
 abbrev pub numbers : ℕ → ℕ → List ℕ
 numbers k zero = []
 numbers k (suc n) = numbers k n ++ (k + n) ∷ []
+
+-- rooms stand for these histories, one by one
+abbrev pub StandFor : {B : Type 0} → (B → History → Type 0) → List B → List History → Type 0
+StandFor stands_for [] [] = Unit {0}
+StandFor stands_for (room ∷ rooms) (h ∷ histories) = stands_for room h × StandFor stands_for rooms histories
+StandFor stands_for rooms histories = ⊥
+
+-- the passes of each room have seen its history, and no more
+abbrev pub HaveSeen : List (List Pass) → List History → Type 0
+HaveSeen [] [] = Unit {0}
+HaveSeen (passes ∷ rooms) (h ∷ histories) = All (λ p. p.seen ≡ h) passes × HaveSeen rooms histories
+HaveSeen rooms histories = ⊥

@@ -15,6 +15,7 @@ use Rattle.session_driver.specs.Hearing.{Side}
 use Rattle.session_pool.specs.Passes.{Belong, Pass, number_of}
 use Rattle.session_pool.specs.Placed.{AttachedBy, IsIdle}
 use Rattle.session_pool.specs.Turn.{Calls, Stand, Turn, side_of, stand}
+use Rattle.session_pool.specs.Watched.{AllBegin, History, seen_of}
 
 -- where a session stands that has done nothing yet, over so many rooms, with these passes and words, and this pass at the bench
 abbrev pub begins : ℕ → List Pass → Strip → Seen → Stand
@@ -25,16 +26,18 @@ abbrev pub DrawsFrom : List ℕ → ℕ → Strip → Type 0
 DrawsFrom seed stream words = words.source ≡ Some (seed, stream)
 
 -- One of so many places, without a session: its core has the passes' number and has done nothing. The next session draws from the stream of that
--- number of the seed.
-pub record Rests (seed : List ℕ) (places : ℕ) (s : Stand) : Type 0 where
+-- number of the seed. Its passes have seen all that the rooms stood for when they were opened.
+pub record Rests (seed : List ℕ) (places : ℕ) (pasts : List History) (s : Stand) : Type 0 where
   pub own : number_of s.passes ≡ s.core.pass
   pub within : s.core.pass < places
   pub fresh_is : s.core ≡ with_bench (fresh s.core.pass s.core.rooms)
   pub draws : DrawsFrom seed s.core.pass s.words
+  pub since : AllBegin (seen_of s.passes) pasts
 
 -- One of so many places between two turns: there are 1 to 64 desks, and the passes are one for each, in their order, with the core's number; the
--- session is attached where its core is. Its pass at the bench is one of that desk.
-pub record Fits (desks : List SetUp) (bench : DeskId) (seed : List ℕ) (places : ℕ) (s : Stand) : Type 0 where
+-- session is attached where its core is. Its pass at the bench is one of that desk. Its passes have seen all that the rooms stood for when they were
+-- opened.
+pub record Fits (desks : List SetUp) (bench : DeskId) (seed : List ℕ) (places : ℕ) (pasts : List History) (s : Stand) : Type 0 where
   pub some : 0 < length desks
   pub few : length desks ≤ 64
   pub belong : Belong desks s.core.pass s.passes
@@ -43,6 +46,7 @@ pub record Fits (desks : List SetUp) (bench : DeskId) (seed : List ℕ) (places 
   pub attached : AttachedBy s.passes s.core.at
   pub at_bench : s.bench.desk ≡ bench
   pub draws : DrawsFrom seed s.core.pass s.words
+  pub since : AllBegin (seen_of s.passes) pasts
 
 -- ---- the end of a session
 
@@ -58,6 +62,7 @@ Leaves may_refuse s t = (m : Side (List Pass)) × (p : Seen) × Detaches may_ref
 -- ---- the links of a door
 
 -- Each link that came back, where the door tells them: all that it tells was told in turns of one session, from its first byte to its end, at one of
--- so many places, which had no session then and whose words come from the stream of its number of this seed; and where it stood in the end is known.
-abbrev pub AreServed : (RoomCall GameKind → Bool) → List ℕ → ℕ → (Stand → Type 0) → Option (List Returned) → Type 0
-AreServed may_refuse seed places known told = WereServed (Turn may_refuse) (Leaves may_refuse) (Rests seed places) known told
+-- so many places, which had no session then and whose words come from the stream of its number of this seed; its passes had seen these histories, for
+-- which the rooms stood when they were opened; and where it stood in the end is known.
+abbrev pub AreServed : (RoomCall GameKind → Bool) → List ℕ → ℕ → List History → (Stand → Type 0) → Option (List Returned) → Type 0
+AreServed may_refuse seed places pasts known told = WereServed (Turn may_refuse) (Leaves may_refuse) (Rests seed places pasts) known told

@@ -5,7 +5,7 @@ ghost use Rattle.link_rounds.specs.Gate.{Ended};
 ghost use Rattle.session_pool.specs.Passes.{Belong, number_of, unseen};
 ghost use Rattle.session_pool.specs.Placed.{AttachedBy};
 ghost use Rattle.session_pool.specs.Sittings.{AreServed, Fits, Rests};
-ghost use Rattle.session_pool.specs.Watched.{AllKnow, StandsIn, desk_at, seen_of};
+ghost use Rattle.session_pool.specs.Watched.{AllBegin, AllKnow, StandsIn, desk_at, seen_of};
 
 use crate::sitting::{Hall, Seeded, Sitting};
 use crate::watch::{set_out, take_back};
@@ -33,10 +33,11 @@ fn rise<'a, B: HostedRoom<AnyGame>, K: Seeded>(
     requires belong { Belong desks.now (number_of passes.items) passes.items }
     requires free { AttachedBy passes.items None }
     requires within { number_of passes.items < K.places }
+    requires began { AllBegin (seen_of passes.items) K.pasts }
     requires bench { bench_pass.desk ≡ bench.now.desk }
     requires seed { K.seed ≡ seed }
-    ensures fit { Fits desks.now bench.now.desk K.seed K.places result }
-    ensures rest { Rests K.seed K.places result }
+    ensures fit { Fits desks.now bench.now.desk K.seed K.places K.pasts result }
+    ensures rest { Rests K.seed K.places K.pasts result }
     ensures passes { result.passes ≡ passes.items }
 {
     Sitting::new(passes, bench_pass, desks.len() as u8, seed)
@@ -55,11 +56,12 @@ fn raise<'a, B: HostedRoom<AnyGame>, K: Seeded>(
     requires belong { All (λ p. Belong desks.now (number_of p.items) p.items) passes.items }
     requires free { All (λ p. AttachedBy p.items None) passes.items }
     requires within { All (λ p. number_of p.items < K.places) passes.items }
+    requires began { All (λ p. AllBegin (seen_of p.items) K.pasts) passes.items }
     requires bench { (vec_len bench_passes ≡ vec_len passes) × All (λ p. p.desk ≡ bench.now.desk) bench_passes.items }
     requires seed { K.seed ≡ seed }
     ensures many { IfOk result (λ s. vec_len s ≡ vec_len passes) }
-    ensures fit { IfOk result (λ s. All (Fits desks.now bench.now.desk K.seed K.places) s.items) }
-    ensures rest { IfOk result (λ s. All (Rests K.seed K.places) s.items) }
+    ensures fit { IfOk result (λ s. All (Fits desks.now bench.now.desk K.seed K.places K.pasts) s.items) }
+    ensures rest { IfOk result (λ s. All (Rests K.seed K.places K.pasts) s.items) }
     ensures passes { IfOk result (λ s. map (λ x. x.passes) s.items ≡ map (λ p. p.items) passes.items) }
     ensures err { IfErr result (λ p. (p.0.items ≡ passes.items) × (p.1.items ≡ bench_passes.items)) }
 {
@@ -155,18 +157,18 @@ where
     requires some { 0 < vec_len readies }
     requires enough { vec_len readies ≤ vec_len sittings }
     requires few { vec_len sittings < 4294967296 }
-    requires fit { All (Fits desks.now bench.now.desk K.seed K.places) sittings.items }
-    requires rest { All (Rests K.seed K.places) sittings.items }
+    requires fit { All (Fits desks.now bench.now.desk K.seed K.places K.pasts) sittings.items }
+    requires rest { All (Rests K.seed K.places K.pasts) sittings.items }
     requires fresh { (D.given door ≡ 0) × (D.out door ≡ 0) × (D.bots_out door ≡ 0) × (D.shut door ≡ false) }
     requires named { map (λ d. d.desk) desks.now ≡ K.desks }
     requires watch { map desk_at watch.items ≡ map Some K.desks }
-    requires served { AreServed B.may_starve K.seed K.places (λ s. AllKnow watch.items s.passes) (D.returned door) }
+    requires served { AreServed B.may_starve K.seed K.places K.pasts (λ s. AllKnow watch.items s.passes) (D.returned door) }
     requires room { (vec_len sittings ≤ vec_capacity back) × (vec_len sittings ≤ vec_capacity bench_back) × (vec_len watch ≤ vec_capacity watch_back) }
     requires empty { (back.items ≡ []) × (bench_back.items ≡ []) × (watch_back.items ≡ []) }
     ensures out { (D.out result.5 ≡ 0) × (D.bots_out result.5 ≡ 0) }
     ensures given { D.given result.5 ≡ result.1 }
     ensures ended { Ended sessions (D.faults door) (D.left door) (D.shut result.5) (D.faults result.5) result.1 (Some result.0) }
-    ensures served { AreServed B.may_starve K.seed K.places (StandsIn (seen_of result.4.items)) (D.returned result.5) }
+    ensures served { AreServed B.may_starve K.seed K.places K.pasts (StandsIn (seen_of result.4.items)) (D.returned result.5) }
     ensures handed { map (λ p. map unseen p.items) result.2.items ≡ map (λ s. map unseen s.passes) sittings.entry.items }
     ensures free { All (λ p. AttachedBy p.items None) result.2.items }
     ensures watch { map (λ p. p.desk) result.4.items ≡ map (λ d. d.desk) desks.now }
@@ -216,7 +218,7 @@ fn run<
 )
 where
     D::L: Send,
-    requires seeded { (K.seed ≡ seed) × (K.places ≡ vec_len passes) × (K.desks ≡ map (λ d. d.desk) desks.now) }
+    requires seeded { (K.seed ≡ seed) × (K.places ≡ vec_len passes) × (K.desks ≡ map (λ d. d.desk) desks.now) × (K.pasts ≡ seen_of watch.items) }
     requires rooms { (0 < length desks.now) × (length desks.now ≤ 64) }
     requires some { 0 < vec_len readies }
     requires enough { vec_len readies ≤ vec_len passes }
@@ -224,6 +226,7 @@ where
     requires belong { All (λ p. Belong desks.now (number_of p.items) p.items) passes.items }
     requires free { All (λ p. AttachedBy p.items None) passes.items }
     requires within { All (λ p. number_of p.items < vec_len passes) passes.items }
+    requires began { All (λ p. AllBegin (seen_of p.items) (seen_of watch.items)) passes.items }
     requires bench { (vec_len bench_passes ≡ vec_len passes) × All (λ p. p.desk ≡ bench.now.desk) bench_passes.items }
     requires watch { map (λ p. p.desk) watch.items ≡ map (λ d. d.desk) desks.now }
     requires fresh { (D.given door ≡ 0) × (D.out door ≡ 0) × (D.bots_out door ≡ 0) × (D.shut door ≡ false) }
@@ -231,7 +234,7 @@ where
     ensures out { (D.out result.5 ≡ 0) × (D.bots_out result.5 ≡ 0) }
     ensures given { D.given result.5 ≡ result.1 }
     ensures ended { Ended sessions (D.faults door) (D.left door) (D.shut result.5) (D.faults result.5) result.1 (Some result.0) }
-    ensures served { AreServed B.may_starve seed (vec_len passes) (StandsIn (seen_of result.4.items)) (D.returned result.5) }
+    ensures served { AreServed B.may_starve seed (vec_len passes) (seen_of watch.items) (StandsIn (seen_of result.4.items)) (D.returned result.5) }
     ensures handed { map (λ p. map unseen p.items) result.2.items ≡ map (λ p. map unseen p.items) passes.items }
     ensures free { All (λ p. AttachedBy p.items None) result.2.items }
     ensures watch { map (λ p. p.desk) result.4.items ≡ map (λ d. d.desk) desks.now }
@@ -262,11 +265,14 @@ where
 /// handed back in their order.
 ///
 /// There are 1 to 64 desks, at least one worker, and a place or more for each. A list of passes has one for each desk, in their order, all with one
-/// number below the count of lists, and none is attached; so they are afterwards. There is a pass at the bench for each list; the place of a list
-/// has the bench pass at the list's index, and these passes are handed back too. A watch has a pass of each desk, in their order. The door has given
-/// no link, hasn't answered that it is shut, and tells of no link that came back. The place of number p draws its words from stream p of the seed, one session after another. With every end
-/// comes the count of the links that the door gave. A door that tells what came back tells only links that were served, each by a session whose
-/// passes had seen no more in the end than what the watch's, which are handed back before the door, have seen: that is how their histories begin.
+/// number below the count of lists, and none is attached; so they are afterwards. They have seen all that the watch's passes have. There is a pass at
+/// the bench for each list; the place of a list has the bench pass at the list's index, and these passes are handed back too. A watch has a pass of
+/// each desk, in their order. The door has given no link, hasn't answered that it is shut, and tells of no link that came back. The place of number p
+/// draws its words from stream p of the seed, one session after another. With every end comes the count of the links that the door gave.
+///
+/// A door that tells what came back tells only links that were served. The passes of each session had seen, before its first turn, all that the
+/// watch's had when they were handed in; in the end they had seen no more than the watch's, which are handed back before the door, have: that is how
+/// their histories begin.
 pub fn serve_door<
     B: HostedRoom<AnyGame> + Send,
     D: Door + Send,
@@ -301,6 +307,7 @@ where
     requires belong { All (λ p. Belong desks.now (number_of p.items) p.items) passes.items }
     requires free { All (λ p. AttachedBy p.items None) passes.items }
     requires within { All (λ p. number_of p.items < vec_len passes) passes.items }
+    requires began { All (λ p. AllBegin (seen_of p.items) (seen_of watch.items)) passes.items }
     requires bench { (vec_len bench_passes ≡ vec_len passes) × All (λ p. p.desk ≡ bench.now.desk) bench_passes.items }
     requires watch { map (λ p. p.desk) watch.items ≡ map (λ d. d.desk) desks.now }
     requires fresh { (D.given door ≡ 0) × (D.out door ≡ 0) × (D.bots_out door ≡ 0) × (D.shut door ≡ false) }
@@ -308,7 +315,7 @@ where
     ensures out { (D.out result.5 ≡ 0) × (D.bots_out result.5 ≡ 0) }
     ensures given { D.given result.5 ≡ result.1 }
     ensures ended { Ended sessions (D.faults door) (D.left door) (D.shut result.5) (D.faults result.5) result.1 (Some result.0) }
-    ensures served { AreServed B.may_starve seed (vec_len passes) (StandsIn (seen_of result.4.items)) (D.returned result.5) }
+    ensures served { AreServed B.may_starve seed (vec_len passes) (seen_of watch.items) (StandsIn (seen_of result.4.items)) (D.returned result.5) }
     ensures handed { map (λ p. map unseen p.items) result.2.items ≡ map (λ p. map unseen p.items) passes.items }
     ensures free { All (λ p. AttachedBy p.items None) result.2.items }
     ensures watch { map (λ p. p.desk) result.4.items ≡ map (λ d. d.desk) desks.now }

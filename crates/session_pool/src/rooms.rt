@@ -9,7 +9,8 @@ ghost use Rattle.room_history.specs.declared.call.RoomCall.{RoomCall as Asks};
 ghost use Rattle.room_object.specs.Entry.{Entry};
 ghost use Rattle.session_pool.specs.Passes.{Belong, number_of, unseen};
 ghost use Rattle.session_pool.specs.Placed.{AttachedBy};
-ghost use Rattle.session_pool.specs.Rooms.{row_of, rows_from, dealt_to, numbers};
+ghost use Rattle.session_pool.specs.Rooms.{HaveSeen, StandFor, row_of, rows_from, dealt_to, numbers};
+ghost use Rattle.session_pool.specs.Watched.{History, seen_of};
 
 use any_game::AnyGame;
 use game_sheet::NoMemory;
@@ -32,6 +33,8 @@ fn row<B: HostedRoom<AnyGame>>(
     ensures row_free { IfOk result (λ p. AttachedBy p.items None) }
     ensures left { IfOk result (λ p. map (λ v. map unseen v.items) by_room.new.items ≡ dealt_to desks.now number) }
     ensures left_free { IfOk result (λ p. All (λ v. AttachedBy v.items None) by_room.new.items) }
+    ensures seen { (pasts : List History) → HaveSeen (map (λ v. v.items) by_room.old.items) pasts
+        → IfOk result (λ p. HaveSeen (map (λ v. v.items) by_room.new.items) pasts × (seen_of p.items ≡ pasts)) }
 {
     let mut row = Vec::with_capacity(alloc, by_room.len())?;
     for place in 0..by_room.len() {
@@ -54,6 +57,7 @@ fn deal_rooms<B: HostedRoom<AnyGame>>(
     requires free { All (λ v. AttachedBy v.items None) by_room.items }
     ensures rows { IfOk result (λ r. map (λ v. map unseen v.items) r.items ≡ rows_from desks.now 0 places) }
     ensures free { IfOk result (λ r. All (λ v. AttachedBy v.items None) r.items) }
+    ensures seen { (pasts : List History) → HaveSeen (map (λ v. v.items) by_room.items) pasts → IfOk result (λ r. All (λ v. seen_of v.items ≡ pasts) r.items) }
 {
     let mut rows = Vec::with_capacity(alloc, places as usize)?;
     let mut number = places;
@@ -78,13 +82,15 @@ fn open_room<B: HostedRoom<AnyGame>>(
     ensures count { IfOk result (λ r. r.0.passes ≡ passes) }
     ensures passes { IfOk result (λ r. map unseen r.1.items ≡ dealt [] r.0.desk passes) }
     ensures free { IfOk result (λ r. AttachedBy r.1.items None) }
+    ensures seen { IfOk result (λ r. (past : History) × B.stands_for room past × All (λ p. p.seen ≡ past) r.1.items) }
 {
     Desk::set_up(alloc, room, passes)
 }
 
 /// The desks of 1 to 64 rooms, and for each of 1 to 65,536 places its passes, one for each room in order, all with the place's number.
 ///
-/// The rooms are numbered from 0. Each stands for the calls that it has had, and in none is a pass of these places attached.
+/// The rooms are numbered from 0. Each stands for the calls that it has had, and in none is a pass of these places attached. The passes have seen the
+/// calls that their rooms stood for, and no more.
 pub fn set_up_rooms<B: HostedRoom<AnyGame>>(
     alloc: Global,
     rooms: Vec<B>,
@@ -102,6 +108,7 @@ pub fn set_up_rooms<B: HostedRoom<AnyGame>>(
     ensures belong { IfOk result (λ r. All (λ p. Belong r.0.items (number_of p.items) p.items) r.1.items) }
     ensures free { IfOk result (λ r. All (λ p. AttachedBy p.items None) r.1.items) }
     ensures within { IfOk result (λ r. All (λ p. number_of p.items < places) r.1.items) }
+    ensures seen { IfOk result (λ r. (pasts : List History) × StandFor B.stands_for rooms.items pasts × All (λ p. seen_of p.items ≡ pasts) r.1.items) }
 {
     let mut desks = Vec::with_capacity(alloc, rooms.len())?;
     let mut by_room = Vec::with_capacity(alloc, rooms.len())?;
@@ -119,6 +126,7 @@ pub fn plain_rooms(alloc: Global, rooms: u8) -> Result<Vec<Book<AnyGame>>, NoMem
     requires rooms { rooms ≤ 64 }
     ensures count { IfOk result (λ r. vec_len r ≡ rooms) }
     ensures numbered { IfOk result (λ r. map (λ b. ⟦<Book<AnyGame> as Object>⟧.number b) r.items ≡ numbers 0 (vec_len r)) }
+    ensures fresh { IfOk result (λ r. All (λ b. ⟦<Book<AnyGame> as Object>⟧.stands_for b []) r.items) }
     ensures stand { IfOk result (λ r. All (λ b. (past : List (Entry (Asks GameKind))) × ⟦<Book<AnyGame> as Object>⟧.stands_for b past) r.items) }
     ensures nobody { (places : ℕ) → IfOk result (λ r. All (λ b. (past : List (Entry (Asks GameKind))) → ⟦<Book<AnyGame> as Object>⟧.stands_for b past
         → NobodyIn any_rules places (⟦<Book<AnyGame> as Object>⟧.number b) past) r.items) }

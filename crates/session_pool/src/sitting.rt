@@ -22,10 +22,11 @@ use std::alloc::Global;
 use std::marker::{Brand, Model, PhantomData};
 use std::sync::Wait;
 
-/// The seed of a server's words, how many places it has, and its desks, which proofs alone see.
+/// The seed of a server's words, how many places it has, its desks, and what its rooms stood for when they were opened, which proofs alone see.
 pub trait Seeded {
     ghost use Rattle.std.specs.Prelude.{ℕ, List};
     ghost use Rattle.room_desk.specs.History.{DeskId};
+    ghost use Rattle.session_pool.specs.Watched.{History};
 
     /// The seed.
     ghost seed: { List ℕ };
@@ -35,6 +36,9 @@ pub trait Seeded {
 
     /// The desks of its rooms, in their order.
     ghost desks: { List DeskId };
+
+    /// The histories that the passes of its places had seen before any session, in the rooms' order.
+    ghost pasts: { List History };
 }
 
 impl Seeded for Brand {
@@ -45,6 +49,8 @@ impl Seeded for Brand {
     ghost places = { 0 };
 
     ghost desks = { [] };
+
+    ghost pasts = { [] };
 }
 
 /// The rooms of a server, which its sessions share. Their desks are those of `K`.
@@ -163,9 +169,9 @@ impl<'a, B: HostedRoom<AnyGame> + 'a, K: Seeded> Service for Sitting<'a, B, K> {
 
     type Witness = Vec<Option<Pass<B>>>;
 
-    ghost fits = { λ hall s. Fits hall.desks.now hall.bench.now.desk K.seed K.places s };
+    ghost fits = { λ hall s. Fits hall.desks.now hall.bench.now.desk K.seed K.places K.pasts s };
 
-    ghost rests = { λ s. Rests K.seed K.places s };
+    ghost rests = { λ s. Rests K.seed K.places K.pasts s };
 
     ghost turn = { Turn B.may_starve };
 

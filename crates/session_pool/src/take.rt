@@ -14,6 +14,7 @@ ghost use Rattle.session_pool.specs.Passes.{Belong};
 ghost use Rattle.session_pool.specs.Placed.{AttachedBy, IsDone, IsIdle};
 ghost use Rattle.session_pool.specs.Taken.{IsTaken};
 ghost use Rattle.session_pool.specs.Turn.{Calls, HandsTaken, Says};
+ghost use Rattle.session_pool.specs.Watched.{AllBegin, seen_of};
 
 use crate::desks::Desks;
 use crate::say::{hand_out, say_all};
@@ -65,6 +66,7 @@ fn take_there<B: HostedRoom<AnyGame>, R: Wait>(
     ensures pass { core.new.pass ≡ core.old.pass }
     ensures sat { core.new.sat ≡ core.old.sat }
     ensures taken { IfSome result IsTaken }
+    ensures goes_on { AllBegin (seen_of rooms.new.passes.now) (seen_of rooms.old.passes.now) }
     ensures takes { Frees (Calls B.may_starve) call.Take (side rooms.old.passes.now core.old) result (side rooms.new.passes.now core.new) }
 {
     take(rooms, core)
@@ -86,6 +88,7 @@ fn take_waiting<B: HostedRoom<AnyGame>, R: Wait>(
     ensures pass { core.new.pass ≡ core.old.pass }
     ensures sat { core.new.sat ≡ core.old.sat }
     ensures taken { IfSome result IsTaken }
+    ensures goes_on { AllBegin (seen_of passes.new) (seen_of passes.old) }
     ensures takes { Frees (Calls B.may_starve) call.Take (side passes.old core.old) result (side passes.new core.new) }
 {
     let mut rooms = Desks {
@@ -133,6 +136,7 @@ pub(crate) fn speak<B: HostedRoom<AnyGame>, L: Link, R: Wait>(
     ensures attached { AttachedBy passes.new core.new.at }
     ensures pass { core.new.pass ≡ core.old.pass }
     ensures sat { core.new.sat ≡ core.old.sat }
+    ensures goes_on { AllBegin (seen_of passes.new) (seen_of passes.old) }
     ensures never_falls { L.faults link.old ≤ L.faults link.new }
     ensures shows { ShowsWhy (L.faults link.old) (L.faults link.new) result }
     ensures bye { ByeSent result (L.sent link.new) }

@@ -11,6 +11,7 @@ ghost use Rattle.session_bench.specs.Wishing.{Readies, Seen, Sought};
 ghost use Rattle.session_driver.specs.Bench.{IsAtRest, Seeks};
 ghost use Rattle.game_hall.specs.Bench.{wanted};
 ghost use Rattle.session_pool.specs.Turn.{AsksOnce, GoesOn, Turn, stand};
+ghost use Rattle.session_pool.specs.Watched.{AllBegin, seen_of};
 
 use crate::heed::heed;
 use crate::take::speak;
@@ -99,6 +100,7 @@ pub(crate) fn take_turn<B: HostedRoom<AnyGame>, L: Link, R: Wait>(
     ensures idle { IsIdle (length desks.now) core.new }
     ensures attached { AttachedBy passes.new core.new.at }
     ensures pass { core.new.pass ≡ core.old.pass }
+    ensures goes_on { AllBegin (seen_of passes.new) (seen_of passes.old) }
     ensures same_source { words.new.source ≡ words.old.source }
     ensures at_bench { bench_pass.new.desk ≡ bench_pass.old.desk }
     ensures never_falls { L.faults link.old ≤ L.faults link.new }
@@ -141,6 +143,7 @@ fn go_on<B: HostedRoom<AnyGame>, L: Link, R: Wait>(
     ensures idle { IsIdle (length desks.now) core.new }
     ensures attached { AttachedBy passes.new core.new.at }
     ensures pass { core.new.pass ≡ core.old.pass }
+    ensures goes_on { AllBegin (seen_of passes.new) (seen_of passes.old) }
     ensures same_source { words.new.source ≡ words.old.source }
     ensures at_bench { bench_pass.new.desk ≡ bench_pass.old.desk }
     ensures never_falls { L.faults link.old ≤ L.faults link.new }

@@ -16,9 +16,10 @@ use std::sync::Wait;
 use std::test::Fail;
 use std::thread::Threads;
 
-/// The disks of rooms, the last one's first, and the numbers of the rooms that could not be opened.
+/// The disks of rooms, the last one's first, how often there was none, and the numbers of the rooms that were opened and that could not be.
 struct Disks {
     disks: Vec<MemoryDisk>,
+    faults: u64,
     opened: u32,
     refused: u32,
 }
@@ -27,6 +28,7 @@ impl Drop for Disks {
     fn drop(self) {
         let Disks {
             disks,
+            faults: _,
             opened: _,
             refused: _,
         } = self;
@@ -41,8 +43,14 @@ impl Shelf for Disks {
 
     ghost given = { λ s. None };
 
+    ghost faults = { λ s. s.faults };
+
     fn disk(&mut self, _room: u8) -> Option<MemoryDisk> {
-        self.disks.pop()
+        let disk = self.disks.pop();
+        if disk.is_none() {
+            self.faults = self.faults.saturating_add(1);
+        }
+        disk
     }
 
     fn opened(&mut self, _room: u8, serial: u64, _number: Option<Number>) {
@@ -68,6 +76,7 @@ fn shelf(alloc: Global, bytes: &[u8], failing: &[u64]) -> Result<Disks, NoMemory
     ))?;
     Ok(Disks {
         disks,
+        faults: 0,
         opened: 0,
         refused: 0,
     })

@@ -36,10 +36,10 @@ returns-in-Ok-clause-hosts g c =
     inl (record {
       opened = rooms.items;
       many = counted;
-      gave = c.ready.ensures ∙ c.in-Ok.ensures.given;
+      gave = c.ready.ensures.given ∙ c.in-Ok.ensures.given;
       how = served.result.0;
       exits = c.exit_after-exit.ensures ∙ ap (exit_after served.result.0) c.as_slice.ensures.value;
       ended = served.ensures.ended;
       leaves = subst (λ n. Leave d.is_told d.seen d.may_leave d.moment d.left_since d.faults (starts_at rooms.items) n
-          (λ histories. AreServed may_refuse c.args.seed c.args.asked.links (StandsIn histories) (g.P.Door.returned served.result.1)) served.result.0 served.result.2.items) (omega (arith, rooms.ok)) served.ensures.kept;
+          (λ pasts histories. AreServed may_refuse c.args.seed c.args.asked.links pasts (StandsIn histories) (g.P.Door.returned served.result.1)) served.result.0 served.result.2.items) (omega (arith, rooms.ok)) served.ensures.kept;
     })

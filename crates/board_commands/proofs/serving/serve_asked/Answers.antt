@@ -26,5 +26,5 @@ returns-in-None-clause-serves g c =
 pub returns-in-None-clause-served : goal.returns-in-None-clause-served
 returns-in-None-clause-served g c none =
     let rooms = c.serve_rooms-end in
-    served_in (hosted g.B.Object.number g.B.Object.stands_for g.B.HostedRoom.has_stopped) (λ knows. AreServed g.B.Object.may_starve c.args.seed c.args.asked.links knows (g.D.Door.returned rooms.result.1))
-    (vec_len c.args.rooms) rooms.result.0 rooms.result.2.items rooms.ensures.closed rooms.ensures.served
+    served_in (hosted g.B.Object.number g.B.Object.stands_for g.B.HostedRoom.has_stopped) (λ pasts knows. AreServed g.B.Object.may_starve c.args.seed c.args.asked.links pasts knows (g.D.Door.returned rooms.result.1))
+    (vec_len c.args.rooms) rooms.result.0 c.args.rooms.items rooms.result.2.items rooms.ensures.closed rooms.ensures.served

@@ -1,4 +1,4 @@
-use Rattle.std.proofs.Common.{◌≡◌, ◌∙◌, ap, arith, map}
+use Rattle.std.proofs.Common.{◌≡◌, ◌∙◌, [], ap, arith, map}
 use Rattle.std.proofs.lemmas.Result.{IfOk-weaker}
 use Rattle.std.specs.Prelude.{vec_len}
 use Rattle.any_game.specs.AnyRules.{any_rules}
@@ -34,4 +34,10 @@ pub returns-clause-nobody : goal.returns-clause-nobody
 returns-clause-nobody g c places =
     IfOk-weaker c.watch_rooms.result _ _
     (λ r same. all_within (λ w. w.room) (λ b. (past : Calls) → StandsFor any_rules b past → NobodyIn any_rules places b.room past) r.0.items c.in_ok-rooms.rooms.items same (c.in_ok-rooms.ensures.nobody places))
+    c.watch_rooms.ensures
+
+pub returns-clause-fresh : goal.returns-clause-fresh
+returns-clause-fresh g c =
+    IfOk-weaker c.watch_rooms.result _ _
+    (λ r same. all_within (λ w. w.room) (λ b. StandsFor any_rules b []) r.0.items c.in_ok-rooms.rooms.items same c.in_ok-rooms.ensures.fresh)
     c.watch_rooms.ensures

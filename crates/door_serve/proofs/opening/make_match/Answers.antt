@@ -5,7 +5,9 @@ use Rattle.room_history.specs.Room.{reply}
 use Rattle.room_history.specs.declared.call.RoomCall.TheVariants as call
 use Rattle.session_driver.specs.Calls.{did}
 use Rattle.session_pool.proofs.OfDesks.{as_many, called_as, calls_made}
+use Rattle.session_pool.proofs.Seeing.{all_through, call_goes_on}
 use Rattle.session_pool.specs.Passes.{CallsDesk, number_of}
+use Rattle.session_pool.specs.Watched.{seen_of}
 use Rattle.door_serve.proofs.Created.{made_free}
 use Rattle.door_serve.proofs.opening.make_match.Goals as goal
 
@@ -36,3 +38,9 @@ returns-clause-free g c =
     (g.B.Object.is_starved told) (is_starved told) (g.met.B.HostedRoom.starves told) told c.call-reply.new.pass.seen c.call-reply.ensures.called in
     made_free passes p c.call-reply.new.pass c.args.game c.args.seats c.seed_for-seed.result told (ap (λ d. slice_index_or passes 0 d) c.index-passes-0.is)
     c.call-reply.ensures.pass called c.requires.free
+
+pub returns-clause-began : goal.returns-clause-began
+returns-clause-began g c pasts since =
+    let passes = c.args.passes.now in
+    let after = slice_set passes 0 c.call-reply.new.pass in
+    all_through (seen_of after) (seen_of passes) pasts (call_goes_on g.B.Object.may_starve passes _ after (returns-clause-made g c).1) since

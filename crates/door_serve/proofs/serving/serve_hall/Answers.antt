@@ -6,11 +6,11 @@ use Rattle.session_pool.specs.Rooms.{numbers}
 use Rattle.session_pool.specs.Sittings.{AreServed}
 use Rattle.session_pool.specs.Watched.{AllBegin, StandsIn, seen_of}
 use Rattle.session_pool.proofs.Places.{served_as}
+use Rattle.session_pool.proofs.Seeing.{all_through}
 use Rattle.door_serve.proofs.Booking.{as_many_rooms, numbered}
 use Rattle.door_serve.proofs.Gathering.{as_many_back}
 use Rattle.door_serve.proofs.OwnPasses.{all_put_back, as_many_put_back, of_watch}
 use Rattle.door_serve.proofs.Printing.{by_end}
-use Rattle.door_serve.proofs.Watching.{all_through}
 use Rattle.door_serve.specs.Ends.{Printed, end_of}
 use Rattle.door_serve.specs.Report.{report}
 use Rattle.door_serve.specs.Rooms.{Numbered, Stand, desks_of, hosted, rows_of}
@@ -63,8 +63,8 @@ pub returns-clause-served : goal.returns-clause-served
 returns-clause-served g c =
     let served = c.serve_with_keeper-served in
     let told = g.D.Door.returned served.result.0.5 in
-    subst (λ n. AreServed g.B.Object.may_starve c.args.seed n (λ s. Unit {0}) told) c.requires.many.1
-    (served_as g.B.Object.may_starve c.args.seed (vec_len c.args.rows) (StandsIn (seen_of served.result.0.4.items)) (λ s. Unit {0}) (λ s known. tt) told served.ensures.served)
+    subst (λ n. AreServed g.B.Object.may_starve c.args.seed n (seen_of c.args.watch.items) (λ s. Unit {0}) told) c.requires.many.1
+    (served_as g.B.Object.may_starve c.args.seed (vec_len c.args.rows) (seen_of c.args.watch.items) (StandsIn (seen_of served.result.0.4.items)) (λ s. Unit {0}) (λ s known. tt) told served.ensures.served)
 
 pub returns-clause-closed : goal.returns-clause-closed
 returns-clause-closed g c =
@@ -83,8 +83,8 @@ returns-clause-closed g c =
     inl (
       stand.0,
       record { many = as_many_rooms number back 0 c.args.spare.rooms are; numbered = numbered number back 0 c.args.spare.rooms are; stand = stand.1 },
-      subst (λ n. AreServed g.B.Object.may_starve c.args.seed n (StandsIn stand.0) told) c.requires.many.1
-          (served_as g.B.Object.may_starve c.args.seed (vec_len c.args.rows) (StandsIn (seen_of watch.items)) (StandsIn stand.0)
+      subst (λ n. AreServed g.B.Object.may_starve c.args.seed n (seen_of c.args.watch.items) (StandsIn stand.0) told) c.requires.many.1
+          (served_as g.B.Object.may_starve c.args.seed (vec_len c.args.rows) (seen_of c.args.watch.items) (StandsIn (seen_of watch.items)) (StandsIn stand.0)
           (λ s known. all_through stand.0 (seen_of watch.items) (seen_of s.passes) begin known) told served.ensures.served),
     )
 

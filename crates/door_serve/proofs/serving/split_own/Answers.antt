@@ -1,10 +1,12 @@
-use Rattle.std.proofs.Common.{◌+◌, ap, arith, length, map}
+use Rattle.std.proofs.Common.{◌≡◌, ◌+◌, ap, arith, length, map}
 use Rattle.std.specs.Prelude.{None}
 use Rattle.std.proofs.lemmas.List.{length-map}
 use Rattle.session_pool.specs.Passes.{unseen}
 use Rattle.session_pool.specs.Placed.{AttachedBy}
 use Rattle.session_pool.proofs.Dealing.{as_many_rows, rows_belong, rows_numbered}
-use Rattle.door_serve.proofs.Gathering.{all_last, own_desks}
+use Rattle.session_pool.proofs.Watching.{own_desks}
+use Rattle.session_pool.specs.Watched.{seen_of}
+use Rattle.door_serve.proofs.Gathering.{all_last}
 use Rattle.door_serve.proofs.OwnPasses.{split_rows, split_two}
 use Rattle.door_serve.proofs.serving.split_own.Goals as goal
 
@@ -66,3 +68,8 @@ returns-clause-watch g c =
     split_two (λ v. v.items) c.args.desks.now.items c.args.rows.items c.pop.new.self.items c.pop-2.new.self.items c.in-Some-pop.own c.in-Some.watch c.args.places (c.args.places + 2) (omega arith)
     c.in-Some.ensures.items c.in-Some-pop.ensures.items c.requires.rows in
     own_desks c.args.desks.now.items (c.args.places + 1) c.in-Some.watch.items split.2
+
+pub returns-clause-seen : goal.returns-clause-seen
+returns-clause-seen g c pasts seen =
+    let more = all_last (λ v. seen_of v.items ≡ pasts) c.args.rows.items c.pop.new.self.items c.in-Some.watch c.in-Some.ensures.items seen in
+    ((all_last (λ v. seen_of v.items ≡ pasts) c.pop.new.self.items c.pop-2.new.self.items c.in-Some-pop.own c.in-Some-pop.ensures.items more.0).0, more.1)

@@ -8,7 +8,7 @@ use Rattle.kept_room.proofs.opening.emptied.Goals as goal
 pub loop-pass-init : goal.loop-pass-init
 loop-pass-init g c =
     let d = g.D.Disk in
-    record { stands = c.requires; opened = λ number disk first told o. first_emptied d.is_told d.seen d.may_leave d.moment d.left_since d.faults number disk first told c.args.room o }
+    record { stands = c.requires; opened = λ number disk first o. first_emptied d.is_told d.seen d.may_leave d.moment d.left_since d.faults number disk first c.args.room o }
 
 pub ask_aside-requires-clause-stands : goal.ask_aside-requires-clause-stands
 ask_aside-requires-clause-stands g c = c.loop-pass.invariant.stands
@@ -20,12 +20,12 @@ loop-pass-preserved g c =
     let one = c.ask_aside.ensures in
     record {
       stands = (entry c.loop-pass.pass Detach (is_starved c.ask_aside.result) ∷ i.stands.0, one.since.stands i.stands.0 i.stands.1);
-      opened = λ number disk first told o.
-          emptied_more d.is_told d.seen d.may_leave d.moment d.left_since d.faults number disk told c.loop-pass.room c.ask_aside.new.self c.loop-pass.pass (is_starved c.ask_aside.result) one.fed one.since one.stopped one.file
-          (i.opened number disk first told o);
+      opened = λ number disk first o.
+          emptied_more d.is_told d.seen d.may_leave d.moment d.left_since d.faults number disk c.loop-pass.room c.ask_aside.new.self c.loop-pass.pass (is_starved c.ask_aside.result) one.fed one.since one.stopped one.file
+          (i.opened number disk first o);
     }
 
 pub returns : goal.returns
-returns g c = λ number disk first told o.
+returns g c = λ number disk first o.
     let d = g.D.Disk in
-    all_fewer d.is_told d.seen d.may_leave d.moment d.left_since d.faults number disk told c.loop-pass.room c.loop-pass.pass c.args.passes (omega (arith, c.loop-pass-test.false)) (c.loop-pass.invariant.opened number disk first told o)
+    all_fewer d.is_told d.seen d.may_leave d.moment d.left_since d.faults number disk c.loop-pass.room c.loop-pass.pass c.args.passes (omega (arith, c.loop-pass-test.false)) (c.loop-pass.invariant.opened number disk first o)

@@ -19,7 +19,8 @@ loop-result-preserved g c =
             counted = omega (arith, n, i.counted);
             room = omega (arith, n, i.room, push.len);
             space = omega (arith, i.space, push.capacity);
-            given = w.opened.ensures ∙ i.given;
+            given = w.opened.ensures.given ∙ i.given;
+            faults = omega (arith, i.faults, w.opened.ensures.never_falls);
             passed = (_, passed_on _ _ _ _ _ e i.passed.1);
             found = i.found;
           })
@@ -30,7 +31,8 @@ loop-result-preserved g c =
         counted = omega (arith, n, i.counted);
         room = omega (arith, n, i.room);
         space = i.space;
-        given = w.refused.ensures ∙ i.given;
+        given = w.refused.ensures.given ∙ i.given;
+        faults = omega (arith, i.faults, w.refused.ensures.never_falls);
         passed = (_, passed_on _ _ _ _ _ e i.passed.1);
         found = λ why same. found_here _ _ _ _ _ w.in-Err.why why e w.in-Err.is i.passed.1 same;
       })
@@ -41,7 +43,8 @@ loop-result-preserved g c =
         counted = omega (arith, n, i.counted);
         room = omega (arith, n, i.room);
         space = i.space;
-        given = w.refused.ensures ∙ i.given;
+        given = w.refused.ensures.given ∙ i.given;
+        faults = omega (arith, i.faults, w.refused.ensures.never_falls);
         passed = (_, passed_on _ _ _ _ _ e i.passed.1);
         found = i.found;
       })

@@ -14,6 +14,7 @@ invariant-loop-result g l = record {
   room : vec_len l.rooms + length (into_iter_items l.result-iterator) ≤ vec_len l.fn.results;
   space : vec_len l.fn.results ≤ vec_capacity l.rooms;
   given : g.S.Shelf.given l.shelf ≡ g.S.Shelf.given l.fn.shelf;
+  faults : g.S.Shelf.faults l.fn.shelf ≤ g.S.Shelf.faults l.shelf;
   passed : (done : _) × (done ++ into_iter_items l.result-iterator ≡ l.fn.results.items);
   found : (why : OpenNo) → l.first ≡ Some why → (before : _) × (after : _) × (l.fn.results.items ≡ before ++ Err why ∷ after);
 }

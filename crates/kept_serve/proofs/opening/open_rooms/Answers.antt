@@ -32,4 +32,5 @@ pub returns-in-Ok-clause-refused : goal.returns-in-Ok-clause-refused
 returns-in-Ok-clause-refused g c =
     let d = g.S.D.Disk in
     were_refused d.is_told d.seen d.may_leave d.moment d.left_since d.faults c.args.passes c.in_ok-jobs.jobs.items c.in-Ok.results.items c.args.rooms c.gather.result (g.S.Shelf.given c.args.shelf.now)
-    (g.S.Shelf.given c.take_disks.new.shelf) (g.S.Shelf.given c.gather.new.shelf) c.in_ok-jobs.ensures.numbered c.in-Ok.ensures c.in_ok-jobs.ensures.given c.gather.ensures.given c.gather.ensures.refused
+    (g.S.Shelf.given c.take_disks.new.shelf) (g.S.Shelf.given c.gather.new.shelf) (g.S.Shelf.faults c.args.shelf.now) (g.S.Shelf.faults c.gather.new.shelf) c.in_ok-jobs.ensures.numbered c.in-Ok.ensures
+    c.in_ok-jobs.ensures.given c.gather.ensures.given c.gather.ensures.refused

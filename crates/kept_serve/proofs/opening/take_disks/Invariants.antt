@@ -8,6 +8,7 @@ abbrev pub invariant-loop-room : goal.invariant-loop-room
 invariant-loop-room g l = record {
   numbered : map (λ j. j.room) l.jobs.items ≡ numbers 0 l.room;
   given : g.S.Shelf.given l.shelf ≡ option_map (λ before. before ++ map (λ j. j.disk) l.jobs.items) (g.S.Shelf.given l.fn.shelf);
+  faults : g.S.Shelf.faults l.fn.shelf ≤ g.S.Shelf.faults l.shelf;
   many : vec_len l.jobs ≡ l.room;
   space : l.rooms ≤ vec_capacity l.jobs;
 }

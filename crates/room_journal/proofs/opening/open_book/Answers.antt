@@ -19,8 +19,10 @@ returns-in-Ok-clause-opened g c told =
 
 pub returns-in-Ok-clause-stands : goal.returns-in-Ok-clause-stands
 returns-in-Ok-clause-stands g c =
+    let d = g.D.Disk in
     subst
-    (λ (n : ℕ). IfOk c.open_for.result (λ k. (h : List (Entry (RoomCall GameKind))) × StandsOpen (λ (b : RoomBook) (l : List (Entry (RoomCall GameKind))). StandsIn b.room b.book l) (λ (b : RoomBook) (l : List (Entry (RoomCall GameKind))). ReadsBack n l) (room_records n) (may_follow n) k.object k.file.end k.broken h))
+    (λ (n : ℕ). IfOk c.open_for.result (λ k. (h : List (Entry (RoomCall GameKind))) × StandsOpen (λ (b : RoomBook) (l : List (Entry (RoomCall GameKind))). StandsIn b.room b.book l) (λ (b : RoomBook) (l : List (Entry (RoomCall GameKind))). ReadsBack n l) (room_records n) (may_follow n) k.object k.file.end k.broken h
+    × (d.is_told c.args.disk → IsOpened (λ (b : RoomBook) (l : List (Entry (RoomCall GameKind))). StandsIn b.room b.book l) (λ (b : RoomBook) (l : List (Entry (RoomCall GameKind))). ReadsBack n l) (room_records n) (may_follow n) d.is_told d.seen d.may_leave c.args.disk k.object k.file.disk k.file.end k.broken h)))
     c.in-Ok.ensures.room c.open_for.ensures.stands
 
 pub returns-in-Ok-clause-room : goal.returns-in-Ok-clause-room

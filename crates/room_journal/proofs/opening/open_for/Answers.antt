@@ -9,4 +9,6 @@ returns-in-Ok-clause-opened g c told =
 
 pub returns-in-Ok-clause-stands : goal.returns-in-Ok-clause-stands
 returns-in-Ok-clause-stands g c =
-    stands_open c.args.book.room c.in-Ok.kept.object c.release.new.self c.release.ensures.room c.release.ensures.same c.release.ensures.stays c.in-Ok.kept.file.end c.in-Ok.kept.broken c.in-Ok.ensures.number c.in-Ok.ensures.stands
+    let d = g.D.Disk in
+    stands_open c.args.book.room c.in-Ok.kept.object c.release.new.self c.release.ensures.room c.release.ensures.same c.release.ensures.stays d.is_told d.seen d.may_leave c.args.disk c.in-Ok.kept.file.disk c.in-Ok.kept.file.end c.in-Ok.kept.broken
+    c.in-Ok.ensures.number c.in-Ok.ensures.stands

@@ -17,11 +17,11 @@ pub returns-clause-handed : goal.returns-clause-handed
 returns-clause-handed g c =
     let after = c.serve_places-end.result.2.items in
     through (λ p. p.items) (λ s. s.passes) (λ passes. map unseen passes) c.dismiss.new.back.items after c.dismiss.ensures.back
-    ∙ same_passes c.args.desks.now c.args.bench.now.desk g.K.Seeded.seed g.K.Seeded.places c.args.sittings.items after c.serve_places-end.ensures.numbers c.requires.fit c.serve_places-end.ensures.fit
+    ∙ same_passes c.args.desks.now c.args.bench.now.desk g.K.Seeded.seed g.K.Seeded.places g.K.Seeded.pasts c.args.sittings.items after c.serve_places-end.ensures.numbers c.requires.fit c.serve_places-end.ensures.fit
 
 pub returns-clause-free : goal.returns-clause-free
 returns-clause-free g c =
-    all_free (λ p. p.items) c.args.desks.now c.args.bench.now.desk g.K.Seeded.seed g.K.Seeded.places c.serve_places-end.result.2.items c.dismiss.new.back.items c.dismiss.ensures.back c.serve_places-end.ensures.fit c.serve_places-end.ensures.rest
+    all_free (λ p. p.items) c.args.desks.now c.args.bench.now.desk g.K.Seeded.seed g.K.Seeded.places g.K.Seeded.pasts c.serve_places-end.result.2.items c.dismiss.new.back.items c.dismiss.ensures.back c.serve_places-end.ensures.fit c.serve_places-end.ensures.rest
 
 pub returns-clause-benched : goal.returns-clause-benched
 returns-clause-benched g c =
@@ -30,7 +30,7 @@ returns-clause-benched g c =
     let many = as_many_mapped (λ s. number_of s.passes) (λ s. number_of s.passes) after.items c.args.sittings.items c.serve_places-end.ensures.numbers in
     let handed = as_many_mapped (λ p. p.desk) (λ s. s.bench.desk) back.items after.items c.dismiss.ensures.bench_back in (
       omega (arith, many, handed, after.ok, back.ok, c.args.sittings.ok),
-      all_at_bench (λ p. p.desk) c.args.desks.now c.args.bench.now.desk g.K.Seeded.seed g.K.Seeded.places after.items back.items c.dismiss.ensures.bench_back c.serve_places-end.ensures.fit,
+      all_at_bench (λ p. p.desk) c.args.desks.now c.args.bench.now.desk g.K.Seeded.seed g.K.Seeded.places g.K.Seeded.pasts after.items back.items c.dismiss.ensures.bench_back c.serve_places-end.ensures.fit,
     )
 
 pub returns-clause-watch : goal.returns-clause-watch
@@ -40,5 +40,5 @@ returns-clause-watch g c =
 pub returns-clause-served : goal.returns-clause-served
 returns-clause-served g c =
     let back = c.take_back.new.passes.items in
-    served_as g.B.Object.may_starve g.K.Seeded.seed g.K.Seeded.places (λ s. AllKnow c.serve_places-end.result.3.items s.passes) (StandsIn (seen_of back))
+    served_as g.B.Object.may_starve g.K.Seeded.seed g.K.Seeded.places g.K.Seeded.pasts (λ s. AllKnow c.serve_places-end.result.3.items s.passes) (StandsIn (seen_of back))
     (λ s known. all_begin back s.passes (subst (λ l. AllKnow l s.passes) (sym c.take_back.ensures) known)) (g.D.Door.returned c.serve_places-end.result.4) c.serve_places-end.ensures.served

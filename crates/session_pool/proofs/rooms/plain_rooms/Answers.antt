@@ -28,3 +28,6 @@ returns-clause-stand c k d low = ([], c.loop-room.invariant.1 k d low)
 
 pub returns-clause-nobody : goal.returns-clause-nobody
 returns-clause-nobody c places k d low past t = nobody_in_book _ (c.loop-room.invariant.1 k d low) places past t
+
+pub returns-clause-fresh : goal.returns-clause-fresh
+returns-clause-fresh c k d low = c.loop-room.invariant.1 k d low

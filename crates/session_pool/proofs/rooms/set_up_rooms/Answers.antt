@@ -10,6 +10,7 @@ use Rattle.session_pool.specs.Passes.{unseen}
 use Rattle.session_pool.specs.Placed.{AttachedBy}
 use Rattle.session_pool.proofs.Places.{all_more, all_moved, all_next, all_none, moved_on, none_moved}
 use Rattle.session_pool.proofs.Dealing.{as_many_rows, dealt_more, none_dealt, rows_belong, rows_numbered}
+use Rattle.session_pool.proofs.Seeing.{all_opened, none_opened, one_opened}
 use Rattle.session_pool.proofs.rooms.set_up_rooms.Goals as goal
 
 pub loop-room-init : goal.loop-room-init
@@ -30,6 +31,7 @@ loop-room-init g c =
       omega (arith, n, by_room.len, c.args.rooms.ok),
       search rules,
       search rules,
+      none_opened g.B.Object.stands_for (λ v. v.items) c.args.rooms.items _ _ e by_room.items,
     )
 
 pub open_room-requires : goal.open_room-requires
@@ -61,6 +63,7 @@ loop-room-preserved g c =
       omega (arith, n, i.9, by_room.len),
       omega (arith, i.10, desks.capacity),
       omega (arith, i.11, by_room.capacity),
+      one_opened g.B.Object.stands_for (λ v. v.items) c.args.rooms.items _ _ _ _ c.in-Some.room c.in_ok-desk.passes e by_room.items c.in_ok-desk.ensures.seen i.12,
     )
 
 pub returns-clause-objects : goal.returns-clause-objects
@@ -81,3 +84,9 @@ pub returns-clause-within : goal.returns-clause-within
 returns-clause-within g c =
     rows_numbered (λ v. v.items) c.loop-room.desks.items c.in_ok-rows.rows.items 0 c.args.places (search rules) c.args.places (omega arith)
     (omega (arith, c.in-None.ensures.steps.0, c.loop-room.room-iterator.rest.ok.0, c.loop-room.invariant.8, c.loop-room.desks.ok, c.requires.rooms.0))
+
+pub returns-clause-seen : goal.returns-clause-seen
+returns-clause-seen g c =
+    let opened =
+    all_opened g.B.Object.stands_for (λ v. v.items) c.args.rooms.items _ c.loop-room.by_room.items (omega (arith, c.in-None.ensures.steps.0, c.loop-room.room-iterator.rest.ok.0)) c.loop-room.invariant.12 in
+    (opened.0, opened.1, c.in_ok-rows.ensures.seen opened.0 opened.2)

@@ -9,6 +9,7 @@ use Rattle.room_object.specs.Entry.{Entry}
 use Rattle.session_pool.specs.Passes.{unseen}
 use Rattle.session_pool.specs.Placed.{AttachedBy}
 use Rattle.session_pool.specs.Rooms.{dealt_to}
+use Rattle.session_pool.proofs.Seeing.{Opened}
 use Rattle.session_pool.proofs.rooms.set_up_rooms.Given as goal
 
 abbrev pub invariant-loop-room : goal.invariant-loop-room
@@ -23,3 +24,4 @@ invariant-loop-room g l =
     × (vec_len l.desks + length (into_iter_items l.room-iterator) ≡ vec_len l.fn.rooms)
     × (vec_len l.by_room + length (into_iter_items l.room-iterator) ≡ vec_len l.fn.rooms)
     × (vec_len l.fn.rooms ≤ vec_capacity l.desks) × (vec_len l.fn.rooms ≤ vec_capacity l.by_room)
+    × Opened g.B.Object.stands_for (λ v. v.items) l.fn.rooms.items (into_iter_items l.room-iterator) l.by_room.items

@@ -4,9 +4,11 @@ use Rattle.session_driver.specs.Hearing.{side}
 use Rattle.session_pool.specs.Passes.{Belong}
 use Rattle.session_pool.specs.Placed.{AttachedBy, IsIdle}
 use Rattle.session_pool.specs.Turn.{Says}
+use Rattle.session_pool.specs.Watched.{seen_of}
 use Rattle.session_pool.proofs.Ends.{unwritten}
 use Rattle.session_pool.proofs.Placing.{idle_plain}
 use Rattle.session_pool.proofs.Saying.{says_stopped}
+use Rattle.session_pool.proofs.Seeing.{all_same}
 use Rattle.session_pool.proofs.take.speak.Goals as goal
 
 -- a send of the answer ended the session
@@ -15,6 +17,9 @@ returns-in-Some-clause-idle g c = subst (IsIdle (length c.args.desks.now)) (sym 
 
 pub returns-in-Some-clause-bye : goal.returns-in-Some-clause-bye
 returns-in-Some-clause-bye g c = unwritten (Some c.in-Some.why) (g.L.Link.sent c.say_answer.new.link) c.in-Some.ensures.why
+
+pub returns-in-Some-clause-goes_on : goal.returns-in-Some-clause-goes_on
+returns-in-Some-clause-goes_on g c = all_same (seen_of c.args.passes.now)
 
 pub returns-in-Some-clause-told : goal.returns-in-Some-clause-told
 returns-in-Some-clause-told g c told =

@@ -3,8 +3,10 @@ use Rattle.board_links.specs.declared.link.Came.TheVariants as came
 use Rattle.board_links.specs.declared.link.SessionEnd.TheVariants as end
 use Rattle.session_driver.specs.Hearing.{side}
 use Rattle.session_pool.specs.Turn.{stand}
+use Rattle.session_pool.specs.Watched.{seen_of}
 use Rattle.session_pool.proofs.Ends.{shows_end}
 use Rattle.session_pool.proofs.Saying.{stopped_at, went_on}
+use Rattle.session_pool.proofs.Seeing.{all_same, all_through, heeds_go_on}
 use Rattle.session_pool.proofs.turn.go_on.Goals as goal
 
 -- a line was heeded, a takeover was put to the bench, and then the session spoke
@@ -12,6 +14,11 @@ pub returns-in-Line-clause-shows : goal.returns-in-Line-clause-shows
 returns-in-Line-clause-shows g c =
     shows_end c.speak.result (g.L.Link.faults c.args.link.now) (g.L.Link.faults c.receive.new.self) (g.L.Link.faults c.speak.new.link) (g.L.Link.stage c.speak.new.link)
     c.in-Line.ensures.raises c.speak.ensures.shows
+
+pub returns-in-Line-clause-goes_on : goal.returns-in-Line-clause-goes_on
+returns-in-Line-clause-goes_on g c =
+    all_through (seen_of c.speak.new.passes) (seen_of c.heed.new.passes) (seen_of c.args.passes.now) c.speak.ensures.goes_on
+    (heeds_go_on g.B.Object.may_starve c.in-Line.line (side c.args.passes.now c.args.core.now) c.args.words.now (side c.heed.new.passes c.heed.new.core) c.heed.new.words c.heed.ensures.heeds)
 
 pub returns-in-Line-clause-goes : goal.returns-in-Line-clause-goes
 returns-in-Line-clause-goes g c seat told_a told_s =
@@ -43,12 +50,18 @@ returns-in-Quiet-clause-goes g c seat told_a told_s =
 
 -- the other answers end the session
 
+pub returns-in-Ended-clause-goes_on : goal.returns-in-Ended-clause-goes_on
+returns-in-Ended-clause-goes_on g c = all_same (seen_of c.args.passes.now)
+
 pub returns-in-Ended-clause-goes : goal.returns-in-Ended-clause-goes
 returns-in-Ended-clause-goes g c seat told_a told_s =
     let s = stand c.args.passes.now c.args.core.now c.args.words.now c.args.bench_pass.now seat in
     went_on g.B.Object.may_starve came.Ended s s (g.L.Link.answers c.args.link.now) (g.L.Link.answers c.receive.new.self) (g.L.Link.answers c.receive.new.self)
     (g.L.Link.sent c.args.link.now) (g.L.Link.sent c.receive.new.self) (g.L.Link.sent c.receive.new.self)
     (Some end.Ended) told_a told_s (c.in-Ended.ensures.told told_a) refl c.receive.ensures.sent (λ told. (refl, refl, stopped_at (g.L.Link.sent c.receive.new.self) told))
+
+pub returns-in-TooLong-clause-goes_on : goal.returns-in-TooLong-clause-goes_on
+returns-in-TooLong-clause-goes_on g c = all_same (seen_of c.args.passes.now)
 
 pub returns-in-TooLong-clause-goes : goal.returns-in-TooLong-clause-goes
 returns-in-TooLong-clause-goes g c seat told_a told_s =
@@ -57,12 +70,18 @@ returns-in-TooLong-clause-goes g c seat told_a told_s =
     (g.L.Link.sent c.args.link.now) (g.L.Link.sent c.receive.new.self) (g.L.Link.sent c.receive.new.self)
     (Some end.TooLong) told_a told_s (c.in-TooLong.ensures.told told_a) refl c.receive.ensures.sent (λ told. (refl, refl, stopped_at (g.L.Link.sent c.receive.new.self) told))
 
+pub returns-in-Failed-clause-goes_on : goal.returns-in-Failed-clause-goes_on
+returns-in-Failed-clause-goes_on g c = all_same (seen_of c.args.passes.now)
+
 pub returns-in-Failed-clause-goes : goal.returns-in-Failed-clause-goes
 returns-in-Failed-clause-goes g c seat told_a told_s =
     let s = stand c.args.passes.now c.args.core.now c.args.words.now c.args.bench_pass.now seat in
     went_on g.B.Object.may_starve came.Failed s s (g.L.Link.answers c.args.link.now) (g.L.Link.answers c.receive.new.self) (g.L.Link.answers c.receive.new.self)
     (g.L.Link.sent c.args.link.now) (g.L.Link.sent c.receive.new.self) (g.L.Link.sent c.receive.new.self)
     (Some end.LinkFault) told_a told_s (c.in-Failed.ensures.told told_a) refl c.receive.ensures.sent (λ told. (refl, refl, stopped_at (g.L.Link.sent c.receive.new.self) told))
+
+pub returns-in-NoMemory-clause-goes_on : goal.returns-in-NoMemory-clause-goes_on
+returns-in-NoMemory-clause-goes_on g c = all_same (seen_of c.args.passes.now)
 
 pub returns-in-NoMemory-clause-goes : goal.returns-in-NoMemory-clause-goes
 returns-in-NoMemory-clause-goes g c seat told_a told_s =

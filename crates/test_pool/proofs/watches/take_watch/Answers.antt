@@ -1,11 +1,14 @@
-use Rattle.std.proofs.Common.{◌+◌, ap, arith, length, map, refl}
+use Rattle.std.proofs.Common.{◌≡◌, ◌+◌, ap, arith, length, map, refl, slice_index_or}
 use Rattle.std.specs.Prelude.{None}
 use Rattle.std.proofs.lemmas.List.{length-map}
 use Rattle.session_pool.specs.Passes.{unseen}
 use Rattle.session_pool.specs.Placed.{AttachedBy}
 use Rattle.session_pool.proofs.Dealing.{as_many_rows, rows_belong, rows_numbered}
-use Rattle.door_serve.proofs.Gathering.{all_last, own_desks}
+use Rattle.session_pool.proofs.Watching.{own_desks}
+use Rattle.door_serve.proofs.Gathering.{all_last}
 use Rattle.door_serve.proofs.OwnPasses.{split_rows}
+use Rattle.door_serve.proofs.Watching.{all_alike}
+use Rattle.session_pool.specs.Watched.{seen_of}
 use Rattle.test_pool.proofs.watches.take_watch.Goals as goal
 
 pub unreachable-requires : goal.unreachable-requires
@@ -40,3 +43,9 @@ pub returns-clause-watch : goal.returns-clause-watch
 returns-clause-watch g c =
     let split = split_rows (λ v. v.items) c.args.desks.now.items c.args.rows.items c.pop.new.self.items c.in-Some.watch c.args.places (c.args.places + 1) refl c.in-Some.ensures.items c.requires.rows in
     own_desks c.args.desks.now.items c.args.places c.in-Some.watch.items split.1
+
+pub returns-clause-began : goal.returns-clause-began
+returns-clause-began g c k d low =
+    let pasts = c.requires.seen.0 in
+    let seen = all_last (λ v. seen_of v.items ≡ pasts) c.args.rows.items c.pop.new.self.items c.in-Some.watch c.in-Some.ensures.items c.requires.seen.1 in
+    all_alike (seen_of (slice_index_or c.pop.new.self.items k d).items) (seen_of c.in-Some.watch.items) pasts (seen.0 k d low) seen.1

@@ -1,4 +1,4 @@
-use Rattle.std.proofs.Common.{true, None, ap, refl, sym, ◌∙◌}
+use Rattle.std.proofs.Common.{true, ap, refl, sym, ◌∙◌}
 use Rattle.any_game.specs.AnyRules.{any_rules}
 use Rattle.match_master.specs.Held.{is_starved}
 use Rattle.room_history.specs.Room.{reply}
@@ -15,7 +15,7 @@ returns-then-is_detach-clause-answered g c = λ h s.
     let d = g.D.Disk in
     let told = c.ask_aside.result in
     let is = sym c.is_detach.ensures ∙ c.if-is_detach.true in
-    detach_answered d.is_told d.seen d.may_leave d.moment d.left_since d.faults g.met.D.Disk.only_now (λ room. s.past) (λ room. None) c.args.self.now.room c.ask_aside.new.self c.args.pass c.args.call (is_starved told) is
+    detach_answered d.is_told d.seen d.may_leave d.moment d.left_since d.faults g.met.D.Disk.only_now (λ room. s.past) g.K.Origin.start c.args.self.now.room c.ask_aside.new.self c.args.pass c.args.call (is_starved told) is
     (is_detach_fed c.args.call (is_starved told) is c.ask_aside.ensures.fed) c.ask_aside.ensures.since c.ask_aside.ensures.stopped c.ask_aside.ensures.file s.made told s.stands c.ask_aside.ensures.answered
     ∙ ap (λ (l : Calls). reply any_rules c.args.self.now.room.object.room l (entry c.args.pass c.args.call (is_starved told))) (sym s.split)
 
@@ -48,7 +48,7 @@ returns-then-is_aside-clause-answered g c = λ h s.
     let r = c.args.self.now.room in
     let told = c.ask_aside-then-is_aside.result in
     let e = entry c.args.pass c.args.call (is_starved told) in
-    answers_whole d.is_told d.seen d.may_leave d.moment d.left_since d.faults r.object.room s.past None r s.made e told
+    answers_whole d.is_told d.seen d.may_leave d.moment d.left_since d.faults r.object.room s.past (g.K.Origin.start r.object.room) r s.made e told
     (whole_not_some r.stopped (sym c.is_some.ensures ∙ c.if-is_some.false)) s.stands c.ask_aside-then-is_aside.ensures.answered
     ∙ ap (λ (l : Calls). reply any_rules r.object.room l e) (sym s.split)
 
@@ -81,7 +81,7 @@ returns-clause-answered g c = λ h s.
     let r = c.args.self.now.room in
     let told = c.ask-reply.result in
     let e = entry c.args.pass c.args.call (is_starved told) in
-    answers_whole d.is_told d.seen d.may_leave d.moment d.left_since d.faults r.object.room s.past None r s.made e told
+    answers_whole d.is_told d.seen d.may_leave d.moment d.left_since d.faults r.object.room s.past (g.K.Origin.start r.object.room) r s.made e told
     (whole_not_some r.stopped (sym c.is_some.ensures ∙ c.if-is_some.false)) s.stands c.ask-reply.ensures.answered
     ∙ ap (λ (l : Calls). reply any_rules r.object.room l e) (sym s.split)
 

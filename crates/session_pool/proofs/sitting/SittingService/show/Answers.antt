@@ -8,7 +8,7 @@ use Rattle.session_pool.proofs.sitting.SittingService.show.Goals as goal
 pub show_all-requires-clause-passes : goal.show_all-requires-clause-passes
 show_all-requires-clause-passes g c =
     let desks = c.args.hall.now.desks.now in
-    let fits = subst (λ s. Fits desks c.args.hall.now.bench.now.desk g.K.Seeded.seed g.K.Seeded.places s) (sym c.self.view_is) c.requires.fits in
+    let fits = subst (λ s. Fits desks c.args.hall.now.bench.now.desk g.K.Seeded.seed g.K.Seeded.places g.K.Seeded.pasts s) (sym c.self.view_is) c.requires.fits in
     ap (λ (l : List Pass). map (λ (p : Pass). p.desk) l) c.as_mut_slice.ensures.value ∙ own_desks desks c.self.inside.core.pass c.self.inside.passes.items fits.belong
 
 pub show_all-requires-clause-watch : goal.show_all-requires-clause-watch
