@@ -6,8 +6,8 @@ use Rattle.hall_history.specs.Rooms.{Rooms, history_of}
 use Rattle.hall_history.specs.Script.{Step}
 use Rattle.line_runner.specs.Play.{RunsLine}
 use Rattle.object_journal.specs.declared.performing.Stop.{Stop}
-use Rattle.world_script.specs.Forms.{step_of}
-use Rattle.world_script.specs.ScriptDoing.{script_doing}
+use Rattle.script_steps.specs.Forms.{step_of}
+use Rattle.script_steps.specs.ScriptDoing.{script_doing}
 use Rattle.kept_room.specs.Journal.{Calls}
 use Rattle.kept_room.proofs.Journals.{journal_goes}
 use Rattle.kept_script.specs.KeptDoing.{IsKept, IsLeft, kept_doing}

@@ -13,8 +13,8 @@ use Rattle.session_hall.specs.Answered.{HearsLine, HearsLineBy, Opens}
 use Rattle.session_hall.specs.Held.{HeldHall, StandsForHall}
 use Rattle.session_driver.specs.Hearing.{Draws, Hears, side}
 use Rattle.session_driver.specs.declared.tally.Tally.{Tally}
-use Rattle.world_script.specs.ScriptDoing.{script_doing}
-use Rattle.world_script.proofs.StepLaws.{answered_is, did_nothing, seeded}
+use Rattle.script_steps.specs.ScriptDoing.{script_doing}
+use Rattle.script_steps.proofs.StepLaws.{answered_is, did_nothing, seeded}
 use Rattle.kept_room.specs.Journal.{Calls}
 use Rattle.kept_room.specs.declared.room.KeptRoom.{KeptRoom}
 use Rattle.kept_script.specs.Growing.{AreOpening, Grows, line_calls}

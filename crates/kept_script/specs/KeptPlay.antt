@@ -10,7 +10,7 @@ use Rattle.line_runner.specs.Play.{Play}
 use Rattle.line_runner.specs.declared.interpreter.LineNo.{LineNo}
 use Rattle.line_runner.specs.declared.interpreter.LineNo.TheVariants.{NoMemory}
 use Rattle.session_hall.specs.Held.{HeldHall}
-use Rattle.world_script.specs.Forms.{step_of}
+use Rattle.script_steps.specs.Forms.{step_of}
 use Rattle.kept_room.specs.Journal.{Calls}
 use Rattle.kept_script.specs.declared.hall.KeptHall.{KeptHall}
 

@@ -14,7 +14,7 @@ use Rattle.room_history.specs.declared.reply.RoomReply.{RoomReply}
 use Rattle.session_driver.specs.declared.tally.Tally.{Tally}
 use Rattle.session_hall.specs.Answered.{Frees, HearsLine, Opens}
 use Rattle.session_hall.specs.Held.{HeldHall, StandsForHall}
-use Rattle.world_script.specs.ScriptDoing.{script_doing}
+use Rattle.script_steps.specs.ScriptDoing.{script_doing}
 use Rattle.kept_room.specs.Journal.{Calls, Since}
 use Rattle.kept_script.specs.Growing.{Grows}
 use Rattle.kept_script.specs.KeptPlay.{hall_of}

@@ -6,7 +6,7 @@ ghost use Rattle.hall_history.specs.Hall.{Hall};
 ghost use Rattle.hall_history.specs.Script.{Opens, Says, Takes, Detaches};
 ghost use Rattle.hall_history.specs.Tapes.{hall_tape};
 ghost use Rattle.session_hall.specs.Held.{StandsForHall};
-ghost use Rattle.world_script.specs.StepIs.{HasPass, step_is};
+ghost use Rattle.script_steps.specs.StepIs.{HasPass, step_is};
 ghost use Rattle.kept_script.specs.KeptPlay.{ended_unless, hall_of};
 ghost use Rattle.kept_script.specs.Moving.{MovesByStep};
 
@@ -14,8 +14,8 @@ use crate::hall::KeptHall;
 use game_sheet::NoMemory;
 use line_runner::{Interpreter, LineNo};
 use room_disk::Disk;
+use script_steps::{Step, put_lines, put_opened, put_reply, step_of};
 use std::alloc::Global;
-use world_script::{Step, put_lines, put_opened, put_reply, step_of};
 
 /// Does a step, and adds what it prints to a text.
 fn do_step<D: Disk + Drop>(

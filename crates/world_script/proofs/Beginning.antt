@@ -4,7 +4,7 @@ use Rattle.client_world.specs.IsWorld.{HeldWorld, IsWorld}
 use Rattle.hall_history.specs.Tapes.{hall_tape}
 use Rattle.world_history.specs.World.{new_world}
 use Rattle.session_hall.specs.Held.{HeldHall, StandsForHall, tape_of}
-use Rattle.world_script.specs.ScriptDoing.{script_doing}
+use Rattle.script_steps.specs.ScriptDoing.{script_doing}
 use Rattle.world_script.specs.ScriptPlay.{first_hall}
 use Rattle.world_script.specs.Deliveries.{first_world, rooms_of_world}
 use Rattle.world_script.specs.WorldDoing.{world_doing}

@@ -1,6 +1,3 @@
-pub mod FormLaws
-pub mod Printed
-pub mod StepLaws
 pub mod Beginning
 pub mod LineLaws
 pub mod Fitting

@@ -10,9 +10,9 @@ use Rattle.hall_history.specs.Tapes.{hall_tape}
 use Rattle.world_history.specs.World.{World}
 use Rattle.world_history.specs.World as world
 use Rattle.session_hall.specs.Held.{HeldHall, StandsForHall}
-use Rattle.world_script.specs.Forms.{step_of}
+use Rattle.script_steps.specs.Forms.{step_of}
 use Rattle.line_runner.specs.Play.{Does, RunsLine, ended_by}
-use Rattle.world_script.specs.ScriptDoing.{script_doing}
+use Rattle.script_steps.specs.ScriptDoing.{script_doing}
 use Rattle.world_script.specs.ScriptPlay.{script_play}
 use Rattle.world_script.specs.WorldDoing.{world_doing}
 use Rattle.world_script.specs.WorldPlay.{world_play}

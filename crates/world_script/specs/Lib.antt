@@ -1,9 +1,5 @@
-pub mod Forms
-pub mod StepIs
-pub mod Printing
 pub mod Sessions
 pub mod ScriptPlay
-pub mod ScriptDoing
 pub mod ScriptLaws
 pub mod Deliveries
 pub mod WorldPlay

@@ -5,9 +5,9 @@ use Rattle.room_history.proofs.Clauses.{are_told}
 use Rattle.hall_history.specs.Mark.{Mark}
 use Rattle.hall_history.specs.Tapes.{hall_tape}
 use Rattle.hall_history.proofs.Clauses.{all_handed, alike_handed}
-use Rattle.world_script.specs.Forms.{step_of}
+use Rattle.script_steps.specs.Forms.{step_of}
 use Rattle.line_runner.specs.Play.{IsPlay, steps_of}
-use Rattle.world_script.specs.ScriptDoing.{script_doing}
+use Rattle.script_steps.specs.ScriptDoing.{script_doing}
 use Rattle.world_script.specs.ScriptPlay.{script_play}
 use Rattle.world_script.specs.Sessions.{TellsSessions, printed_for, room_after, rooms_of_script}
 

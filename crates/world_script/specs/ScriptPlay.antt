@@ -5,7 +5,7 @@ use Rattle.hall_history.specs.Hall.{Hall, new_hall}
 use Rattle.hall_history.specs.Mark.{Mark}
 use Rattle.hall_history.specs.Script.{Step, runs_script}
 use Rattle.hall_history.specs.Tapes.{hall_tape}
-use Rattle.world_script.specs.Forms.{step_of}
+use Rattle.script_steps.specs.Forms.{step_of}
 use Rattle.line_runner.specs.Play.{Play}
 use Rattle.world_script.specs.Sessions.{TellsSessions, rooms_of_script}
 

@@ -13,7 +13,7 @@ use Rattle.hall_history.specs.Rooms.{History, history_of}
 use Rattle.hall_history.specs.Script.{script_hall}
 use Rattle.hall_history.specs.Tapes.{hall_tape}
 use Rattle.hall_history.specs.Told.{handed_out}
-use Rattle.world_script.specs.Forms.{step_of}
+use Rattle.script_steps.specs.Forms.{step_of}
 use Rattle.line_runner.specs.Play.{steps_of}
 
 -- how many rooms a script has

@@ -7,12 +7,11 @@ ghost use Rattle.hall_history.specs.Script.{Opens, Says, Takes, Detaches};
 ghost use Rattle.hall_history.specs.Tapes.{hall_tape};
 ghost use Rattle.session_hall.specs.Held.{StandsForHall};
 ghost use Rattle.line_runner.specs.Play.{Does};
-ghost use Rattle.world_script.specs.ScriptDoing.{script_doing};
-ghost use Rattle.world_script.specs.StepIs.{HasPass, step_is};
+ghost use Rattle.script_steps.specs.ScriptDoing.{script_doing};
+ghost use Rattle.script_steps.specs.StepIs.{HasPass, step_is};
 
-use crate::printing::{put_lines, put_opened, put_reply};
-use crate::step::Step;
 use game_sheet::NoMemory;
+use script_steps::{Step, put_lines, put_opened, put_reply};
 use session_hall::SessionHall;
 
 /// Does a step, and adds what it prints to a text.

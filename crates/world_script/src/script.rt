@@ -7,9 +7,9 @@ ghost use Rattle.line_runner.specs.Running.{AreInForm, Ends, ExitRaises, IsCompl
 ghost use Rattle.world_script.specs.ScriptPlay.{first_hall, script_play};
 
 use crate::doing::do_step;
-use crate::step::step_of;
 use board_links::{Sink, Source};
 use line_runner::{Exit, Interpreter, LineNo, ended, run_lines};
+use script_steps::step_of;
 use session_hall::SessionHall;
 use std::alloc::Global;
 use std::marker::Model;
@@ -77,7 +77,7 @@ impl Interpreter for ScriptHall {
     ghost use Rattle.hall_history.specs.Hall.{Hall};
     ghost use Rattle.hall_history.specs.Mark.{Mark as LineMark};
     ghost use Rattle.hall_history.specs.Script.{Step as ScriptStep};
-    ghost use Rattle.world_script.specs.ScriptDoing.{script_doing};
+    ghost use Rattle.script_steps.specs.ScriptDoing.{script_doing};
     ghost use Rattle.world_script.specs.ScriptPlay.{script_play};
     ghost use Rattle.world_script.specs.ScriptLaws.{script_is_played};
 

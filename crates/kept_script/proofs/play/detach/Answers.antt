@@ -1,5 +1,5 @@
 use Rattle.std.proofs.lemmas.Result.{on_ok_weaker}
-use Rattle.world_script.proofs.StepLaws.{detached}
+use Rattle.script_steps.proofs.StepLaws.{detached}
 use Rattle.kept_script.specs.KeptPlay.{hall_of}
 use Rattle.kept_script.proofs.play.detach.Goals as goal
 

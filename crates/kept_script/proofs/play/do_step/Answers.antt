@@ -1,5 +1,5 @@
 use Rattle.std.proofs.Common.{[], refl, subst, sym}
-use Rattle.world_script.specs.StepIs.{step_is}
+use Rattle.script_steps.specs.StepIs.{step_is}
 use Rattle.kept_room.specs.Journal.{Since}
 use Rattle.kept_room.proofs.Journals.{since_none}
 use Rattle.kept_script.specs.KeptPlay.{hall_of}

@@ -1,7 +1,7 @@
 use Rattle.hall_history.specs.Script.{Detaches}
 use Rattle.hall_history.specs.Tapes.{hall_tape}
-use Rattle.world_script.specs.Printing.{reply_text}
-use Rattle.world_script.proofs.StepLaws.{detached, does_by}
+use Rattle.script_steps.specs.Printing.{reply_text}
+use Rattle.script_steps.proofs.StepLaws.{detached, does_by}
 use Rattle.world_script.proofs.doing.detach.Goals as goal
 
 pub returns : goal.returns

@@ -1,9 +1,9 @@
 use Rattle.std.proofs.Common.{refl, subst, sym}
 use Rattle.hall_history.specs.Tapes.{hall_tape}
 use Rattle.line_runner.specs.Play.{Does}
-use Rattle.world_script.specs.ScriptDoing.{script_doing}
-use Rattle.world_script.specs.StepIs.{step_is}
-use Rattle.world_script.proofs.StepLaws.{did_nothing, seeded}
+use Rattle.script_steps.specs.ScriptDoing.{script_doing}
+use Rattle.script_steps.specs.StepIs.{step_is}
+use Rattle.script_steps.proofs.StepLaws.{did_nothing, seeded}
 use Rattle.world_script.proofs.doing.do_step.Goals as goal
 
 pub returns-in-Nothing : goal.returns-in-Nothing

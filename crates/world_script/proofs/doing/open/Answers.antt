@@ -1,7 +1,7 @@
 use Rattle.hall_history.specs.Script.{Opens}
 use Rattle.hall_history.specs.Tapes.{hall_tape}
 use Rattle.session_hall.specs.Answered.{made_text}
-use Rattle.world_script.proofs.StepLaws.{does_by, opened}
+use Rattle.script_steps.proofs.StepLaws.{does_by, opened}
 use Rattle.world_script.proofs.doing.open.Goals as goal
 
 pub returns : goal.returns

@@ -1,6 +1,6 @@
 use Rattle.hall_history.specs.Script.{Says, all_to_session}
 use Rattle.hall_history.specs.Tapes.{hall_tape}
-use Rattle.world_script.proofs.StepLaws.{does_by, heard}
+use Rattle.script_steps.proofs.StepLaws.{does_by, heard}
 use Rattle.world_script.proofs.doing.say.Goals as goal
 
 pub returns : goal.returns

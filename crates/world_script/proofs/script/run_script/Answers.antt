@@ -2,7 +2,7 @@ use Rattle.std.proofs.Common.{subst, sym}
 use Rattle.board_links.specs.Pieces.{told_bytes}
 use Rattle.world_script.specs.ScriptLaws.{script_is_played}
 use Rattle.line_runner.specs.ScriptLines.{script}
-use Rattle.world_script.specs.ScriptDoing.{script_doing}
+use Rattle.script_steps.specs.ScriptDoing.{script_doing}
 use Rattle.world_script.specs.ScriptPlay.{first_hall, script_play}
 use Rattle.world_script.proofs.Beginning.{script_begins}
 use Rattle.line_runner.proofs.EndLaws.{completes, stops_at_once}

@@ -1,6 +1,6 @@
 use Rattle.std.proofs.Common.{ap, option_map, subst, sym, ◌∙◌}
 use Rattle.line_runner.specs.Play.{RunsLine}
-use Rattle.world_script.specs.StepIs.{step_is}
+use Rattle.script_steps.specs.StepIs.{step_is}
 use Rattle.kept_script.specs.KeptDoing.{kept_doing}
 use Rattle.kept_script.specs.KeptPlay.{kept_play}
 use Rattle.kept_script.proofs.KeptLines.{is_kept, kept_bad, kept_line}

@@ -1,8 +1,8 @@
 use Rattle.std.proofs.Common.{ap, option_map, subst, sym, ◌∙◌}
 use Rattle.line_runner.specs.Play.{RunsLine}
-use Rattle.world_script.specs.ScriptDoing.{script_doing}
+use Rattle.script_steps.specs.ScriptDoing.{script_doing}
 use Rattle.world_script.specs.ScriptPlay.{script_play}
-use Rattle.world_script.specs.StepIs.{step_is}
+use Rattle.script_steps.specs.StepIs.{step_is}
 use Rattle.world_script.proofs.LineLaws.{script_bad, script_line}
 use Rattle.world_script.proofs.script.ScriptHallInterpreter.run_line.Goals as goal
 

@@ -4,7 +4,7 @@ ghost use Rattle.std.specs.Prelude.{◌≡◌, ◌≤◌, ◌<◌, ◌∷◌, �
 ghost use Rattle.game_sheet.specs.Lines.{lines};
 ghost use Rattle.hall_history.specs.Script.{all_to_session, to_session, unattached_text};
 ghost use Rattle.session_hall.specs.Answered.{made_text};
-ghost use Rattle.world_script.specs.Printing.{end_text, reply_text};
+ghost use Rattle.script_steps.specs.Printing.{end_text, reply_text};
 
 use game_sheet::{Bye, Bytes, MatchName, NoMemory};
 use itoa::Buffer;

@@ -1,5 +1,5 @@
-use Rattle.world_script.proofs.Printed.{cut_found, cut_whole}
-use Rattle.world_script.proofs.printing.line_end.Goals as goal
+use Rattle.script_steps.proofs.Printed.{cut_found, cut_whole}
+use Rattle.script_steps.proofs.printing.line_end.Goals as goal
 
 pub returns-in-Some-clause-cuts : goal.returns-in-Some-clause-cuts
 returns-in-Some-clause-cuts c = cut_found c.args.bytes.now c.in-Some.at c.in-Some.ensures c.requires

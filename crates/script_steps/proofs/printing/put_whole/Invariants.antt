@@ -1,6 +1,6 @@
 use Rattle.std.proofs.Common.{◌≡◌, ◌++◌, length}
 use Rattle.hall_history.specs.Script.{all_to_session}
-use Rattle.world_script.proofs.printing.put_whole.Given as goal
+use Rattle.script_steps.proofs.printing.put_whole.Given as goal
 
 -- what was added, and the lines that are left
 abbrev pub invariant-loop-rest : goal.invariant-loop-rest

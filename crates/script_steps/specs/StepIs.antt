@@ -1,8 +1,8 @@
 -- A step that was read, beside the one that a line asks for.
 use Rattle.std.specs.Prelude.{◌<◌}
 use Rattle.hall_history.specs.Script.{Step, Nothing, Seeds, Opens, Says, Takes, Detaches}
-use Rattle.world_script.specs.declared.step.Step.{Step as Read}
-use Rattle.world_script.specs.declared.step.Step.TheVariants as read
+use Rattle.script_steps.specs.declared.step.Step.{Step as Read}
+use Rattle.script_steps.specs.declared.step.Step.TheVariants as read
 
 abbrev pub step_is : Read → Step
 step_is read.Nothing = Nothing

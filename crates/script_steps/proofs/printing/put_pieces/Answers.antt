@@ -1,7 +1,7 @@
 use Rattle.std.proofs.Common.{◌++◌, ◌≤◌, ◌∙◌, ap, subst}
 use Rattle.game_sheet.specs.Lines.{lines}
-use Rattle.world_script.proofs.Printed.{all_lines, place_more}
-use Rattle.world_script.proofs.printing.put_pieces.Goals as goal
+use Rattle.script_steps.proofs.Printed.{all_lines, place_more}
+use Rattle.script_steps.proofs.printing.put_pieces.Goals as goal
 
 pub loop-place-preserved : goal.loop-place-preserved
 loop-place-preserved c =

@@ -36,9 +36,9 @@ use Rattle.session_hall.specs.Answered as answered
 use Rattle.session_hall.specs.Held.{HeldHall, StandsForHall}
 use Rattle.session_hall.specs.Opens.{made_by}
 use Rattle.session_driver.specs.declared.tally.Tally.{Tally}
-use Rattle.world_script.specs.Printing.{end_text, reply_text}
+use Rattle.script_steps.specs.Printing.{end_text, reply_text}
 use Rattle.line_runner.specs.Play.{Does}
-use Rattle.world_script.specs.ScriptDoing.{script_doing}
+use Rattle.script_steps.specs.ScriptDoing.{script_doing}
 
 -- ---- texts that are lines
 

@@ -1,8 +1,8 @@
 //! The steps that the lines of a script ask for. They are read without memory.
 
 ghost use Rattle.std.specs.Prelude.{◌≡◌, ◌≤◌, ◌<◌, ◌==◌, length, take, drop, position, option_map, IfSome, ◌+◌, ◌*◌, ◌&&◌, nat_le};
-ghost use Rattle.world_script.specs.Forms.{digit, leading, after, small_number, pass_of, seats_of, opening, saying, alone, leads, text_of, step_of};
-ghost use Rattle.world_script.specs.StepIs.{step_is, HasPass};
+ghost use Rattle.script_steps.specs.Forms.{digit, leading, after, small_number, pass_of, seats_of, opening, saying, alone, leads, text_of, step_of};
+ghost use Rattle.script_steps.specs.StepIs.{step_is, HasPass};
 
 use any_game::may_open;
 use std::str;

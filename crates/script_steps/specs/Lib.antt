@@ -1,0 +1,4 @@
+pub mod Forms
+pub mod StepIs
+pub mod Printing
+pub mod ScriptDoing
