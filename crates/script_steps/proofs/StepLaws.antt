@@ -66,7 +66,7 @@ made_is (Some (answer.Refused refusal)) = refl
 
 -- ---- what is handed out
 
-all_true : (f : List ℕ → Bool) (xs : List (List ℕ)) (x : List ℕ) → list_all f xs ≡ true → f x ≡ true → list_all f (xs ++ x ∷ []) ≡ true
+pub all_true : (f : List ℕ → Bool) (xs : List (List ℕ)) (x : List ℕ) → list_all f xs ≡ true → f x ≡ true → list_all f (xs ++ x ∷ []) ≡ true
 all_true f [] x h k = ap (λ b. b && true) k
 all_true f (y ∷ xs) x h k = by (f y) (λ g. all_true f xs x g k) h
   where
@@ -75,7 +75,7 @@ all_true f (y ∷ xs) x h k = by (f y) (λ g. all_true f xs x g k) h
     by false more h = h
 
 -- the lines that wait are lines
-waiting_are_lines : (pieces : List Piece) → list_all is_line (waiting_lines pieces) ≡ true
+pub waiting_are_lines : (pieces : List Piece) → list_all is_line (waiting_lines pieces) ≡ true
 waiting_are_lines [] = refl
 waiting_are_lines (Line m ∷ pieces) = all_true is_line (waiting_lines pieces) (text m) (waiting_are_lines pieces) (line_is_line m)
 waiting_are_lines (Mark ∷ pieces) = refl
@@ -85,7 +85,7 @@ map_same : (xs : List (List ℕ)) → map (λ x. x) xs ≡ xs
 map_same [] = refl
 map_same (x ∷ xs) = ap (λ l. x ∷ l) (map_same xs)
 
-lines_in : (ls : List (List ℕ)) → list_all is_line ls ≡ true → lines (concat ls) ≡ ls
+pub lines_in : (ls : List (List ℕ)) → list_all is_line ls ≡ true → lines (concat ls) ≡ ls
 lines_in ls h = ap (λ l. lines (concat l)) (sym (map_same ls)) ∙ lines_of (λ x. x) ls h ∙ map_same ls
 
 concat_more : (ls : List (List ℕ)) (l : List ℕ) → concat ls ++ concat (l ∷ []) ≡ concat (ls ++ l ∷ [])

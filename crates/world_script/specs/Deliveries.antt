@@ -1,6 +1,5 @@
 -- What Takes put on the down links of clients along a world.
-use Rattle.std.specs.Prelude.{◌≡◌, ℕ, List, Some}
-use Rattle.std.specs.List.{concat}
+use Rattle.std.specs.Prelude.{◌≡◌, ℕ, List, [], Some}
 use Rattle.any_game.specs.AnyRules.{any_rules, named}
 use Rattle.any_game.specs.GameKind.{GameKind}
 use Rattle.any_game.specs.declared.any_g.AnyG.{AnyG}
@@ -14,8 +13,8 @@ use Rattle.hall_history.specs.Rooms.{History, history_of}
 use Rattle.hall_history.specs.Tapes.{hall_tape}
 use Rattle.world_history.specs.World.{World, new_world}
 use Rattle.world_history.specs.WorldScript.{runs_world}
-use Rattle.world_history.specs.WorldTold.{delivered}
 use Rattle.line_runner.specs.Play.{steps_of}
+use Rattle.world_script.specs.Delivered.{AllWereServed, all_put, texts_from}
 
 -- how many rooms a world has
 abbrev pub rooms_of_world : ℕ
@@ -28,16 +27,25 @@ first_world = new_world rooms_of_world
 unfoldable pub world_room_after : List Mark → List (List ℕ) → ℕ → History GameKind
 world_room_after marks lines room = history_of (runs_world named any_rules hall_tape marks (steps_of world_step_of lines) first_world).0.hall.rooms room
 
--- the bytes of the lines that Takes put on a down link for the session that a pass began with its attaching number j in a room
-unfoldable pub delivered_for : List Mark → List (List ℕ) → ℕ → ℕ → ℕ → List ℕ
-delivered_for marks lines room pass j = delivered named any_rules hall_tape pass room j marks (steps_of world_step_of lines) first_world
+-- the lines that Takes put on a down link for the session that a pass began with its attaching number j in a room
+unfoldable pub delivered_for : List Mark → List (List ℕ) → ℕ → ℕ → ℕ → List (List ℕ)
+delivered_for marks lines room pass j = all_put named any_rules hall_tape pass room j marks (steps_of world_step_of lines) first_world
+
+-- what these lines print, as one text and step by step
+abbrev pub world_text : List Mark → List (List ℕ) → List ℕ
+world_text marks lines = (runs_world named any_rules hall_tape marks (steps_of world_step_of lines) first_world).1
+
+unfoldable pub world_texts : List Mark → List (List ℕ) → List (List ℕ)
+world_texts marks lines = texts_from named any_rules hall_tape marks (steps_of world_step_of lines) first_world
 
 -- For each session the lines that it is sent go on its client's down link. They are a first part of its stream, and those that any session
--- alike is sent, whatever else its room's history holds.
+-- alike is sent, whatever else its room's history holds. Where of no client it is printed that there was no memory, it is printed what is
+-- printed where each line is served.
 pub record DeliversLines (marks : List Mark) (lines : List (List ℕ)) : Type 0 where
   pub sent : (room pass j : ℕ) (s : Session) → session any_rules room (world_room_after marks lines room) pass j ≡ Some s
-      → delivered_for marks lines room pass j ≡ concat s.sent
+      → delivered_for marks lines room pass j ≡ s.sent
   pub told : (room pass j : ℕ) (s : Session) → session any_rules room (world_room_after marks lines room) pass j ≡ Some s → IsToldOf s
   pub alike : (room pass j : ℕ) (s : Session) → session any_rules room (world_room_after marks lines room) pass j ≡ Some s
       → (other_room : ℕ) (h : History GameKind) (other i : ℕ) (t : Session) → session any_rules other_room h other i ≡ Some t → AreAlike s t
-      → delivered_for marks lines room pass j ≡ concat t.sent
+      → delivered_for marks lines room pass j ≡ t.sent
+  pub served : AllWereServed (world_texts marks lines) → world_text marks lines ≡ world_text [] lines

@@ -1,7 +1,9 @@
 pub mod Sessions
 pub mod ScriptPlay
 pub mod ScriptLaws
+pub mod Delivered
 pub mod Deliveries
+pub mod DeliveredLaws
 pub mod WorldPlay
 pub mod WorldDoing
 pub mod WorldLaws

@@ -1,6 +1,6 @@
--- What Takes print for sessions along a script.
-use Rattle.std.specs.Prelude.{◌≡◌, ℕ, List, Some}
-use Rattle.std.specs.List.{concat}
+-- What the lines of a script print, and what of it is told to sessions.
+use Rattle.std.specs.Prelude.{◌≡◌, ℕ, List, [], Some}
+use Rattle.std.specs.List.{flat_map}
 use Rattle.any_game.specs.AnyRules.{any_rules, named}
 use Rattle.any_game.specs.GameKind.{GameKind}
 use Rattle.room_history.specs.Alike.{AreAlike}
@@ -10,10 +10,10 @@ use Rattle.room_history.specs.Session.{Session}
 use Rattle.hall_history.specs.Hall.{new_hall}
 use Rattle.hall_history.specs.Mark.{Mark}
 use Rattle.hall_history.specs.Rooms.{History, history_of}
-use Rattle.hall_history.specs.Script.{script_hall}
+use Rattle.hall_history.specs.Script.{script_hall, transcript}
 use Rattle.hall_history.specs.Tapes.{hall_tape}
-use Rattle.hall_history.specs.Told.{handed_out}
 use Rattle.script_steps.specs.Forms.{step_of}
+use Rattle.script_steps.specs.Pieces.{AllServed, Print, pieces_from, print_text, told_to}
 use Rattle.line_runner.specs.Play.{steps_of}
 
 -- how many rooms a script has
@@ -24,16 +24,22 @@ rooms_of_script = 8
 unfoldable pub room_after : List Mark → List (List ℕ) → ℕ → History GameKind
 room_after marks lines room = history_of (script_hall named any_rules hall_tape rooms_of_script marks (steps_of step_of lines)).rooms room
 
--- the bytes of the lines that Takes print for the session that a pass began with its attaching number j in a room
-unfoldable pub printed_for : List Mark → List (List ℕ) → ℕ → ℕ → ℕ → List ℕ
-printed_for marks lines room pass j = handed_out named any_rules hall_tape pass room j marks (steps_of step_of lines) (new_hall rooms_of_script)
+-- what these lines print, as text and piece by piece
+abbrev pub text_of : List Mark → List (List ℕ) → List ℕ
+text_of marks lines = transcript named any_rules hall_tape rooms_of_script marks (steps_of step_of lines)
 
--- For each session the lines that it is sent are printed. They are a first part of its stream, and those that any session alike is sent,
--- whatever else its room's history holds.
+unfoldable pub pieces_of : List Mark → List (List ℕ) → List Print
+pieces_of marks lines = pieces_from named any_rules hall_tape marks (steps_of step_of lines) (new_hall rooms_of_script)
+
+-- What is printed is pieces. Those that are told to a session are the lines that it is sent, one after another. They are a first part of its
+-- stream, and those that any session alike is sent, whatever else its room's history holds. Where no line is answered that there was no memory
+-- for it, it is printed what is printed where each is served.
 pub record TellsSessions (marks : List Mark) (lines : List (List ℕ)) : Type 0 where
+  pub text : text_of marks lines ≡ flat_map print_text (pieces_of marks lines)
   pub sent : (room pass j : ℕ) (s : Session) → session any_rules room (room_after marks lines room) pass j ≡ Some s
-      → printed_for marks lines room pass j ≡ concat s.sent
+      → told_to pass room j (pieces_of marks lines) ≡ s.sent
   pub told : (room pass j : ℕ) (s : Session) → session any_rules room (room_after marks lines room) pass j ≡ Some s → IsToldOf s
   pub alike : (room pass j : ℕ) (s : Session) → session any_rules room (room_after marks lines room) pass j ≡ Some s
       → (other_room : ℕ) (h : History GameKind) (other i : ℕ) (t : Session) → session any_rules other_room h other i ≡ Some t → AreAlike s t
-      → printed_for marks lines room pass j ≡ concat t.sent
+      → told_to pass room j (pieces_of marks lines) ≡ t.sent
+  pub served : AllServed (pieces_of marks lines) → text_of marks lines ≡ text_of [] lines
