@@ -19,12 +19,11 @@ use std::test::Fail;
 use tungstenite::Duplex;
 use ws_link::WsLink;
 
-/// A binary message with a mask of zeros, which asks for the games.
-const GAMES: &[u8] = b"\x82\x90\x00\x00\x00\x00{\"type\":\"games\"}";
+/// A binary message with a mask of zeros, which asks for the matches of a game.
+const MATCHES: &[u8] = b"\x82\x9f\x00\x00\x00\x00{\"game\":\"pig\",\"type\":\"matches\"}";
 
 /// The text message that answers it.
-const ANSWER: &[u8] =
-    b"\x81\x5d{\"games\":[\"blind-bid\",\"captions\",\"countdown\",\"high-hand\",\"pig\",\"tic-tac-toe\"],\"type\":\"games\"}";
+const ANSWER: &[u8] = b"\x81\x1f{\"matches\":[],\"type\":\"matches\"}";
 
 /// The close of a session whose peer has ended: at most this is sent once the stream is at its end.
 const ENDED: &[u8] = b"\x88\x02\x03\xe8";
@@ -112,10 +111,10 @@ fn served<R: Wait>(
 }
 
 #[test]
-fn games_by_frames(rt: HostRuntime) -> Result<(), Fail> {
+fn matches_by_frames(rt: HostRuntime) -> Result<(), Fail> {
     let alloc = rt.alloc();
     let mut sent = Vec::new(alloc);
-    let end = served(&rt, alloc, Vec::from_slice(alloc, GAMES)?, &mut sent)?;
+    let end = served(&rt, alloc, Vec::from_slice(alloc, MATCHES)?, &mut sent)?;
     assert_eq!(rt; end, SessionEnd::Ended);
     assert!(rt; sent.as_slice().starts_with(ANSWER));
     let rest = &sent.as_slice()[ANSWER.len().min(sent.len())..];
