@@ -5,7 +5,7 @@ ghost use Rattle.board_links.specs.Faults.{HasRisen};
 ghost use Rattle.board_links.specs.Pieces.{told_bytes};
 ghost use Rattle.world_script.specs.Converging.{ConvergesIn, telling};
 ghost use Rattle.journal_replay.specs.Replaying.{ReplayEnds};
-ghost use Rattle.line_runner.specs.Running.{AreInForm, Ends, IsComplete};
+ghost use Rattle.line_runner.specs.Running.{AreInForm, EndsOver, IsComplete};
 ghost use Rattle.world_script.specs.ScriptPlay.{first_hall, script_play};
 ghost use Rattle.world_script.specs.Deliveries.{first_world};
 ghost use Rattle.world_script.specs.WorldPlay.{world_play};
@@ -27,10 +27,10 @@ use world_script::{run_script, run_world};
 /// Runs what the words after the program's name ask for: `script`, a script, `world`, a world, or `replay`, a journal, from a source to a
 /// sink; or `workload` with a seed and a number of steps, into a sink alone.
 ///
-/// `Usage` comes exactly where the words are none of these, and then nothing was read or written. Where source and
-/// sink tell what they hold, `ends` says what a script added to the sink and where each end comes, and what Takes print for
-/// each session; `completes`, that a script in form without a fault is run to its end, or there was no memory; `world_ends`
-/// and `world_completes` say it of a world, and what its clients see of their matches. `replays` says that a replay
+/// `Usage` comes exactly where the words are none of these, and then nothing was read or written. Where the source
+/// tells its bytes, `ends` says where each end of a script comes, and where the sink tells them too, what the script added to it
+/// and what of that is told to each session; `completes`, that a script in form without a fault is run to its end, or there was
+/// no memory; `world_ends` and `world_completes` say it of a world, and what its clients see of their matches. `replays` says that a replay
 /// prints what the records of the journal make, and where it is damaged or too long. `workload_prints` says that a
 /// workload adds its transcript, or a first part of it where it doesn't end with `Done`, and `workload_completes` that without a fault
 /// of the sink it is run to its end, or there was no memory.
@@ -46,13 +46,13 @@ pub fn run<S: Source, K: Sink>(
     ensures untouched_source { command_of words.now ≡ None → source.new ≡ source.old }
     ensures untouched_sink { command_of words.now ≡ None → sink.new ≡ sink.old }
     ensures raises { (asked : Asked) → command_of words.now ≡ Some asked → RunRaises asked result (S.faults source.old) (S.faults source.new) (K.faults sink.old) (K.faults sink.new) }
-    ensures ends { command_of words.now ≡ Some Script → IsSome (S.left source.old) → IsSome (K.held sink.old)
-        → Ends script_play first_hall (told_bytes (S.left source.old)) (told_bytes (S.left source.new)) (told_bytes (K.held sink.old)) (K.held sink.new) result }
-    ensures completes { command_of words.now ≡ Some Script → IsSome (S.left source.old) → IsSome (K.held sink.old) → AreInForm script_play (told_bytes (S.left source.old))
+    ensures ends { command_of words.now ≡ Some Script → IsSome (S.left source.old)
+        → EndsOver script_play first_hall (told_bytes (S.left source.old)) (told_bytes (S.left source.new)) (K.held sink.old) (K.held sink.new) result }
+    ensures completes { command_of words.now ≡ Some Script → IsSome (S.left source.old) → AreInForm script_play (told_bytes (S.left source.old))
         → (HasRisen (S.faults source.old) (S.faults source.new) → ⊥) → (HasRisen (K.faults sink.old) (K.faults sink.new) → ⊥) → IsComplete result }
-    ensures world_ends { command_of words.now ≡ Some World → IsSome (S.left source.old) → IsSome (K.held sink.old)
-        → Ends (telling world_play ConvergesIn) first_world (told_bytes (S.left source.old)) (told_bytes (S.left source.new)) (told_bytes (K.held sink.old)) (K.held sink.new) result }
-    ensures world_completes { command_of words.now ≡ Some World → IsSome (S.left source.old) → IsSome (K.held sink.old) → AreInForm world_play (told_bytes (S.left source.old))
+    ensures world_ends { command_of words.now ≡ Some World → IsSome (S.left source.old)
+        → EndsOver (telling world_play ConvergesIn) first_world (told_bytes (S.left source.old)) (told_bytes (S.left source.new)) (K.held sink.old) (K.held sink.new) result }
+    ensures world_completes { command_of words.now ≡ Some World → IsSome (S.left source.old) → AreInForm world_play (told_bytes (S.left source.old))
         → (HasRisen (S.faults source.old) (S.faults source.new) → ⊥) → (HasRisen (K.faults sink.old) (K.faults sink.new) → ⊥) → IsComplete result }
     ensures replays { command_of words.now ≡ Some Replay → IsSome (S.left source.old) → IsSome (K.held sink.old)
         → ReplayEnds (told_bytes (S.left source.old)) (S.left source.new) (told_bytes (K.held sink.old)) (K.held sink.new) result }

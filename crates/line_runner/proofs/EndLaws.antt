@@ -1,10 +1,10 @@
 -- How the answers to a line and to its reading end a run, or let it go on.
-use Rattle.std.proofs.Common.{◌≡◌, ◌+◌, inl, inr, ℕ, List, [], Option, Some, None, IsSome, refl, sym, ap, ◌∙◌, subst, append-nil}
+use Rattle.std.proofs.Common.{◌≡◌, ◌+◌, ◌++◌, inl, inr, ℕ, List, [], Option, Some, None, IsSome, refl, sym, ap, ◌∙◌, subst, append-nil}
 use Rattle.board_links.specs.Faults.{HasRisen}
 use Rattle.board_links.specs.Pieces.{told_bytes}
 use Rattle.line_runner.specs.Play.{Doing, IsPlay, Play}
 use Rattle.line_runner.specs.Reading.{Raises, given_after, StandsAt, Moves}
-use Rattle.line_runner.specs.Running.{AreInForm, Ends, ExitRaises, GoesOn, IsComplete, Leaves, LineRaises, RanLine, StopsEarly, end_at, stop_at}
+use Rattle.line_runner.specs.Running.{AreInForm, Ends, EndsOver, ExitRaises, GoesOn, IsComplete, Leaves, LineRaises, RanLine, StopsEarly, end_at, stop_at}
 use Rattle.line_runner.specs.Reader.{Reader, fresh, to_come}
 use Rattle.line_runner.specs.ScriptLines.{Script, first_line, script}
 use Rattle.line_runner.specs.ScriptLines as script
@@ -84,7 +84,7 @@ not_long e = cc
 not_many : script.Ended ≡ script.TooMany → ⊥
 not_many e = cc
 
-some_bytes : (o : Option (List ℕ)) → IsSome o → o ≡ Some (told_bytes o)
+pub some_bytes : (o : Option (List ℕ)) → IsSome o → o ≡ Some (told_bytes o)
 some_bytes (Some xs) e = refl
 some_bytes None e = cc
 
@@ -108,6 +108,22 @@ module _ {Mark Step State : Type 0} (p : Play Mark Step State) (begin : State) w
   completes LongJournal bytes left before held a b c d e r f s k = absurd e
   completes StoreFault bytes left before held a b c d e r f s k = absurd e
 
+  -- the same, whatever the sink tells
+  pub completes_over : (exit : Exit) (bytes left : List ℕ) (before held : Option (List ℕ)) (source_old source_new sink_old sink_new : ℕ) → EndsOver p begin bytes left before held exit
+      → ExitRaises exit source_old source_new sink_old sink_new → AreInForm p bytes → (HasRisen source_old source_new → ⊥) → (HasRisen sink_old sink_new → ⊥) → IsComplete exit
+  completes_over exit bytes left (Some before) held a b c d e r f s k = completes exit bytes left before held a b c d e r f s k
+  completes_over exit bytes left None held a b c d e r f s k = completes exit bytes left [] e.0 a b c d e.1 r f s k
+
+  -- what a sink tells is what was printed
+  pub ends_over : (bytes left : List ℕ) (old new held : Option (List ℕ)) (exit : Exit) → (IsSome old → new ≡ held) → Ends p begin bytes left (told_bytes old) held exit → EndsOver p begin bytes left old new exit
+  ends_over bytes left (Some before) new held exit same e = subst (λ h. Ends p begin bytes left before h exit) (sym (same refl)) e
+  ends_over bytes left None new held exit same e = (held, e)
+
+  -- over a sink that tells
+  pub ends_told : (bytes left : List ℕ) (old new : Option (List ℕ)) (exit : Exit) → IsSome old → EndsOver p begin bytes left old new exit → Ends p begin bytes left (told_bytes old) new exit
+  ends_told bytes left (Some before) new exit k e = e
+  ends_told bytes left None new exit k e = cc
+
 module _ {Mark Step State Held : Type 0} (p : Play Mark Step State) (d : Doing Mark Step State Held) (begin : State) (ok : IsPlay p d) where
   module _ (bytes before : List ℕ) (hall : Held) (given : ℕ) (reader : Reader) (left : List ℕ) where
     pub stop_ends : (held : Option (List ℕ)) (u : Underway p d begin bytes before hall given reader left (to_come reader left) held) (n : Next) (line : List ℕ) (reader' : Reader) (left' : List ℕ) (exit : Exit) (now : ℕ)
@@ -129,6 +145,24 @@ module _ {Mark Step State Held : Type 0} (p : Play Mark Step State) (d : Doing M
 
     same_held : (rest : Script) (held : Option (List ℕ)) (u : Underway p d begin bytes before hall given reader left rest held) (after : Option (List ℕ)) → after ≡ Some (told_bytes held) → held ≡ after
     same_held rest held u after e = u.added ∙ sym (e ∙ ap (λ h. Some (told_bytes h)) u.added)
+
+    -- the same lines are still to come, in other words
+    comes_to : (rest rest' : Script) (held : Option (List ℕ)) (u : Underway p d begin bytes before hall given reader left rest held) → rest ≡ rest' → Underway p d begin bytes before hall given reader left rest' held
+    comes_to rest rest' held u e = record {
+      h = u.h;
+      marks = u.marks;
+      done = u.done;
+      gained = u.gained;
+      stands = u.stands;
+      read = u.read;
+      lines = u.lines ∙ ap (λ (s : Script). u.done ++ s.lines) e;
+      ending = u.ending ∙ ap (λ (s : Script). s.ending) e;
+      added = u.added;
+      counted = u.counted;
+      so_far = u.so_far;
+      at = u.at;
+      bad = u.bad;
+    }
 
     pub end_ends : (line : List ℕ) (rest : Script) (held : Option (List ℕ)) (u : Underway p d begin bytes before hall given reader left (first_line line rest) held) (left' : List ℕ) (hall' : Held) (after : Option (List ℕ)) (r : LineStatus) (exit : Exit) (now : ℕ)
         → RanLine p d u.h line hall' (told_bytes held) after r → now ≡ given + 1 → end_at r now ≡ Some exit → Ends p begin bytes left' before after exit
@@ -159,13 +193,10 @@ module _ {Mark Step State Held : Type 0} (p : Play Mark Step State) (d : Doing M
     pub line_leaves : (held : Option (List ℕ)) (u : Underway p d begin bytes before hall given reader left (to_come reader left) held) (n : Next) (count : ℕ) (line : List ℕ) (reader' : Reader) (left' : List ℕ)
         → Moves (Some n) line reader reader' left left' → stop_at n count ≡ None → (shown : List ℕ) → shown ≡ line
         → (hall' : Held) (after : Option (List ℕ)) (r : LineStatus) (exit : Exit) (now : ℕ)
-        → ((h : State) → d.Stands hall h → RanLine p d h shown hall' (told_bytes held) after r)
+        → RanLine p d u.h shown hall' (told_bytes held) after r
         → end_at r now ≡ Some exit → Leaves p d begin (script bytes) hall' before after exit
     line_leaves held u next.Line count line reader' left' m e shown w hall' after r exit now ran x =
-        end_leaves shown (to_come reader' left') held here hall' after r exit now (ran here.h here.stands) x
-      where
-        here : Underway p d begin bytes before hall given reader left (first_line shown (to_come reader' left')) held
-        here = subst (λ l. Underway p d begin bytes before hall given reader left l held) (m.lines ∙ ap (λ l. first_line l (to_come reader' left')) (sym w)) u
+        end_leaves shown (to_come reader' left') held (comes_to (to_come reader left) (first_line shown (to_come reader' left')) held u (m.lines ∙ ap (λ l. first_line l (to_come reader' left')) (sym w))) hall' after r exit now ran x
     line_leaves held u next.End count line reader' left' m e shown w hall' after r exit now ran x = absurd (some_exit Done e)
     line_leaves held u next.TooLong count line reader' left' m e shown w hall' after r exit now ran x = absurd (some_exit (TooLong (count + 1)) e)
     line_leaves held u next.TooMany count line reader' left' m e shown w hall' after r exit now ran x = absurd (some_exit TooMany e)
@@ -176,13 +207,10 @@ module _ {Mark Step State Held : Type 0} (p : Play Mark Step State) (d : Doing M
     pub line_ends : (held : Option (List ℕ)) (u : Underway p d begin bytes before hall given reader left (to_come reader left) held) (n : Next) (count : ℕ) (line : List ℕ) (reader' : Reader) (left' : List ℕ)
         → Moves (Some n) line reader reader' left left' → stop_at n count ≡ None → (shown : List ℕ) → shown ≡ line
         → (hall' : Held) (after : Option (List ℕ)) (r : LineStatus) (exit : Exit) (now : ℕ)
-        → ((h : State) → d.Stands hall h → RanLine p d h shown hall' (told_bytes held) after r)
+        → RanLine p d u.h shown hall' (told_bytes held) after r
         → now ≡ given_after n given → end_at r now ≡ Some exit → Ends p begin bytes left' before after exit
     line_ends held u next.Line count line reader' left' m e shown w hall' after r exit now ran g x =
-        end_ends shown (to_come reader' left') held here left' hall' after r exit now (ran here.h here.stands) g x
-      where
-        here : Underway p d begin bytes before hall given reader left (first_line shown (to_come reader' left')) held
-        here = subst (λ l. Underway p d begin bytes before hall given reader left l held) (m.lines ∙ ap (λ l. first_line l (to_come reader' left')) (sym w)) u
+        end_ends shown (to_come reader' left') held (comes_to (to_come reader left) (first_line shown (to_come reader' left')) held u (m.lines ∙ ap (λ l. first_line l (to_come reader' left')) (sym w))) left' hall' after r exit now ran g x
     line_ends held u next.End count line reader' left' m e shown w hall' after r exit now ran g x = absurd (some_exit Done e)
     line_ends held u next.TooLong count line reader' left' m e shown w hall' after r exit now ran g x = absurd (some_exit (TooLong (count + 1)) e)
     line_ends held u next.TooMany count line reader' left' m e shown w hall' after r exit now ran g x = absurd (some_exit TooMany e)
@@ -192,18 +220,18 @@ module _ {Mark Step State Held : Type 0} (p : Play Mark Step State) (d : Doing M
     pub line_runs : (held : Option (List ℕ)) (u : Underway p d begin bytes before hall given reader left (to_come reader left) held) (n : Next) (count : ℕ) (line : List ℕ) (reader' : Reader) (left' : List ℕ)
         → Moves (Some n) line reader reader' left left' → stop_at n count ≡ None → (shown : List ℕ) → shown ≡ line
         → (hall' : Held) (after : Option (List ℕ)) (r : LineStatus) (ended now : ℕ)
-        → ((h : State) → d.Stands hall h → RanLine p d h shown hall' (told_bytes held) after r)
+        → RanLine p d u.h shown hall' (told_bytes held) after r
         → now ≡ given_after n given → end_at r ended ≡ None → Underway p d begin bytes before hall' now reader' left' (to_come reader' left') after
     line_runs held u next.Line count line reader' left' m e shown w hall' after ran.Done ended now ran g x =
         subst (λ n. Underway p d begin bytes before hall' n reader' left' (to_come reader' left') after) (sym g)
         (goes_on p d begin ok bytes before hall given reader left shown (to_come reader' left') held here reader' left' (line_read bytes here.done shown reader reader' left left' here.read moved)
-        hall' after (ran here.h here.stands))
+        hall' after ran)
       where
         moved : Moves (Some next.Line) shown reader reader' left left'
         moved = subst (λ l. Moves (Some next.Line) l reader reader' left left') (sym w) m
 
         here : Underway p d begin bytes before hall given reader left (first_line shown (to_come reader' left')) held
-        here = subst (λ l. Underway p d begin bytes before hall given reader left l held) moved.lines u
+        here = comes_to (to_come reader left) (first_line shown (to_come reader' left')) held u moved.lines
     line_runs held u next.Line count line reader' left' m e shown w hall' after ran.BadLine ended now ran g x = absurd (some_exit (BadLine ended) x)
     line_runs held u next.Line count line reader' left' m e shown w hall' after ran.WriteFault ended now ran g x = absurd (some_exit WriteFault x)
     line_runs held u next.Line count line reader' left' m e shown w hall' after ran.NoMemory ended now ran g x = absurd (some_exit NoMemory x)
@@ -226,3 +254,8 @@ module _ {Mark Step State Held : Type 0} (p : Play Mark Step State) (d : Doing M
     lines = refl;
     plays = plays_by p d begin ok [] [] (told_bytes held) [] held (some_bytes held k ∙ ap Some (sym (append-nil (told_bytes held)))) (nothing_printed p d ok [] begin);
   }
+
+  -- whatever the sink tells
+  pub stops_over : (bytes left : List ℕ) (held : Option (List ℕ)) → EndsOver p begin bytes left held held NoMemory
+  stops_over bytes left (Some xs) = stops_at_once (script bytes) (Some xs) refl
+  stops_over bytes left None = (Some [], stops_at_once (script bytes) (Some []) refl)

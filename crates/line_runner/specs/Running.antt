@@ -72,6 +72,11 @@ module _ {Mark Step State : Type 0} (p : Play Mark Step State) (begin : State) w
   Ends bytes left before after NoMemory = StopsEarly (script bytes) before after
   Ends bytes left before after other = ⊥
 
+  -- the same over a sink, by what it tells that it held before and holds after; where it tells nothing, the run ends so with some text that was printed
+  abbrev pub EndsOver : List ℕ → List ℕ → Option (List ℕ) → Option (List ℕ) → Exit → Type 0
+  EndsOver bytes left (Some before) after exit = Ends bytes left before after exit
+  EndsOver bytes left None after exit = (shown : Option (List ℕ)) × Ends bytes left [] shown exit
+
 module _ {Mark Step State : Type 0} (p : Play Mark Step State) where
   -- all lines of the bytes are in form and within the limits
   pub record AreInForm (bytes : List ℕ) : Type 0 where
@@ -102,6 +107,10 @@ module _ {Mark Step State Held : Type 0} (p : Play Mark Step State) (d : Doing M
   RanLine h line hall held after status.BadLine = (p.form line ≡ None) × (after ≡ Some held) × d.Stands hall h
   RanLine h line hall held after status.WriteFault = StoppedIn h line hall held after
   RanLine h line hall held after status.NoMemory = (after ≡ Some held) × d.Fails hall h
+
+  -- the same over a sink, by what it tells: on top of whatever bytes, some were printed, and those where it held these
+  abbrev pub RanOver : State → List ℕ → Held → Option (List ℕ) → Option (List ℕ) → LineStatus → Type 0
+  RanOver h line hall before after status = (held : List ℕ) → (shown : Option (List ℕ)) × RanLine h line hall held shown status × (before ≡ Some held → after ≡ shown)
 
   module _ (begin : State) where
     -- Some first lines were run, and stand for the state after them, or there was no memory for the next one and it failed. Their transcript was

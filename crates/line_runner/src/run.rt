@@ -2,7 +2,7 @@
 
 ghost use Rattle.std.specs.Prelude.{◌≡◌, ◌≤◌, IsSome};
 ghost use Rattle.board_links.specs.Pieces.{told_bytes, WriteRaises, Writes};
-ghost use Rattle.line_runner.specs.Running.{Ends, ExitRaises, GoesOn, Leaves, LineRaises, RanLine, end_at, stop_at};
+ghost use Rattle.line_runner.specs.Running.{EndsOver, ExitRaises, GoesOn, Leaves, LineRaises, RanOver, end_at, stop_at};
 ghost use Rattle.line_runner.specs.ScriptLines.{script};
 
 use crate::exit::Exit;
@@ -12,7 +12,8 @@ use crate::next::Next;
 use board_links::{Put, Sink, Source};
 use std::alloc::Global;
 
-/// Runs the lines of a source in an interpreter, and prints into a sink. What it prints goes by what the interpreter stands for at first.
+/// Runs the lines of a source in an interpreter, and prints into a sink. What it prints goes by what the interpreter stands for at first. Where
+/// the source tells its bytes, `ends` says where each end comes, and where the sink tells them too, what was printed.
 #[tactic(none)]
 pub fn run_lines<I: Interpreter, S: Source, K: Sink>(
     alloc: Global,
@@ -24,8 +25,8 @@ pub fn run_lines<I: Interpreter, S: Source, K: Sink>(
     ensures source_never_falls { S.faults source.old ≤ S.faults source.new }
     ensures sink_never_falls { K.faults sink.old ≤ K.faults sink.new }
     ensures raises { ExitRaises result (S.faults source.old) (S.faults source.new) (K.faults sink.old) (K.faults sink.new) }
-    ensures ends { (begin : I.State) → I.doing.Stands interpreter.old begin → IsSome (S.left source.old) → IsSome (K.held sink.old)
-        → Ends I.play begin (told_bytes (S.left source.old)) (told_bytes (S.left source.new)) (told_bytes (K.held sink.old)) (K.held sink.new) result }
+    ensures ends { (begin : I.State) → I.doing.Stands interpreter.old begin → IsSome (S.left source.old)
+        → EndsOver I.play begin (told_bytes (S.left source.old)) (told_bytes (S.left source.new)) (K.held sink.old) (K.held sink.new) result }
     ensures leaves { (begin : I.State) → I.doing.Stands interpreter.old begin → IsSome (S.left source.old) → IsSome (K.held sink.old)
         → Leaves I.play I.doing begin (script (told_bytes (S.left source.old))) interpreter.new (told_bytes (K.held sink.old)) (K.held sink.new) result }
 {
@@ -95,9 +96,7 @@ fn run_line<I: Interpreter, K: Sink>(
     ensures going { GoesOn result ((s : I.State) × I.doing.Stands interpreter.new s) }
     ensures never_falls { K.faults sink.old ≤ K.faults sink.new }
     ensures raises { LineRaises result (K.faults sink.old) (K.faults sink.new) }
-    ensures told { IsSome (K.held sink.old) → IsSome (K.held sink.new) }
-    ensures ran { IsSome (K.held sink.old) → (s : I.State) → I.doing.Stands interpreter.old s
-        → RanLine I.play I.doing s line.now interpreter.new (told_bytes (K.held sink.old)) (K.held sink.new) result }
+    ensures ran { (s : I.State) → I.doing.Stands interpreter.old s → RanOver I.play I.doing s line.now interpreter.new (K.held sink.old) (K.held sink.new) result }
 {
     text.clear();
     match interpreter.run_line(alloc, line, text) {

@@ -3,7 +3,7 @@
 ghost use Rattle.std.specs.Prelude.{◌≡◌, ◌≤◌, ◌++◌, ◌==◌, IsSome, None, OnOk, position};
 ghost use Rattle.board_links.specs.Faults.{HasRisen};
 ghost use Rattle.board_links.specs.Pieces.{told_bytes};
-ghost use Rattle.line_runner.specs.Running.{AreInForm, Ends, ExitRaises, IsComplete};
+ghost use Rattle.line_runner.specs.Running.{AreInForm, EndsOver, ExitRaises, IsComplete};
 ghost use Rattle.link_play.specs.Commands.{command_of};
 ghost use Rattle.link_play.specs.Doing.{key_of};
 ghost use Rattle.page_player.specs.Drawing.{drawn};
@@ -35,9 +35,8 @@ pub fn run_page<S: Source, K: Sink>(alloc: Global, source: &mut S, sink: &mut K)
     ensures source_never_falls { S.faults source.old ≤ S.faults source.new }
     ensures sink_never_falls { K.faults sink.old ≤ K.faults sink.new }
     ensures raises { ExitRaises result (S.faults source.old) (S.faults source.new) (K.faults sink.old) (K.faults sink.new) }
-    ensures ends { IsSome (S.left source.old) → IsSome (K.held sink.old)
-        → Ends page_play None (told_bytes (S.left source.old)) (told_bytes (S.left source.new)) (told_bytes (K.held sink.old)) (K.held sink.new) result }
-    ensures completes { IsSome (S.left source.old) → IsSome (K.held sink.old) → AreInForm page_play (told_bytes (S.left source.old))
+    ensures ends { IsSome (S.left source.old) → EndsOver page_play None (told_bytes (S.left source.old)) (told_bytes (S.left source.new)) (K.held sink.old) (K.held sink.new) result }
+    ensures completes { IsSome (S.left source.old) → AreInForm page_play (told_bytes (S.left source.old))
         → (HasRisen (S.faults source.old) (S.faults source.new) → ⊥) → (HasRisen (K.faults sink.old) (K.faults sink.new) → ⊥) → IsComplete result }
 {
     let mut page = Page::new(alloc);

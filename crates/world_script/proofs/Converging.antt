@@ -1,5 +1,5 @@
 -- Lines run as a list of steps that fit, so the laws of worlds hold of them; and what holds of all lines holds of those that were played.
-use Rattle.std.proofs.Common.{◌≤◌, ℕ, List, Option, refl, arith}
+use Rattle.std.proofs.Common.{◌≤◌, ℕ, List, [], Option, Some, None, refl, arith}
 use Rattle.any_game.specs.AnyRules.{named}
 use Rattle.any_game.specs.GameKind.{GameKind}
 use Rattle.client_world.specs.Reading.{world_step_of}
@@ -10,7 +10,7 @@ use Rattle.world_convergence.specs.Meeting.{Run}
 use Rattle.world_script.specs.Converging.{ConvergesIn, telling}
 use Rattle.world_script.specs.Deliveries.{rooms_of_world}
 use Rattle.line_runner.specs.Play.{Play, printed, steps_of}
-use Rattle.line_runner.specs.Running.{BreaksOff, Ends, Plays, PlaysAll}
+use Rattle.line_runner.specs.Running.{BreaksOff, Ends, EndsOver, Plays, PlaysAll}
 use Rattle.line_runner.specs.ScriptLines.{Ending, Script, script}
 use Rattle.line_runner.specs.declared.exit.Exit.{Exit}
 use Rattle.line_runner.specs.declared.exit.Exit.TheVariants as exit
@@ -38,7 +38,7 @@ module _ {Mark Step State : Type 0} (p : Play Mark Step State) (holds : List Mar
   breaks_too s before after h = record { marks = h.marks; printed_bytes = h.printed_bytes; missing = h.missing; whole = h.whole; added = h.added }
 
   -- a law of all marks and lines is told of those of a run
-  pub ends_too : (bytes left before : List ℕ) (after : Option (List ℕ)) (end : Exit) → Ends p begin bytes left before after end → Ends (telling p holds) begin bytes left before after end
+  ends_too : (bytes left before : List ℕ) (after : Option (List ℕ)) (end : Exit) → Ends p begin bytes left before after end → Ends (telling p holds) begin bytes left before after end
   ends_too bytes left before after exit.Done h = record { all_read = h.all_read; plays = all_too (script bytes) _ before after h.plays }
   ends_too bytes left before after exit.Usage h = absurd h
   ends_too bytes left before after exit.ReadFault h = record { read = h.read; first_part = h.first_part; plays = all_too _ _ before after h.plays }
@@ -54,3 +54,7 @@ module _ {Mark Step State : Type 0} (p : Play Mark Step State) (holds : List Mar
   ends_too bytes left before after (exit.BadRecord place) h = absurd h
   ends_too bytes left before after exit.LongJournal h = absurd h
   ends_too bytes left before after exit.StoreFault h = absurd h
+
+  pub over_too : (bytes left : List ℕ) (before after : Option (List ℕ)) (end : Exit) → EndsOver p begin bytes left before after end → EndsOver (telling p holds) begin bytes left before after end
+  over_too bytes left (Some before) after end h = ends_too bytes left before after end h
+  over_too bytes left None after end h = (h.0, ends_too bytes left [] h.0 end h.1)

@@ -11,7 +11,7 @@ ghost use Rattle.hall_history.specs.Tapes.{hall_tape};
 ghost use Rattle.world_history.specs.World.{World};
 ghost use Rattle.world_script.specs.Converging.{ConvergesIn, telling};
 ghost use Rattle.line_runner.specs.Play.{Does};
-ghost use Rattle.line_runner.specs.Running.{AreInForm, Ends, ExitRaises, IsComplete};
+ghost use Rattle.line_runner.specs.Running.{AreInForm, EndsOver, ExitRaises, IsComplete};
 ghost use Rattle.world_script.specs.Deliveries.{first_world};
 ghost use Rattle.world_script.specs.WorldDoing.{world_doing};
 ghost use Rattle.world_script.specs.WorldPlay.{world_play};
@@ -36,9 +36,9 @@ pub fn run_world<S: Source, K: Sink>(alloc: Global, source: &mut S, sink: &mut K
     ensures source_never_falls { S.faults source.old ≤ S.faults source.new }
     ensures sink_never_falls { K.faults sink.old ≤ K.faults sink.new }
     ensures raises { ExitRaises result (S.faults source.old) (S.faults source.new) (K.faults sink.old) (K.faults sink.new) }
-    ensures ends { IsSome (S.left source.old) → IsSome (K.held sink.old)
-        → Ends (telling world_play ConvergesIn) first_world (told_bytes (S.left source.old)) (told_bytes (S.left source.new)) (told_bytes (K.held sink.old)) (K.held sink.new) result }
-    ensures completes { IsSome (S.left source.old) → IsSome (K.held sink.old) → AreInForm world_play (told_bytes (S.left source.old))
+    ensures ends { IsSome (S.left source.old)
+        → EndsOver (telling world_play ConvergesIn) first_world (told_bytes (S.left source.old)) (told_bytes (S.left source.new)) (K.held sink.old) (K.held sink.new) result }
+    ensures completes { IsSome (S.left source.old) → AreInForm world_play (told_bytes (S.left source.old))
         → (HasRisen (S.faults source.old) (S.faults source.new) → ⊥) → (HasRisen (K.faults sink.old) (K.faults sink.new) → ⊥) → IsComplete result }
 {
     worlds_of_all_games_converge();
