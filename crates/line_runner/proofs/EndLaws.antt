@@ -147,7 +147,7 @@ module _ {Mark Step State Held : Type 0} (p : Play Mark Step State) (d : Doing M
     same_held rest held u after e = u.added ∙ sym (e ∙ ap (λ h. Some (told_bytes h)) u.added)
 
     -- the same lines are still to come, in other words
-    comes_to : (rest rest' : Script) (held : Option (List ℕ)) (u : Underway p d begin bytes before hall given reader left rest held) → rest ≡ rest' → Underway p d begin bytes before hall given reader left rest' held
+    abbrev comes_to : (rest rest' : Script) (held : Option (List ℕ)) (u : Underway p d begin bytes before hall given reader left rest held) → rest ≡ rest' → Underway p d begin bytes before hall given reader left rest' held
     comes_to rest rest' held u e = record {
       h = u.h;
       marks = u.marks;

@@ -1,5 +1,3 @@
-use Rattle.std.proofs.Common.{◌∙◌, subst}
-use Rattle.board_links.specs.Pieces.{Writes, told_bytes}
 use Rattle.line_runner.proofs.Printing.{printed_on, stopped_on}
 use Rattle.line_runner.proofs.run.run_line.Goals as goal
 

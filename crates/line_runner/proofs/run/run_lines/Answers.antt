@@ -2,6 +2,7 @@ use Rattle.std.proofs.Common.{◌≡◌, ◌+◌, Some, refl, sym, ap, ◌∙◌
 use Rattle.board_links.specs.Pieces.{told_bytes}
 use Rattle.line_runner.specs.Reading.{given_after}
 use Rattle.line_runner.specs.Running.{Leaves}
+use Rattle.line_runner.specs.ScriptLines.{script}
 use Rattle.line_runner.proofs.EndLaws.{ends_over, line_is, some_bytes, stop_raises, end_raises, end_stays, goes_on_with, stop_ends, stop_leaves, stop_stays, begins_with, line_ends, line_leaves, line_runs}
 use Rattle.line_runner.proofs.run.run_lines.Goals as goal
 
@@ -45,7 +46,7 @@ returns-in-Some-clause-ends g c = λ begin stands p.
 pub returns-in-Some-clause-leaves : goal.returns-in-Some-clause-leaves
 returns-in-Some-clause-leaves g c = λ begin stands p k.
     let u = c.lines.invariant.underway begin stands p in
-    subst (λ held. Leaves g.I.Interpreter.play g.I.Interpreter.doing begin _ c.lines.interpreter (told_bytes (g.K.Sink.held c.args.sink.now)) held c.in-Some.exit) (sym (u.2 k))
+    subst (λ held. Leaves g.I.Interpreter.play g.I.Interpreter.doing begin (script (told_bytes (g.S.Source.left c.args.source.now))) c.lines.interpreter (told_bytes (g.K.Sink.held c.args.sink.now)) held c.in-Some.exit) (sym (u.2 k))
     (stop_leaves g.I.Interpreter.play g.I.Interpreter.doing begin g.met.I.Interpreter.one_by_one _ _ c.lines.interpreter c.lines.lines.given c.lines.lines _ u.0 u.1 c.in-Some.exit)
 
 pub returns-in-Some-end_at-clause-leaves : goal.returns-in-Some-end_at-clause-leaves
@@ -53,7 +54,7 @@ returns-in-Some-end_at-clause-leaves g c = λ begin stands p k.
     let u = c.lines.invariant.underway begin stands p in
     let ran = c.run_line-ran.ensures.ran u.1.h u.1.stands (told_bytes u.0) in
     let holds = ran.2 (u.2 k ∙ u.1.added ∙ ap (λ h. Some (told_bytes h)) (sym u.1.added)) in
-    subst (λ held. Leaves g.I.Interpreter.play g.I.Interpreter.doing begin _ c.run_line-ran.new.interpreter (told_bytes (g.K.Sink.held c.args.sink.now)) held c.in-Some-end_at.exit) (sym holds)
+    subst (λ held. Leaves g.I.Interpreter.play g.I.Interpreter.doing begin (script (told_bytes (g.S.Source.left c.args.source.now))) c.run_line-ran.new.interpreter (told_bytes (g.K.Sink.held c.args.sink.now)) held c.in-Some-end_at.exit) (sym holds)
     (line_leaves g.I.Interpreter.play g.I.Interpreter.doing begin g.met.I.Interpreter.one_by_one _ _ c.lines.interpreter c.lines.lines.given c.lines.lines _ u.0 u.1 c.next_line-next.result c.given.result c.next_line-next.new.self.line c.next_line-next.new.self _
     (c.next_line-next.ensures.moves (c.lines.invariant.source_tells p)) (sym c.stop_at.ensures ∙ c.in_default.is)
     c.line.result.now c.line.ensures c.run_line-ran.new.interpreter ran.0 c.run_line-ran.result c.in-Some-end_at.exit c.given-in-lines.result ran.1 (sym c.end_at.ensures ∙ c.in-Some-end_at.is))
