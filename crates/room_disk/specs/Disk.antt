@@ -28,6 +28,10 @@ AddsNone old new = (c : List ℕ) → new c → old c
 abbrev pub Only : List ℕ → (List ℕ → Type 0) → Type 0
 Only file outcomes = (c : List ℕ) → outcomes c → c ≡ file
 
+-- a crash leaves what it may have left before, or these bytes and no others
+abbrev pub LeavesOr : List ℕ → (List ℕ → Type 0) → (List ℕ → Type 0) → Type 0
+LeavesOr bytes old new = (c : List ℕ) → new c → old c ⊎ (c ≡ bytes)
+
 -- Time goes on: a crash since t may have left what it may have left before, or what it may leave now.
 pub record Elapses (before now : ℕ) (past since : ℕ → List ℕ → Type 0) (may_leave : List ℕ → Type 0) : Type 0 where
   pub later : before ≤ now
@@ -61,6 +65,11 @@ WritesAt put.Failed place bytes old new = Unit {0}
 abbrev pub Settles : Put → List ℕ → List ℕ → (List ℕ → Type 0) → Type 0
 Settles put.Done old new may_leave = (new ≡ old) × Only old may_leave
 Settles put.Failed old new may_leave = Unit {0}
+
+-- a file that was replaced has these bytes, all of them on the disk
+abbrev pub Replaces : Put → List ℕ → List ℕ → (List ℕ → Type 0) → Type 0
+Replaces put.Done bytes new may_leave = (new ≡ bytes) × Only bytes may_leave
+Replaces put.Failed bytes new may_leave = Unit {0}
 
 -- and of the count of faults
 abbrev pub SizeRaises : Size → ℕ → ℕ → Type 0

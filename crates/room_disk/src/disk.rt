@@ -17,7 +17,7 @@ pub enum Size {
 pub trait Disk {
     ghost use Rattle.std.specs.Prelude.{ℕ, List};
     ghost use Rattle.board_links.specs.Pieces.{HasSize, ReadRaises, WriteRaises};
-    ghost use Rattle.room_disk.specs.Disk.{AddsNone, Elapses, Follows, ReadsAt, Settles, SizeRaises, Sizes, Torn, WritesAt};
+    ghost use Rattle.room_disk.specs.Disk.{AddsNone, Elapses, Follows, LeavesOr, ReadsAt, Replaces, Settles, SizeRaises, Sizes, Torn, WritesAt};
 
     /// Whether the file goes by the model of a disk. Of a real file nothing can be told, so nothing is: its adapter says that it never does.
     ghost is_told: { Self → Type 0 };
@@ -69,6 +69,14 @@ pub trait Disk {
     fn sync(&mut self) -> Put
         ensures durable { is_told self.old → Settles result (seen self.old) (seen self.new) (may_leave self.new) }
         ensures crash { is_told self.old → AddsNone (may_leave self.old) (may_leave self.new) }
+        ensures told { is_told self.old → is_told self.new }
+        ensures time { is_told self.old → Elapses (moment self.old) (moment self.new) (left_since self.old) (left_since self.new) (may_leave self.new) }
+        ensures raises { WriteRaises result (faults self.old) (faults self.new) };
+
+    /// Has the file hold these bytes and no others, all of them on the disk. A crash leaves what it may have left before, or these bytes, never a mix.
+    fn replace(&mut self, bytes: &[u8]) -> Put
+        ensures replaced { is_told self.old → Replaces result bytes.now (seen self.new) (may_leave self.new) }
+        ensures crash { is_told self.old → LeavesOr bytes.now (may_leave self.old) (may_leave self.new) }
         ensures told { is_told self.old → is_told self.new }
         ensures time { is_told self.old → Elapses (moment self.old) (moment self.new) (left_since self.old) (left_since self.new) (may_leave self.new) }
         ensures raises { WriteRaises result (faults self.old) (faults self.new) };

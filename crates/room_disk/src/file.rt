@@ -15,23 +15,43 @@ const LAST_PLACE: u64 = (1 << 63) - 1;
 /// How often a call that a signal interrupted is made again before it counts as a fault.
 const TRIES: u32 = 1_000;
 
+/// Where the file of a disk stands.
+pub trait Place {
+    /// Puts a new file of these bytes in the place of the one that stands there, once all of them are on the device.
+    fn begin_anew(&mut self, bytes: &[u8]) -> Begun;
+}
+
+/// What stands in the place of a file that was to begin anew.
+#[derive(Drop)]
+pub enum Begun {
+    /// The new file, which is open for reading and writing; a crash leaves it there.
+    New(File),
+    /// The old one.
+    Old,
+    /// One of the two. A crash may leave either, whatever is written.
+    Either,
+}
+
 /// A disk over an open file, of which nothing is told.
 #[derive(Drop)]
-pub struct FileDisk {
+pub struct FileDisk<P: Place + Drop> {
     file: File,
+    place: P,
     faults: u64,
-    /// Whether a sync has failed. The system may have dropped what it couldn't write, so no later sync can be believed.
+    /// Whether a sync has failed, or which file a crash leaves isn't known. The system may have dropped what it couldn't write, so no later sync can be
+    /// believed.
     is_lost: bool,
 }
 
-impl FileDisk {
-    /// A disk over this file, of which no call has failed yet. The file should be open for reading and writing, and not for appending,
-    /// where the system writes at the end whatever the place.
-    pub fn new(file: File) -> Self
-        ensures { ⟦<FileDisk as Disk>⟧.faults result ≡ 0 }
+impl<P: Place + Drop> FileDisk<P> {
+    /// A disk over the file that stands at this place, of which no call has failed yet. The file should be open for reading and writing, and not for
+    /// appending, where the system writes at the end whatever the place.
+    pub fn new(file: File, place: P) -> Self
+        ensures { ⟦<FileDisk<P> as Disk>⟧.faults result ≡ 0 }
     {
         FileDisk {
             file,
+            place,
             faults: 0,
             is_lost: false,
         }
@@ -75,7 +95,7 @@ fn flush(file: &File) -> bool {
     false
 }
 
-impl Disk for FileDisk {
+impl<P: Place + Drop> Disk for FileDisk<P> {
     ghost use Rattle.std.specs.Prelude.{[]};
 
     ghost is_told = { λ _. ⊥ };
@@ -130,6 +150,21 @@ impl Disk for FileDisk {
             return Put::Done;
         }
         self.is_lost = true;
+        self.faults = self.faults.saturating_add(1);
+        Put::Failed
+    }
+
+    fn replace(&mut self, bytes: &[u8]) -> Put {
+        if !self.is_lost {
+            match self.place.begin_anew(bytes) {
+                Begun::New(file) => {
+                    self.file = file;
+                    return Put::Done;
+                }
+                Begun::Old => {}
+                Begun::Either => self.is_lost = true,
+            }
+        }
         self.faults = self.faults.saturating_add(1);
         Put::Failed
     }

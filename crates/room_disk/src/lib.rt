@@ -6,5 +6,5 @@ mod file;
 mod memory;
 
 pub use disk::{Disk, Size};
-pub use file::FileDisk;
+pub use file::{Begun, FileDisk, Place};
 pub use memory::MemoryDisk;

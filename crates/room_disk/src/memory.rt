@@ -92,6 +92,24 @@ fn put(
     Ok(())
 }
 
+/// Puts these bytes in the place of what is there, which it keeps.
+fn put_anew(
+    alloc: Global,
+    file: &mut Vec<u8>,
+    past: &mut Vec<Vec<u8>>,
+    bytes: &[u8],
+) -> Result<(), AllocError>
+    ensures ok { OnOk result (file.new.items ≡ bytes.now) }
+    ensures err { OnErr result (file.new.items ≡ file.old.items) }
+    ensures past { OnOk result ((v : _) × (v.items ≡ file.old.items) × (past.new.items ≡ past.old.items ++ v ∷ [])) }
+    ensures past_err { OnErr result (past.new.items ≡ past.old.items) }
+{
+    let next = bytes.to_vec(alloc)?;
+    past.push(file.to_vec(alloc)?)?;
+    *file = next;
+    Ok(())
+}
+
 impl Disk for MemoryDisk {
     ghost is_told = { λ m. Unit {0} };
 
@@ -154,5 +172,19 @@ impl Disk for MemoryDisk {
             return Put::Failed;
         }
         Put::Done
+    }
+
+    fn replace(&mut self, bytes: &[u8]) -> Put {
+        if self.fails() {
+            self.faults = self.faults.saturating_add(1);
+            return Put::Failed;
+        }
+        match put_anew(self.alloc, &mut self.bytes, &mut self.past, bytes) {
+            Ok(()) => Put::Done,
+            Err(_) => {
+                self.faults = self.faults.saturating_add(1);
+                Put::Failed
+            }
+        }
     }
 }
