@@ -1,5 +1,6 @@
 pub mod Asides
 pub mod Creating
+pub mod Drafts
 pub mod Emptied
 pub mod Hosting
 pub mod Journals

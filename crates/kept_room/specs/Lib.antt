@@ -1,3 +1,4 @@
+pub mod Anew
 pub mod Asides
 pub mod Hosting
 pub mod Journal

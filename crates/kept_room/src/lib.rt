@@ -1,6 +1,7 @@
 //! A room that keeps its accepted changes in a journal, as a script and as a server have it.
 #![tactic(auto)]
 
+mod anew;
 mod asking;
 mod form;
 mod framing;
@@ -9,6 +10,7 @@ mod opening;
 mod origin;
 mod room;
 
+pub use anew::cleared_bytes;
 pub use hosted::HostedKept;
 pub use opening::{open_hosted, open_room};
 pub use origin::Origin;
