@@ -2,7 +2,7 @@
 use Rattle.std.proofs.Common.{◌≡◌, ◌⊎◌, ◌<◌, ◌≤◌, inl, inr, refl, ℕ, zero, List, [], ◌∷◌, ◌++◌, ◌+◌, map, length, ap, sym, ◌∙◌, subst, arith, slice_index_or, Option, Some, None, Result, Ok, Bool, false, true}
 use Rattle.std.specs.Prelude.{All, Err, IfErr, IfOk, is_some, not, option_map, slice_get, suc}
 use Rattle.std.proofs.lemmas.List.{append-nil, append_assoc, get_or-map, length-append, length-map, map-append, nil_from_length}
-use Rattle.kept_serve.specs.Given.{starts_of}
+use Rattle.kept_serve.specs.Anew.{AllBegin, Begins}
 use Rattle.kept_serve.specs.Opened.{AreOpened, AreOpenedFrom, IsOpened, IsOpenedFrom, IsRefusedFrom, room_of}
 use Rattle.kept_serve.specs.Refused.{WasRefused, WereRefused}
 use Rattle.kept_serve.specs.declared.opened_room.OpenedRoom.{OpenedRoom}
@@ -133,11 +133,17 @@ module _ {D : Type 0} (is_told : D → Type 0) (seen : D → List ℕ) (may_leav
   came_at (job ∷ jobs) (room ∷ rooms) all zero x d low = (job, refl, all.0)
   came_at (job ∷ jobs) (room ∷ rooms) all (suc i) x d low = came_at jobs rooms all.2 i x d (omega (arith, low))
 
-  starts_from : (jobs : List (Job D)) (rooms : List (OpenedRoom D)) → AllFrom jobs (map Ok rooms) → map (λ j. j.disk) jobs ≡ starts_of rooms
-  starts_from [] [] all = refl
-  starts_from [] (room ∷ rooms) all = absurd all
-  starts_from (job ∷ jobs) [] all = absurd all
-  starts_from (job ∷ jobs) (room ∷ rooms) all = ap (λ d. d ∷ map (λ j. j.disk) jobs) (sym all.0.1) ∙ ap (λ l. room.start.value ∷ l) (starts_from jobs rooms all.2)
+  abbrev Began : List D → List (OpenedRoom D) → Type 0
+  Began disks rooms = AllBegin is_told seen may_leave moment left_since faults disks rooms
+
+  all_begin : (jobs : List (Job D)) (rooms : List (OpenedRoom D)) → AllFrom jobs (map Ok rooms) → Began (map (λ j. j.disk) jobs) rooms
+  all_begin [] [] all = tt
+  all_begin [] (room ∷ rooms) all = absurd all
+  all_begin (job ∷ jobs) [] all = absurd all
+  all_begin (job ∷ jobs) (room ∷ rooms) all = (
+    subst (λ n. Begins is_told seen may_leave moment left_since faults n job.disk room.start.value) (sym all.0.0.opened.numbered) all.0.1,
+    all_begin jobs rooms all.2,
+  )
 
   rooms_numbered : (jobs : List (Job D)) (rooms : List (OpenedRoom D)) → AllFrom jobs (map Ok rooms) → map room_of rooms ≡ map (λ j. j.room) jobs
   rooms_numbered [] [] all = refl
@@ -159,8 +165,9 @@ module _ {D : Type 0} (is_told : D → Type 0) (seen : D → List ℕ) (may_leav
       each = λ k d low. let at = came_at jobs rooms all_kept k 0 d low in its_own (slice_index_or rooms k d) at.0 at.2;
     }
 
-    pub all_given : (first now next : Option (List D)) → now ≡ option_map (λ before. before ++ map (λ j. j.disk) jobs) first → next ≡ now → next ≡ option_map (λ before. before ++ starts_of rooms) first
-    all_given first now next is same = same ∙ is ∙ ap (λ l. option_map (λ before. before ++ l) first) (starts_from jobs rooms all_kept)
+    pub all_given : (first now next : Option (List D)) → now ≡ option_map (λ before. before ++ map (λ j. j.disk) jobs) first → next ≡ now
+        → (disks : List D) × (next ≡ option_map (λ before. before ++ disks) first) × Began disks rooms
+    all_given first now next is same = (map (λ j. j.disk) jobs, same ∙ is, all_begin jobs rooms all_kept)
 
   -- the job whose file was refused
   refused_at : (jobs : List (Job D)) (before after : List (Result (OpenedRoom D) OpenNo)) (why : OpenNo) → AllFrom jobs (before ++ Err why ∷ after)

@@ -1,7 +1,6 @@
 -- The disks that a shelf gives, and how often it had none.
-use Rattle.std.specs.Prelude.{◌≤◌, ℕ, List, [], ◌∷◌, ◌++◌, map, Option, Some, None, option_map}
+use Rattle.std.specs.Prelude.{◌≤◌, ℕ, List, [], ◌∷◌, ◌++◌, Option, Some, None, option_map}
 use Rattle.board_links.specs.Faults.{HasRisen}
-use Rattle.kept_serve.specs.declared.opened_room.OpenedRoom.{OpenedRoom}
 
 -- one more was given, or none
 abbrev pub with_given : {D : Type 0} → Option D → Option (List D) → Option (List D)
@@ -12,7 +11,3 @@ with_given (Some disk) before = option_map (λ ds. ds ++ disk ∷ []) before
 abbrev pub CountsGiven : {D : Type 0} → Option D → ℕ → ℕ → Type 0
 CountsGiven None old new = (old ≤ new) × HasRisen old new
 CountsGiven (Some disk) old new = old ≤ new
-
--- the disks of rooms before they were opened
-abbrev pub starts_of : {D : Type 0} → List (OpenedRoom D) → List D
-starts_of rooms = map (λ r. r.start.value) rooms

@@ -1,3 +1,4 @@
+pub mod Anew
 pub mod Given
 pub mod Opened
 pub mod Kept

@@ -4,6 +4,7 @@ use Rattle.any_game.specs.AnyRules.{any_rules}
 use Rattle.hosted_room.specs.Calls.{NobodyIn}
 use Rattle.kept_room.specs.Journal.{Calls}
 use Rattle.kept_room.specs.Opened.{IsOpenedRoom}
+use Rattle.kept_serve.specs.Anew.{Begins}
 use Rattle.kept_serve.specs.declared.opened_room.OpenedRoom.{OpenedRoom}
 use Rattle.kept_serve.specs.declared.opening.Job.{Job}
 use Rattle.object_journal.specs.Opening.{IsRefused}
@@ -23,9 +24,9 @@ module _ {D : Type 0} (is_told : D → Type 0) (seen : D → List ℕ) (may_leav
     pub alone : NobodyIn any_rules passes room first
     pub told : is_told r.start.value → IsOpenedRoom is_told seen may_leave moment left_since faults room r.start.value first true r.room
 
-  -- the room of a job was, from its disk
+  -- the room of a job was, from its disk, whose file may have begun anew
   abbrev pub IsOpenedFrom : ℕ → Job D → OpenedRoom D → Type 0
-  IsOpenedFrom passes job r = IsOpened passes job.room r × (r.start.value ≡ job.disk)
+  IsOpenedFrom passes job r = IsOpened passes job.room r × Begins is_told seen may_leave moment left_since faults job.room job.disk r.start.value
 
   -- or its file was refused
   abbrev pub IsRefusedFrom : Job D → OpenNo → Type 0
@@ -42,6 +43,6 @@ module _ {D : Type 0} (is_told : D → Type 0) (seen : D → List ℕ) (may_leav
     pub numbered : map room_of all ≡ numbers 0 rooms
     pub each : All (λ r. IsOpened passes (room_of r) r) all
 
--- by its number, the disk of each of these rooms before it was opened
+-- by its number, the disk that each of these rooms was opened from
 abbrev pub starts_at : {D : Type 0} → List (OpenedRoom D) → ℕ → Option D
 starts_at rooms room = option_map (λ r. r.start.value) (slice_get rooms room)

@@ -5,7 +5,7 @@ use object_journal::Stop;
 use room_disk::Disk;
 use std::snapshot::Snapshot;
 
-/// A room that was opened from its journal, and the disk as it was before.
+/// A room that was opened from its journal, and the disk as it was before it was read.
 #[derive(Drop)]
 pub struct OpenedRoom<D: Disk + Drop> {
     /// The room.

@@ -1,16 +1,23 @@
 //! Opens the rooms of a server from their journals, all at once.
 
-ghost use Rattle.std.specs.Prelude.{◌≡◌, ◌⊎◌, ◌≤◌, ◌++◌, ◌∷◌, [], All, IfErr, IfOk, IfSome, List, map, option_map, vec_len};
+ghost use Rattle.std.specs.Prelude.{◌≡◌, ◌⊎◌, ◌≤◌, ◌+◌, ◌++◌, ◌∷◌, [], All, IfErr, IfOk, IfSome, List, None, length, map, option_map, vec_len};
 ghost use Rattle.object_journal.specs.declared.replaying.OpenNo.TheVariants as open_no;
-ghost use Rattle.kept_serve.specs.Given.{starts_of};
+ghost use Rattle.any_game.specs.AnyRules.{any_rules};
+ghost use Rattle.kept_room.specs.Anew.{IsCleared};
+ghost use Rattle.kept_room.specs.Journal.{Calls, stands_in};
+ghost use Rattle.kept_serve.specs.Anew.{AllBegin, Begins};
+ghost use Rattle.object_journal.specs.Opening.{IsRefused};
+ghost use Rattle.room_history.specs.Room.{serials, standing};
+ghost use Rattle.room_journal.specs.Kept.{may_follow};
 ghost use Rattle.kept_serve.specs.Opened.{AreOpened, AreOpenedFrom, IsOpened, IsOpenedFrom, IsRefusedFrom};
 ghost use Rattle.kept_serve.specs.Refused.{LacksDisk, WereRefused};
 ghost use Rattle.session_pool.specs.Rooms.{numbers};
 
 use crate::opened_room::OpenedRoom;
 use crate::shelf::Shelf;
+use board_links::Put;
 use game_sheet::NoMemory;
-use kept_room::open_hosted;
+use kept_room::{KeptRoom, cleared_bytes, open_hosted};
 use object_journal::OpenNo;
 use room_disk::Disk;
 use std::alloc::Global;
@@ -28,6 +35,9 @@ pub struct Job<D: Disk + Drop> {
 /// Opens the rooms of a server, up to 64 of them, numbered from 0, each from its disk and in a thread of its own, so that no pass below this number
 /// is attached anywhere. The first that can't be opened is its error, which **refused** says of; a shelf that has no disk, and whose count of faults has
 /// risen, counts as a fault of the disk.
+///
+/// A file doesn't grow for ever: where no match stands in a room, and that makes its file at most half as long, the file begins anew with the count of the
+/// matches that the room has made. **given** says so: each room was opened from the disk that the shelf gave, or from that disk once this was done.
 pub fn open_rooms<S: Shelf, R: Threads + Sync>(
     rt: &R,
     alloc: Global,
@@ -39,7 +49,8 @@ where
     S::D: Send,
     requires { rooms ≤ 64 }
     ensures opened { IfOk result (λ r. AreOpened S.D.is_told S.D.seen S.D.may_leave S.D.moment S.D.left_since S.D.faults passes rooms r.items) }
-    ensures given { IfOk result (λ r. S.given shelf.new ≡ option_map (λ before. before ++ starts_of r.items) (S.given shelf.old)) }
+    ensures given { IfOk result (λ r. (disks : List S.D) × (S.given shelf.new ≡ option_map (λ before. before ++ disks) (S.given shelf.old))
+        × AllBegin S.D.is_told S.D.seen S.D.may_leave S.D.moment S.D.left_since S.D.faults disks r.items) }
     ensures never_falls { S.faults shelf.old ≤ S.faults shelf.new }
     ensures refused { IfErr result (λ why. WereRefused S.D.is_told S.D.seen S.D.faults rooms (S.given shelf.old) (S.given shelf.new) (S.faults shelf.old) (S.faults shelf.new) why) }
 {
@@ -91,7 +102,7 @@ fn open_jobs<D: Disk + Drop + Send, R: Threads + Sync>(
     Ok(results)
 }
 
-/// Opens a room from its disk.
+/// Opens a room from its disk. Where no match stands in it, its file begins anew first if that makes it at most half as long.
 fn open_job<D: Disk + Drop>(
     alloc: Global,
     passes: u32,
@@ -102,6 +113,25 @@ fn open_job<D: Disk + Drop>(
     ensures refused { IfErr result (IsRefusedFrom D.is_told D.seen D.may_leave D.moment D.left_since D.faults job) }
 {
     let Job { room, disk } = job;
+    let opened = open_disk(alloc, room, passes, disk)?;
+    match bytes_anew(alloc, room, &opened.room) {
+        Some(bytes) => begin_anew(alloc, room, passes, opened, &bytes),
+        None => Ok(opened),
+    }
+}
+
+/// Opens a room from the file of a disk, as it is.
+fn open_disk<D: Disk + Drop>(
+    alloc: Global,
+    room: u8,
+    passes: u32,
+    disk: D,
+) -> Result<OpenedRoom<D>, OpenNo>
+    requires { room ≤ 63 }
+    ensures opened { IfOk result (IsOpened D.is_told D.seen D.may_leave D.moment D.left_since D.faults passes room) }
+    ensures start { IfOk result (λ r. r.start.value ≡ disk) }
+    ensures refused { IfErr result (λ why. (after : D) × IsRefused (may_follow room) D.is_told D.seen D.faults disk after why) }
+{
     let start = Snapshot::of(&disk);
     match open_hosted(alloc, room, passes, disk) {
         Ok(room) => Ok(OpenedRoom { room, start }),
@@ -109,6 +139,49 @@ fn open_job<D: Disk + Drop>(
             drop(disk);
             drop(start);
             Err(why)
+        }
+    }
+}
+
+/// What the file of a room that was opened may begin anew with: the count of its matches. None where a match stands, where there is no memory for the
+/// bytes, or where they are more than half of those of the file's records.
+fn bytes_anew<D: Disk + Drop>(alloc: Global, room: u8, opened: &KeptRoom<D>) -> Option<Vec<u8>>
+    requires { room ≤ 63 }
+    ensures cleared { (old : Calls) → stands_in opened.now.object old → opened.now.object.room ≡ room
+        → IfSome result (λ bytes. (standing any_rules room old ≡ None) × ((new : Calls) × IsCleared room (serials any_rules room old) bytes.items new)) }
+    ensures half { IfSome result (λ bytes. length bytes.items + length bytes.items ≤ opened.now.file.end) }
+{
+    match opened.object.number() {
+        Some(_) => None,
+        None => cleared_bytes(alloc, room, opened.object.serial(), opened.file.end / 2),
+    }
+}
+
+/// Has the file of a room that was opened begin anew with these bytes, and opens it again.
+fn begin_anew<D: Disk + Drop>(
+    alloc: Global,
+    room: u8,
+    passes: u32,
+    opened: OpenedRoom<D>,
+    bytes: &[u8],
+) -> Result<OpenedRoom<D>, OpenNo>
+    requires room { room ≤ 63 }
+    ensures opened { IsOpened D.is_told D.seen D.may_leave D.moment D.left_since D.faults passes room opened → IfOk result (IsOpened D.is_told D.seen D.may_leave D.moment D.left_since D.faults passes room) }
+    ensures begins { (o : IsOpened D.is_told D.seen D.may_leave D.moment D.left_since D.faults passes room opened) → (standing any_rules room o.first ≡ None)
+        → ((new : Calls) × IsCleared room (serials any_rules room o.first) bytes.now new) → length bytes.now + length bytes.now ≤ opened.room.file.end
+        → IfOk result (λ r. Begins D.is_told D.seen D.may_leave D.moment D.left_since D.faults room opened.start.value r.start.value) }
+    ensures refused { (o : IsOpened D.is_told D.seen D.may_leave D.moment D.left_since D.faults passes room opened)
+        → ((new : Calls) × IsCleared room (serials any_rules room o.first) bytes.now new)
+        → IfErr result (λ why. (after : D) × IsRefused (may_follow room) D.is_told D.seen D.faults opened.start.value after why) }
+{
+    let OpenedRoom { room: kept, start } = opened;
+    drop(start);
+    let (mut disk, _stopped) = kept.close();
+    match disk.replace(bytes) {
+        Put::Done => open_disk(alloc, room, passes, disk),
+        Put::Failed => {
+            drop(disk);
+            Err(OpenNo::DiskFault)
         }
     }
 }
