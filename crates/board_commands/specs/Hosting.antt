@@ -5,7 +5,7 @@ use Rattle.door_serve.specs.Ends.{EndsBy}
 use Rattle.door_serve.specs.declared.serving.ServeEnd.{ServeEnd}
 use Rattle.door_serve.specs.declared.serving.ServeEnd.TheVariants as end
 use Rattle.kept_room.specs.Journal.{Calls}
-use Rattle.kept_serve.specs.Given.{starts_of}
+use Rattle.kept_serve.specs.Anew.{AllBegin}
 use Rattle.kept_serve.specs.Kept.{Leave}
 use Rattle.kept_serve.specs.Opened.{starts_at}
 use Rattle.kept_serve.specs.Refused.{WereRefused}
@@ -49,12 +49,14 @@ exit_after end.NoMemory rooms = NoMemory
 
 -- over disks with these meanings
 module _ {D : Type 0} (is_told : D → Type 0) (seen : D → List ℕ) (may_leave : D → List ℕ → Type 0) (moment : D → ℕ) (left_since : D → ℕ → List ℕ → Type 0) (disk_faults : D → ℕ) where
-  -- the rooms that were asked for were opened from disks that the shelf gave, and served
+  -- the rooms that were asked for were opened from disks that the shelf gave, or from these once their files were begun anew, and served
   pub record HasHosted (asked : ServeWords) (served : List Calls → List Calls → Type 0) (exit : Exit) (closed : List (ClosedRoom D)) (given given_after : Option (List D)) (faults : ℕ) (links : Option ℕ) (shut : Bool)
       (faults_after count sink_faults sink_faults_after : ℕ) : Type 0 where
     pub opened : List (OpenedRoom D)
     pub many : length opened ≡ asked.rooms
-    pub gave : given_after ≡ option_map (λ before. before ++ starts_of opened) given
+    pub disks : List D
+    pub gave : given_after ≡ option_map (λ before. before ++ disks) given
+    pub begin : AllBegin is_told seen may_leave moment left_since disk_faults disks opened
     pub how : ServeEnd
     pub exits : exit ≡ exit_after how closed
     pub ended : EndsBy how asked.sessions faults links shut faults_after count sink_faults sink_faults_after

@@ -7,6 +7,7 @@ ghost use Rattle.command_words.specs.Serve.{serve_from};
 ghost use Rattle.command_words.specs.declared.serve.ServeWords.{ServeWords as Asked};
 
 use crate::counted::CountedDoor;
+use crate::journal_file::open_journal;
 use crate::journals::Journals;
 use crate::outside::SystemOutside;
 use crate::tally::Tally;
@@ -21,15 +22,12 @@ use line_runner::Exit;
 use link_rounds::Ready;
 use page_files::{Pages, read_pages};
 use poll_links::{PollDoor, PollReady, Watched, open};
-use room_disk::FileDisk;
 use std::alloc::Global;
-use std::fs::{File, TryLockError};
+use std::fs::File;
 use std::io::{self, Read};
 use std::mem;
 use std::net::{SocketAddr, TcpListener};
 use std::os::fd::AsRawFd;
-use std::os::unix::fs::OpenOptionsExt;
-use std::path::Path;
 use std::sync::{Arc, Wait};
 use std::thread::Threads;
 use tcp_links::TcpLink;
@@ -78,49 +76,18 @@ pub fn kept_here(rt: &HostRuntime, words: &[String]) -> Exit {
     let Some(path) = kept_path(words) else {
         return Exit::Usage;
     };
+    let Ok(path) = format!(in rt.alloc(); "{path}") else {
+        return Exit::NoMemory;
+    };
     match open_journal(rt, path) {
-        Ok(file) => {
+        Ok(disk) => {
             let mut source = ReaderSource::new(rt.reader());
             let mut sink = WriterSink::new(rt.stdout());
-            let (exit, disk) = kept(
-                rt.alloc(),
-                words,
-                &mut source,
-                &mut sink,
-                FileDisk::new(file),
-            );
+            let (exit, disk) = kept(rt.alloc(), words, &mut source, &mut sink, disk);
             drop(disk);
             exit
         }
         Err(error) => fault(&error, Exit::StoreFault),
-    }
-}
-
-/// Opens the file of a journal for this process alone, and makes it where there is none. Nobody but its owner may read it, since it has the
-/// players' keys.
-pub fn open_journal(rt: &HostRuntime, path: &str) -> io::Result<File> {
-    let mut options = File::options();
-    options.read(true).write(true).create(true).mode(0o600);
-    let file = options.open(rt, path)?;
-    match file.try_lock() {
-        Ok(()) => {}
-        Err(TryLockError::WouldBlock) => return Err(io::Error::from(io::ErrorKind::WouldBlock)),
-        Err(TryLockError::Error(error)) => return Err(error),
-    }
-    sync_folder(rt, path)?;
-    Ok(file)
-}
-
-/// Hands the name of a file to the device, so that a crash doesn't lose a file that was made just now.
-fn sync_folder(rt: &HostRuntime, path: &str) -> io::Result<()> {
-    let folder = match Path::new(path).parent() {
-        Some(folder) => folder,
-        None => return Ok(()),
-    };
-    if folder.as_os_str().is_empty() {
-        File::open(rt, ".")?.sync_all()
-    } else {
-        File::open(rt, folder)?.sync_all()
     }
 }
 

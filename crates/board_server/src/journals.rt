@@ -1,10 +1,12 @@
 //! The journals of a server's rooms, one file a room, in a folder.
 
-use crate::edge::{Addresses, announce, open_journal};
+use crate::edge::{Addresses, announce};
+use crate::journal_file::{JournalPlace, open_journal};
 use game_sheet::{Number, Text};
 use kept_serve::Shelf;
 use object_journal::OpenNo;
 use room_disk::FileDisk;
+use std::io;
 
 /// The journals in a folder, and how many could not be opened. What becomes of each room is said on standard error, and then where the server listens; a
 /// line that can't be written is lost. No clause says which disks it gave.
@@ -37,27 +39,29 @@ impl Journals {
             faults: 0,
         }
     }
+
+    /// The disk of a room.
+    fn open(&self, room: u8) -> io::Result<FileDisk<JournalPlace>> {
+        let Ok(path) = format!(in self.rt.alloc(); "{}/room-{room}.journal", self.folder.as_str())
+        else {
+            return Err(io::Error::from(io::ErrorKind::OutOfMemory));
+        };
+        open_journal(&self.rt, path)
+    }
 }
 
 impl Shelf for Journals {
     ghost use Rattle.std.specs.Prelude.{None};
 
-    type D = FileDisk;
+    type D = FileDisk<JournalPlace>;
 
     ghost given = { λ j. None };
 
     ghost faults = { λ j. j.faults };
 
-    fn disk(&mut self, room: u8) -> Option<FileDisk> {
-        let Ok(path) = format!(in self.rt.alloc(); "{}/room-{room}.journal", self.folder.as_str())
-        else {
-            self.faults = self.faults.saturating_add(1);
-            return None;
-        };
-        let opened = open_journal(&self.rt, path.as_str());
-        drop(path);
-        match opened {
-            Ok(file) => Some(FileDisk::new(file)),
+    fn disk(&mut self, room: u8) -> Option<FileDisk<JournalPlace>> {
+        match self.open(room) {
+            Ok(disk) => Some(disk),
             Err(error) => {
                 let _said = eprintln!(self.rt; "room {room}: {error}");
                 drop(error);

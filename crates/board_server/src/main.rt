@@ -6,6 +6,7 @@
 mod asker;
 mod counted;
 mod edge;
+mod journal_file;
 mod journals;
 mod outside;
 mod tally;

@@ -2,7 +2,7 @@
 
 ghost use Rattle.std.specs.Prelude.{◌≡◌, [], IfOk, Some, None, false, map, string_bytes, vec_len};
 
-use crate::serves::{CREATE, JOIN, LEAVE, NobodyOutside, door, readies, words};
+use crate::serves::{CREATE, JOIN, LEAVE, NobodyOutside, RENAME, door, readies, words};
 use board_commands::serve_kept;
 use board_links::{MemoryDoor, MemoryLink, MemorySink};
 use game_sheet::{List, NoMemory, Number};
@@ -186,5 +186,57 @@ fn a_damaged_journal_is_not_served(rt: HostRuntime) -> Result<(), NoMemory> {
     drop(sink);
     drop(closed);
     drop(shelf_1);
+    Ok(())
+}
+
+/// How a server over a room with these bytes ends that plays nothing, what it prints, and how many bytes the room has then. The calls of these numbers
+/// fail.
+fn started<R: Threads + Wait + Sync>(
+    rt: &R,
+    alloc: Global,
+    bytes: &[u8],
+    failing: &[u64],
+) -> Result<(Exit, MemorySink, usize), NoMemory> {
+    let mut shelf = shelf(alloc, bytes, failing)?;
+    let (exit, closed, sink) = served(rt, alloc, &mut shelf, &[], &[])?;
+    drop(shelf);
+    let count = match closed.as_slice() {
+        [room] => room.disk.bytes().len(),
+        _ => 0,
+    };
+    drop(closed);
+    Ok((exit, sink, count))
+}
+
+/// The records of a match with its create, a join, two renames and a leave have 119, 83, 85, 85 and 71 bytes; those of one that is made and cleared have
+/// 127 and 21. Once the file has these alone, it stays.
+#[test]
+fn a_file_without_a_match_begins_anew(rt: HostRuntime) -> Result<(), NoMemory> {
+    let alloc = rt.alloc();
+    let mut shelf_1 = shelf(alloc, b"", &[])?;
+    let lines = [CREATE, JOIN, RENAME, RENAME, LEAVE];
+    let (exit, closed, sink) = served(&rt, alloc, &mut shelf_1, &lines, &[])?;
+    assert_eq!(rt; exit, Exit::Done);
+    drop(sink);
+    drop(shelf_1);
+    let [room] = closed.as_slice() else {
+        panic!(rt; "the room didn't come back")
+    };
+    assert_eq!(rt; room.disk.bytes().len(), 444);
+    let (exit, sink, count) = started(&rt, alloc, room.disk.bytes(), &[])?;
+    assert_eq!(rt; exit, Exit::Done);
+    assert_eq!(rt;
+        sink.bytes(),
+        b"sessions 2\nroom 0 serial 1 number -\n".as_slice()
+    );
+    assert_eq!(rt; count, 149);
+    drop(sink);
+    // after a sync, a length and a read
+    let (exit, sink, count) = started(&rt, alloc, room.disk.bytes(), &[4])?;
+    assert_eq!(rt; exit, Exit::StoreFault);
+    assert_eq!(rt; sink.bytes(), b"".as_slice());
+    assert_eq!(rt; count, 0);
+    drop(sink);
+    drop(closed);
     Ok(())
 }

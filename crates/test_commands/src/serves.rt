@@ -28,6 +28,10 @@ pub(crate) const JOIN: &[u8] = b"{\"match\":\"0-1\",\"name\":\"ann\",\"seat\":0,
 pub(crate) const LEAVE: &[u8] =
     b"{\"key\":\"da41597c5157488d7724e03fb8d84a37\",\"match\":\"0-1\",\"seat\":0,\"type\":\"leave\"}";
 
+/// The player takes another name.
+pub(crate) const RENAME: &[u8] =
+    b"{\"key\":\"da41597c5157488d7724e03fb8d84a37\",\"match\":\"0-1\",\"name\":\"bob\",\"seat\":0,\"type\":\"rename\"}";
+
 /// A wish for a seat of the match.
 const TAKEOVER: &[u8] = b"{\"match\":\"0-1\",\"seat\":0,\"type\":\"takeover\"}";
 

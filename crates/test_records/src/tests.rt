@@ -1,9 +1,9 @@
-//! A file is made ready, one record is kept, and then two behind one gate.
+//! A file is made ready, one record is kept, and then two behind one gate; and a file is replaced.
 
 use board_links::Put;
 use game_sheet::{List, NoMemory};
 use record_file::{Gate, RecordFile, gate_at, ready};
-use room_disk::MemoryDisk;
+use room_disk::{Disk, MemoryDisk};
 use std::alloc::Global;
 use std::test::Fail;
 
@@ -106,5 +106,15 @@ fn a_failing_call_leaves_all_that_was_answered(rt: HostRuntime) -> Result<(), Fa
         let got = with_failing(rt.alloc(), call)?;
         assert!(rt; got == want, "call {call}");
     }
+    Ok(())
+}
+
+#[test]
+fn a_file_is_replaced_or_stays(rt: HostRuntime) -> Result<(), Fail> {
+    let alloc = rt.alloc();
+    let mut disk = disk(alloc, &ALL, &[1])?;
+    let failed = disk.replace(&ONE) == Put::Failed && disk.bytes() == ALL.as_slice();
+    let done = disk.replace(&ONE) == Put::Done && disk.bytes() == ONE.as_slice();
+    assert!(rt; failed && done);
     Ok(())
 }

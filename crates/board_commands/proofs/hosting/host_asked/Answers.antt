@@ -36,7 +36,9 @@ returns-in-Ok-clause-hosts g c =
     inl (record {
       opened = rooms.items;
       many = counted;
-      gave = c.ready.ensures.given ∙ c.in-Ok.ensures.given;
+      disks = c.in-Ok.ensures.given.0;
+      gave = c.ready.ensures.given ∙ c.in-Ok.ensures.given.1;
+      begin = c.in-Ok.ensures.given.2;
       how = served.result.0;
       exits = c.exit_after-exit.ensures ∙ ap (exit_after served.result.0) c.as_slice.ensures.value;
       ended = served.ensures.ended;

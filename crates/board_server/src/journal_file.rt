@@ -1,0 +1,94 @@
+//! The file of a journal: it is opened for this process alone, and a new one is put in its place.
+
+use room_disk::{Begun, FileDisk, Place};
+use std::fs::{self, File, TryLockError};
+use std::io;
+use std::os::unix::fs::{FileExt, MetadataExt, OpenOptionsExt};
+use std::path::Path;
+
+/// The path at which a journal stands.
+pub struct JournalPlace {
+    rt: HostRuntime,
+    path: String,
+}
+
+impl Drop for JournalPlace {
+    fn drop(self) {
+        let JournalPlace { rt: _, path } = self;
+        drop(path);
+    }
+}
+
+impl Place for JournalPlace {
+    fn begin_anew(&mut self, bytes: &[u8]) -> Begun {
+        let Ok(spare) = format!(in self.rt.alloc(); "{}.new", self.path.as_str()) else {
+            return Begun::Old;
+        };
+        let Ok(file) = write_new(&self.rt, spare.as_str(), bytes) else {
+            return Begun::Old;
+        };
+        if fs::rename(&self.rt, spare.as_str(), self.path.as_str()).is_err()
+            || sync_folder(&self.rt, self.path.as_str()).is_err()
+        {
+            return Begun::Either;
+        }
+        Begun::New(file)
+    }
+}
+
+/// A disk over the file of a journal, which is opened for this process alone, and made where there is none.
+pub fn open_journal(rt: &HostRuntime, path: String) -> io::Result<FileDisk<JournalPlace>> {
+    let file = open_locked(rt, path.as_str());
+    let place = JournalPlace { rt: *rt, path };
+    Ok(FileDisk::new(file?, place))
+}
+
+/// Opens a file for this process alone, and makes it where there is none.
+fn open_locked(rt: &HostRuntime, path: &str) -> io::Result<File> {
+    let file = options().open(rt, path)?;
+    lock(&file)?;
+    // Whoever had the lock before may have put another file in its place.
+    if file.metadata()?.ino() != fs::metadata(rt, path)?.ino() {
+        return Err(io::Error::from(io::ErrorKind::WouldBlock));
+    }
+    sync_folder(rt, path)?;
+    Ok(file)
+}
+
+/// Writes a file of these bytes, all of them on the device, that is open for this process alone.
+fn write_new(rt: &HostRuntime, path: &str, bytes: &[u8]) -> io::Result<File> {
+    let file = options().truncate(true).open(rt, path)?;
+    lock(&file)?;
+    file.write_all_at(bytes, 0)?;
+    file.sync_all()?;
+    Ok(file)
+}
+
+/// How a journal is opened. Nobody but its owner may read it, since it has the players' keys.
+fn options() -> fs::OpenOptions {
+    let mut options = File::options();
+    options.read(true).write(true).create(true).mode(0o600);
+    options
+}
+
+/// Locks a file, unless another process has it open so.
+fn lock(file: &File) -> io::Result<()> {
+    match file.try_lock() {
+        Ok(()) => Ok(()),
+        Err(TryLockError::WouldBlock) => Err(io::Error::from(io::ErrorKind::WouldBlock)),
+        Err(TryLockError::Error(error)) => Err(error),
+    }
+}
+
+/// Hands the names in a file's folder to the device, so that a crash doesn't lose a file that was made or renamed just now.
+fn sync_folder(rt: &HostRuntime, path: &str) -> io::Result<()> {
+    let folder = match Path::new(path).parent() {
+        Some(folder) => folder,
+        None => return Ok(()),
+    };
+    if folder.as_os_str().is_empty() {
+        File::open(rt, ".")?.sync_all()
+    } else {
+        File::open(rt, folder)?.sync_all()
+    }
+}
