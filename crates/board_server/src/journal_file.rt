@@ -1,6 +1,7 @@
 //! The file of a journal: it is opened for this process alone, and a new one is put in its place.
 
-use room_disk::{Begun, FileDisk, Place};
+use board_links::{Piece, Put};
+use room_disk::{Begun, Disk, FileDisk, Place, Size};
 use std::fs::{self, File, TryLockError};
 use std::io;
 use std::os::unix::fs::{FileExt, MetadataExt, OpenOptionsExt};
@@ -36,11 +37,61 @@ impl Place for JournalPlace {
     }
 }
 
+/// A disk over the file of a journal, of which nothing is told.
+#[derive(Drop)]
+pub struct JournalDisk {
+    disk: FileDisk<JournalPlace>,
+}
+
+impl Disk for JournalDisk {
+    ghost use Rattle.std.specs.Prelude.{[]};
+
+    ghost is_told = { λ _. ⊥ };
+
+    ghost seen = { λ _. [] };
+
+    ghost may_leave = { λ _ _. ⊥ };
+
+    ghost moment = { λ _. 0 };
+
+    ghost left_since = { λ _ _ _. ⊥ };
+
+    ghost faults = { λ d. ⟦<FileDisk<JournalPlace> as Disk>⟧.faults d.disk };
+
+    ghost leaves_seen = { λ d told. told };
+
+    ghost counts_now = { λ d t c told le left. left };
+
+    ghost only_now = { λ d c told left. left };
+
+    fn len(&mut self) -> Size {
+        self.disk.len()
+    }
+
+    fn read_at(&mut self, place: u64, buf: &mut [u8]) -> Piece {
+        self.disk.read_at(place, buf)
+    }
+
+    fn write_at(&mut self, place: u64, bytes: &[u8]) -> Put {
+        self.disk.write_at(place, bytes)
+    }
+
+    fn sync(&mut self) -> Put {
+        self.disk.sync()
+    }
+
+    fn replace(&mut self, bytes: &[u8]) -> Put {
+        self.disk.replace(bytes)
+    }
+}
+
 /// A disk over the file of a journal, which is opened for this process alone, and made where there is none.
-pub fn open_journal(rt: &HostRuntime, path: String) -> io::Result<FileDisk<JournalPlace>> {
+pub fn open_journal(rt: &HostRuntime, path: String) -> io::Result<JournalDisk> {
     let file = open_locked(rt, path.as_str());
     let place = JournalPlace { rt: *rt, path };
-    Ok(FileDisk::new(file?, place))
+    Ok(JournalDisk {
+        disk: FileDisk::new(file?, place),
+    })
 }
 
 /// Opens a file for this process alone, and makes it where there is none.

@@ -1,11 +1,10 @@
 //! The journals of a server's rooms, one file a room, in a folder.
 
 use crate::edge::{Addresses, announce};
-use crate::journal_file::{JournalPlace, open_journal};
+use crate::journal_file::{JournalDisk, open_journal};
 use game_sheet::{Number, Text};
 use kept_serve::Shelf;
 use object_journal::OpenNo;
-use room_disk::FileDisk;
 use std::io;
 
 /// The journals in a folder, and how many could not be opened. What becomes of each room is said on standard error, and then where the server listens; a
@@ -41,7 +40,7 @@ impl Journals {
     }
 
     /// The disk of a room.
-    fn open(&self, room: u8) -> io::Result<FileDisk<JournalPlace>> {
+    fn open(&self, room: u8) -> io::Result<JournalDisk> {
         let Ok(path) = format!(in self.rt.alloc(); "{}/room-{room}.journal", self.folder.as_str())
         else {
             return Err(io::Error::from(io::ErrorKind::OutOfMemory));
@@ -53,13 +52,13 @@ impl Journals {
 impl Shelf for Journals {
     ghost use Rattle.std.specs.Prelude.{None};
 
-    type D = FileDisk<JournalPlace>;
+    type D = JournalDisk;
 
     ghost given = { λ j. None };
 
     ghost faults = { λ j. j.faults };
 
-    fn disk(&mut self, room: u8) -> Option<FileDisk<JournalPlace>> {
+    fn disk(&mut self, room: u8) -> Option<JournalDisk> {
         match self.open(room) {
             Ok(disk) => Some(disk),
             Err(error) => {
