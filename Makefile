@@ -30,11 +30,12 @@ bench: program
 	@bench/run.sh crates/board_server/out/board_server
 
 # Plays many actions against a served port, and compares what each player was sent with a script's run; then each game by the example's client;
-# and then kills a server that keeps its rooms, many times, and looks at what is left.
+# and then kills a server that keeps its rooms, many times, also while it begins their files anew, and looks at what is left.
 served: program
 	@bench/served.py same crates/board_server/out/board_server 20000
 	@bench/clients.py crates/board_server/out/board_server
 	@bench/serve_kills.py crates/board_server/out/board_server 20
+	@bench/anew_kills.py crates/board_server/out/board_server 50
 
 # Proves the client that guesses ahead on the page, and makes WebAssembly of it for browsers.
 page: page/page_program.wasm
