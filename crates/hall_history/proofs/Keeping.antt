@@ -40,7 +40,7 @@ use Rattle.hall_history.proofs.Rooming.{one_entry}
 
 -- ---- replies of a room that has changed nothing
 
-abbrev IsIdle : RoomReply → Type 0
+abbrev pub IsIdle : RoomReply → Type 0
 IsIdle reply.NoMemory = Unit {0}
 IsIdle reply.Busy = Unit {0}
 IsIdle (reply.Looked row) = Unit {0}
@@ -60,10 +60,10 @@ busy_idle b (reply.Looked row) e = tt
 busy_idle true other e = cc
 busy_idle false other e = cc
 
-same_all : {X G : Type 0} (r : Room X G) → KeepsAll r r
+pub same_all : {X G : Type 0} (r : Room X G) → KeepsAll r r
 same_all r = record { matches = record { serials = refl; standing = refl; removed = refl }; attachments = λ q. refl }
 
-both_all : {X G : Type 0} (a b c : Room X G) → KeepsAll a b → KeepsAll b c → KeepsAll a c
+pub both_all : {X G : Type 0} (a b c : Room X G) → KeepsAll a b → KeepsAll b c → KeepsAll a c
 both_all a b c h k = record {
   matches = record { serials = k.matches.serials ∙ h.matches.serials; standing = k.matches.standing ∙ h.matches.standing; removed = k.matches.removed ∙ h.matches.removed };
   attachments = λ q. k.attachments q ∙ h.attachments q;
@@ -127,30 +127,30 @@ module _ {X G : Type 0} (rules : X → Rules G) (room : ℕ) where
   idle_keeps r pass (Clear serial) h = cleared_keeps r (named_match r.standing serial) h
 
   -- an entry with such a reply has changed nothing
-  entry_keeps : (h : List (Entry (RoomCall X))) (pass : ℕ) (made : RoomCall X) (b : Bool) → IsIdle (reply rules room h (entry pass made b))
+  pub entry_keeps : (h : List (Entry (RoomCall X))) (pass : ℕ) (made : RoomCall X) (b : Bool) → IsIdle (reply rules room h (entry pass made b))
       → KeepsAll (room_of rules room h) (room_of rules room (entry pass made b ∷ h))
   unfolding reply
   entry_keeps h pass made true idle = want_keeps_all rules room h pass made
   entry_keeps h pass made false idle = idle_keeps (room_of rules room h) pass made idle
 
-  look_keeps : (h : List (Entry (RoomCall X))) (pass : ℕ) (serial : Option ℕ) (b : Bool) → KeepsAll (room_of rules room h) (room_of rules room (entry pass (Look serial) b ∷ h))
+  pub look_keeps : (h : List (Entry (RoomCall X))) (pass : ℕ) (serial : Option ℕ) (b : Bool) → KeepsAll (room_of rules room h) (room_of rules room (entry pass (Look serial) b ∷ h))
   look_keeps h pass serial true = want_keeps_all rules room h pass (Look serial)
   look_keeps h pass serial false = same_all (room_of rules room h)
 
 -- ---- rooms
 
 module _ {X G : Type 0} (rules : X → Rules G) where
-  abbrev KeepsRooms : Rooms X → Rooms X → Type 0
+  abbrev pub KeepsRooms : Rooms X → Rooms X → Type 0
   KeepsRooms a b = (room : ℕ) → KeepsAll (room_of rules room (history_of a room)) (room_of rules room (history_of b room))
 
-  keeps_none : (rooms : Rooms X) → KeepsRooms rooms rooms
+  pub keeps_none : (rooms : Rooms X) → KeepsRooms rooms rooms
   keeps_none rooms = λ room. same_all (room_of rules room (history_of rooms room))
 
-  keeps_both : (a b c : Rooms X) → KeepsRooms a b → KeepsRooms b c → KeepsRooms a c
+  pub keeps_both : (a b c : Rooms X) → KeepsRooms a b → KeepsRooms b c → KeepsRooms a c
   keeps_both a b c h k =
       λ room. both_all (room_of rules room (history_of a room)) (room_of rules room (history_of b room)) (room_of rules room (history_of c room)) (h room) (k room)
 
-  keeps_one : (rooms : Rooms X) (room : ℕ) (e : Entry (RoomCall X)) → KeepsAll (room_of rules room (history_of rooms room)) (room_of rules room (e ∷ history_of rooms room))
+  pub keeps_one : (rooms : Rooms X) (room : ℕ) (e : Entry (RoomCall X)) → KeepsAll (room_of rules room (history_of rooms room)) (room_of rules room (e ∷ history_of rooms room))
       → KeepsRooms rooms (with_entry rooms room e)
   keeps_one rooms room e k = λ r. by r (one_entry rooms room e r)
     where

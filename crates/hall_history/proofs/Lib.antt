@@ -6,6 +6,7 @@ pub mod Filling
 pub mod Giving
 pub mod Handing
 pub mod Keeping
+pub mod Listing
 pub mod Opens
 pub mod Placing
 pub mod Rooming

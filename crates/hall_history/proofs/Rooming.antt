@@ -1,5 +1,5 @@
 -- What an entry makes of rooms.
-use Rattle.std.proofs.Common.{◌≡◌, ◌<◌, ◌⊎◌, inl, inr, ℕ, zero, suc, ◌==◌, true, false, [], ◌∷◌, length, refl, ap, arith}
+use Rattle.std.proofs.Common.{◌≡◌, ◌≤◌, ◌<◌, ◌⊎◌, inl, inr, ℕ, zero, suc, ◌+◌, ◌==◌, true, false, [], ◌∷◌, length, refl, ap, ◌∙◌, arith}
 use Rattle.std.proofs.lemmas.Bool.Decides.{nat_tests}
 use Rattle.room_history.specs.declared.call.RoomCall.{RoomCall}
 use Rattle.room_object.specs.Entry.{Entry}
@@ -13,6 +13,9 @@ is_same m = grind (arith, nat_tests)
 
 pub not_same : (m n : ℕ) → (m == n) ≡ false → m ≡ n → ⊥
 not_same m n e f = grind (arith, nat_tests)
+
+other_number : (m n : ℕ) → m + 1 ≤ n → (m == n) ≡ false
+other_number m n h = grind (arith, nat_tests)
 
 module _ {X : Type 0} where
   pub same_length : (rooms : Rooms X) (room : ℕ) (e : Entry (RoomCall X)) → length (with_entry rooms room e) ≡ length rooms
@@ -46,3 +49,10 @@ module _ {X : Type 0} where
       by : (history_of (with_entry rooms room e) r ≡ history_of rooms r) ⊎ ((room ≡ r) × (history_of (with_entry rooms room e) r ≡ e ∷ history_of rooms r)) → history_of (with_entry rooms room e) r ≡ history_of rooms r
       by (inl p) = p
       by (inr p) = absurd (not_same room r n p.0)
+
+  -- the rooms from one on have the histories that they had
+  abbrev pub Unasked : Rooms X → Rooms X → ℕ → Type 0
+  Unasked old rooms at = (r : ℕ) → at ≤ r → history_of rooms r ≡ history_of old r
+
+  pub still_unasked : (old rooms : Rooms X) (at : ℕ) (e : Entry (RoomCall X)) → Unasked old rooms at → Unasked old (with_entry rooms at e) (at + 1)
+  still_unasked old rooms at e u r l = others_stay rooms at r e (other_number at r l) ∙ u r (omega (arith, l))

@@ -3,6 +3,7 @@ pub mod Counts
 pub mod Creating
 pub mod Freeing
 pub mod Hall
+pub mod Listing
 pub mod Mark
 pub mod Opening
 pub mod Placed

@@ -3,9 +3,10 @@
 ghost use Rattle.std.specs.Prelude.{◌≡◌, ◌<◌, ℕ, false, List, Option, Some, None, [], length, Result, Ok, replicate};
 ghost use Rattle.std.specs.List.{concat};
 ghost use Rattle.game_hall.specs.Core.{Core, moved};
+ghost use Rattle.game_hall.specs.Requests.{created_by, is_busy};
 ghost use Rattle.game_hall.specs.Words.{seed_of};
 ghost use Rattle.game_hall.specs.declared.answer.Answer.{Answer};
-ghost use Rattle.game_hall.specs.declared.answer.Answer.TheVariants.{Again, Refused};
+ghost use Rattle.game_hall.specs.declared.answer.Answer.TheVariants.{Again, Matches, Refused};
 ghost use Rattle.game_hall.specs.declared.next.Next.{Next};
 ghost use Rattle.room_history.specs.Alike.{AreAlike};
 ghost use Rattle.room_history.specs.Others.{KeepsAll};
@@ -21,9 +22,10 @@ ghost use Rattle.wire_json.specs.declared.client.ClientMsg.TheVariants as line_o
 ghost use Rattle.wire_json.specs.declared.refusal.Refusal.TheVariants.{Full};
 ghost use Rattle.wire_json.specs.declared.submission.Submission.{Submission as Asked};
 ghost use Rattle.hall_history.specs.Adding.{Adds, IsAsking, IsPlain};
-ghost use Rattle.hall_history.specs.Creating.{create_answer, create_reply};
+ghost use Rattle.hall_history.specs.Creating.{ChangesOne, create_answer, create_done, create_entry, create_reply};
 ghost use Rattle.hall_history.specs.Freeing.{frees};
 ghost use Rattle.hall_history.specs.Hall.{Hall, after_line, begun, core_of, new_hall, request};
+ghost use Rattle.hall_history.specs.Listing.{list_done, standing_rows};
 ghost use Rattle.hall_history.specs.Mark.{Mark, Served};
 ghost use Rattle.hall_history.specs.Opening.{after_open, own_pass};
 ghost use Rattle.hall_history.specs.Placed.{IsPlaced};
@@ -60,6 +62,34 @@ pub fn creates_are_full_where_rooms_are_busy<X: Game>(game: &X)
     ensures where_busy { (named : List ℕ → Option X) (tape : ℕ → List ℕ) (h : Hall X) (pass : ℕ) (name : List ℕ) (x : X) (seats : ℕ)
         → named name ≡ Some x → ((room : ℕ) → room < length h.rooms → create_reply X.rules tape h pass x seats room ≡ Busy)
         → create_answer named X.rules tape h pass name seats ≡ Some (Refused Full) }
+{
+    let _game = game;
+}
+
+/// A create of a game that there is, with memory, is made in the least room that isn't busy: that room answers it, and no other
+/// changes.
+pub fn creates_go_to_the_least_room_that_isnt_busy<X: Game>(game: &X)
+    ensures answer { (named : List ℕ → Option X) (tape : ℕ → List ℕ) (h : Hall X) (pass : ℕ) (name : List ℕ) (x : X) (seats : ℕ)
+        → named name ≡ Some x → (room : ℕ) → room < length h.rooms
+        → ((lower : ℕ) → lower < room → create_reply X.rules tape h pass x seats lower ≡ Busy)
+        → is_busy (create_reply X.rules tape h pass x seats room) ≡ false
+        → create_answer named X.rules tape h pass name seats ≡ Some (created_by room (create_reply X.rules tape h pass x seats room)) }
+    ensures rooms { (named : List ℕ → Option X) (tape : ℕ → List ℕ) (h : Hall X) (pass : ℕ) (name : List ℕ) (x : X) (seats : ℕ)
+        → named name ≡ Some x → (room : ℕ) → room < length h.rooms
+        → ((lower : ℕ) → lower < room → create_reply X.rules tape h pass x seats lower ≡ Busy)
+        → is_busy (create_reply X.rules tape h pass x seats room) ≡ false
+        → ChangesOne X.rules room (create_entry tape h pass x seats) h.rooms (create_done named X.rules tape h pass name seats).1.rooms }
+{
+    let _game = game;
+}
+
+/// A list of a game that there is, with memory, has the rows of its matches that stand in the rooms at that moment, in the order of
+/// the rooms, and changes no room.
+pub fn lists_have_the_rows_of_the_standing_matches<X: Game>(game: &X)
+    ensures answer { (named : List ℕ → Option X) (tape : ℕ → List ℕ) (h : Hall X) (pass : ℕ) (name : List ℕ) (x : X) → named name ≡ Some x
+        → (list_done named X.rules tape h pass name).0.said ≡ Some (Matches (standing_rows X.rules name h.rooms 0 (length h.rooms))) }
+    ensures rooms { (named : List ℕ → Option X) (tape : ℕ → List ℕ) (h : Hall X) (pass : ℕ) (name : List ℕ) (x : X) → named name ≡ Some x
+        → (room : ℕ) → KeepsAll (room_of X.rules room (history_of h.rooms room)) (room_of X.rules room (history_of (list_done named X.rules tape h pass name).1.rooms room)) }
 {
     let _game = game;
 }
