@@ -6,8 +6,8 @@ use match_master::Book;
 use room_history::{RoomCall, RoomReply};
 use room_object::Object;
 
-/// A room that a server hosts, for matches of X. It may have had calls before it was put behind its desk, as one that was kept has, and it may stop
-/// for good.
+/// A room that a server hosts, for matches of X. It may have had calls before it was put behind its desk, as one that was kept has, and it may stop;
+/// then it serves nobody until the server's next start.
 pub trait HostedRoom<X: Game + Drop>: Object<Call = RoomCall<X>, Reply = RoomReply> {
     ghost use Rattle.std.specs.Prelude.{◌≡◌, ℕ, Bool, List, false, is_some, not};
     ghost use Rattle.hosted_room.specs.Calls.{IsRowOf};
@@ -18,7 +18,7 @@ pub trait HostedRoom<X: Game + Drop>: Object<Call = RoomCall<X>, Reply = RoomRep
     ghost use Rattle.room_history.specs.declared.reply.RoomReply.{RoomReply as Told};
     ghost use Rattle.room_object.specs.Entry.{Entry};
 
-    /// Whether it has stopped for good.
+    /// Whether it has stopped.
     ghost has_stopped: { Self → Bool };
 
     /// How many matches it has had, and the state number of the match that stands; none where it has stopped. It takes no memory.

@@ -41,7 +41,7 @@ pub struct MatchStatus {
 pub struct Counts {
     /// How many links are open now; bots' not among them.
     pub links: u64,
-    /// At how many seats the server's own bots sit.
+    /// How many seats the server's own bots were given.
     pub bots: u64,
     /// How many sessions ended for what came: a line that was too long, a fault of the link, or want of memory.
     pub refused: u64,
