@@ -11,7 +11,7 @@ use Rattle.game_sheet.specs.declared.act.Outcome.TheVariants.{Winner, Draw, Ende
 use Rattle.game_sheet.specs.declared.ctx.Ctx.{Ctx}
 use Rattle.game_sheet.specs.declared.sheet.Sheet.{Sheet}
 use Rattle.game_sheet.specs.SheetNames.{phase_of, stage_of}
-use Rattle.sight_reading.specs.Reading.{◌>>=◌, natural_at, naturals_from, id_or_null}
+use Rattle.sight_reading.specs.Reading.{◌>>=◌, natural_at, of_members, unless_null, naturals_from, id_or_null}
 use Rattle.sight_reading.specs.declared.ctx_read.Counts.{Counts}
 use Rattle.sight_reading.specs.declared.ctx_read.SeatStage.{SeatStage}
 use Rattle.sight_reading.specs.declared.ctx_read.SeatStage.TheVariants.{Absent, Malformed, Active}
@@ -46,13 +46,13 @@ as_many count (Some rows) = if length rows == count then Some rows else None
 
 -- null, or the rows of all seats of an object that names nothing else
 abbrev pub active_from : Sheet → Data → Option (Option Rows)
-active_from sheet d = if is_some (as_null d) then Some None else option_map Some (option_and_then (λ ms. as_many (members_len ms) (rows_among sheet d 0 256)) (as_object d))
+active_from sheet d = unless_null d (option_and_then (λ ms. as_many (members_len ms) (rows_among sheet d 0 256)) (as_object d))
 
 abbrev pub active_in : Sheet → Option Data → Option (Option Rows)
 active_in sheet found = option_and_then (active_from sheet) found
 
 unfoldable pub winner_in : Data → Option ℕ
-winner_in d = if extra_in (codes "winner" ∷ []) d then None else natural_at 255 (get (codes "winner") d)
+winner_in d = of_members (codes "winner" ∷ []) d (natural_at 255 (get (codes "winner") d))
 
 abbrev pub is_true : Option Bool → Bool
 is_true None = false
@@ -82,42 +82,23 @@ abbrev pub phase_in : Sheet → Option Data → Option (Option ℕ)
 phase_in sheet found = option_and_then (id_or_null (phase_of sheet)) found
 
 unfoldable pub counts_in : Data → Option Counts
-counts_in d =
-    natural_at 255 (get (codes "currentPlayer") d) >>= λ current.
-    natural_at 4294967295 (get (codes "numMoves") d) >>= λ moves.
-    natural_at 255 (get (codes "numPlayers") d) >>= λ seats.
-    natural_at 255 (get (codes "playOrderPos") d) >>= λ pos.
-    natural_at 4294967295 (get (codes "turn") d) >>= λ turn.
-    Some (record { current = current; moves = moves; seats = seats; pos = pos; turn = turn })
+counts_in d = natural_at 255 (get (codes "currentPlayer") d) >>= λ current. natural_at 4294967295 (get (codes "numMoves") d) >>= λ moves.
+    natural_at 255 (get (codes "numPlayers") d) >>= λ seats. natural_at 255 (get (codes "playOrderPos") d) >>= λ pos.
+    natural_at 4294967295 (get (codes "turn") d) >>= λ turn. Some (record { current = current; moves = moves; seats = seats; pos = pos; turn = turn })
 
 abbrev pub ctx_names : List (List ℕ)
-ctx_names =
-    codes "activePlayers" ∷ codes "currentPlayer" ∷ codes "gameover" ∷ codes "numMoves" ∷ codes "numPlayers" ∷ codes "phase"
+ctx_names = codes "activePlayers" ∷ codes "currentPlayer" ∷ codes "gameover" ∷ codes "numMoves" ∷ codes "numPlayers" ∷ codes "phase"
     ∷ codes "playOrder" ∷ codes "playOrderPos" ∷ codes "turn" ∷ []
 
 abbrev pub ctx_from : Option Rows → Option Outcome → Option ℕ → List ℕ → Counts → Ctx
-ctx_from active over phase order counts = record {
-  seats = counts.seats;
-  turn = counts.turn;
-  current = counts.current;
-  order = order;
-  pos = counts.pos;
-  phase = phase;
-  active = active;
-  moves = counts.moves;
-  over = over;
-}
+ctx_from active over phase order n =
+    record { seats = n.seats; turn = n.turn; current = n.current; order = order; pos = n.pos; phase = phase; active = active; moves = n.moves; over = over }
 
 -- the context of these parts, with the active players that a value has
 abbrev pub from_order : Sheet → Data → Option Outcome → Option ℕ → Counts → List ℕ → Option Ctx
 from_order sheet d over phase counts order = active_in sheet (get (codes "activePlayers") d) >>= λ active. Some (ctx_from active over phase order counts)
 
 unfoldable pub ctx_in : Sheet → Data → Option Ctx
-ctx_in sheet d =
-    if extra_in ctx_names d then None
-    else
-    (over_in (get (codes "gameover") d) >>= λ over.
-    phase_in sheet (get (codes "phase") d) >>= λ phase.
-    counts_in d >>= λ counts.
-    order_in (get (codes "playOrder") d) >>= λ order.
-    from_order sheet d over phase counts order)
+ctx_in sheet d = of_members ctx_names d
+    (over_in (get (codes "gameover") d) >>= λ over. phase_in sheet (get (codes "phase") d) >>= λ phase. counts_in d >>= λ counts.
+    order_in (get (codes "playOrder") d) >>= λ order. from_order sheet d over phase counts order)

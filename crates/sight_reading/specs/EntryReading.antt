@@ -1,10 +1,9 @@
 -- How the value of an entry is read back: each member in its form and no other, its names on the sheet.
-use Rattle.std.specs.Prelude.{ℕ, List, [], ◌∷◌, true, false, codes, if◌then◌else◌, Option, Some, None, option_map, option_and_then, is_some}
+use Rattle.std.specs.Prelude.{ℕ, List, [], ◌∷◌, true, false, codes, if◌then◌else◌, Option, Some, None, option_map, option_and_then}
 use Rattle.std.specs.Result.{result_ok}
 use Rattle.std.specs.Str.{bytes_eq}
 use Rattle.serde_json.specs.Data.{Data}
-use Rattle.serde_json.specs.Find.{get, as_null, as_array}
-use Rattle.json_tree.specs.Names.{extra_in}
+use Rattle.serde_json.specs.Find.{get, as_array}
 use Rattle.game_sheet.specs.declared.act.Act.{Act}
 use Rattle.game_sheet.specs.declared.act.Act.TheVariants.{Move, Event, Undo, Redo}
 use Rattle.game_sheet.specs.declared.act.Event as event
@@ -20,13 +19,13 @@ use Rattle.game_sheet.specs.declared.args.Arg.{Arg}
 use Rattle.json_tree.specs.Fields.{natural_in}
 use Rattle.sheet_json.specs.Arguments.{arguments_in}
 use Rattle.sheet_json.specs.Seats.{is_null_in, or_null}
-use Rattle.sight_reading.specs.Reading.{◌>>=◌, natural_at, text_at}
+use Rattle.sight_reading.specs.Reading.{◌>>=◌, natural_at, of_members, unless_null, text_at}
 use Rattle.sight_reading.specs.CtxReading.{phase_in}
 use Rattle.sight_reading.specs.declared.entry_read.Deed.{Deed}
 
 -- the arguments, or none where they are hidden
 abbrev pub args_from : Data → Option (Option (List Arg))
-args_from d = if is_some (as_null d) then Some None else option_map Some (option_and_then arguments_in (as_array d))
+args_from d = unless_null d (option_and_then arguments_in (as_array d))
 
 abbrev pub args_in : Option Data → Option (Option (List Arg))
 args_in found = option_and_then args_from found
@@ -39,12 +38,8 @@ abbrev pub shown : Act → Deed
 shown act = record { act = act; hidden = false }
 
 unfoldable pub move_in : Sheet → Data → Option Deed
-move_in sheet d =
-    if extra_in (codes "args" ∷ codes "kind" ∷ codes "move" ∷ []) d then None
-    else
-    (args_in (get (codes "args") d) >>= λ args.
-    option_and_then (move_of sheet) (text_at (get (codes "move") d)) >>= λ id.
-    Some (move_with id args))
+move_in sheet d = of_members (codes "args" ∷ codes "kind" ∷ codes "move" ∷ []) d
+    (args_in (get (codes "args") d) >>= λ args. option_and_then (move_of sheet) (text_at (get (codes "move") d)) >>= λ id. Some (move_with id args))
 
 abbrev pub seat_or_null : Option Data → Option (Option ℕ)
 seat_or_null found = result_ok (or_null (natural_in 255) found)
@@ -66,20 +61,17 @@ abbrev pub event_by : Sheet → List ℕ → Option Data → Option event.Event
 event_by sheet name found = option_and_then (λ k. event_of sheet k found) (kind_from name)
 
 unfoldable pub event_in : Sheet → Data → Option event.Event
-event_in sheet d =
-    if extra_in (codes "event" ∷ codes "kind" ∷ codes "to" ∷ []) d then None
-    else (text_at (get (codes "event") d) >>= λ name. event_by sheet name (get (codes "to") d))
+event_in sheet d = of_members (codes "event" ∷ codes "kind" ∷ codes "to" ∷ []) d
+    (text_at (get (codes "event") d) >>= λ name. event_by sheet name (get (codes "to") d))
 
 abbrev pub alone_in : Act → Data → Option Deed
-alone_in act d = if extra_in (codes "kind" ∷ []) d then None else Some (shown act)
+alone_in act d = of_members (codes "kind" ∷ []) d (Some (shown act))
 
 abbrev pub deed_by : Sheet → List ℕ → Data → Option Deed
-deed_by sheet kind d =
-    if bytes_eq kind (codes "move") then move_in sheet d
+deed_by sheet kind d = if bytes_eq kind (codes "move") then move_in sheet d
     else if bytes_eq kind (codes "event") then option_map (λ e. shown (Event e)) (event_in sheet d)
     else if bytes_eq kind (codes "undo") then alone_in Undo d
-    else if bytes_eq kind (codes "redo") then alone_in Redo d
-    else None
+    else if bytes_eq kind (codes "redo") then alone_in Redo d else None
 
 unfoldable pub deed_in : Sheet → Data → Option Deed
 deed_in sheet d = text_at (get (codes "kind") d) >>= λ kind. deed_by sheet kind d
@@ -88,23 +80,10 @@ abbrev pub entry_names : List (List ℕ)
 entry_names = codes "act" ∷ codes "number" ∷ codes "phase" ∷ codes "seat" ∷ codes "turn" ∷ []
 
 abbrev pub entry_from : Deed → ℕ → Option ℕ → ℕ → ℕ → Entry
-entry_from deed at phase seat turn = record {
-  seat = seat;
-  act = deed.act;
-  hidden = deed.hidden;
-  number = at;
-  turn = turn;
-  phase = phase;
-  words = 0;
-}
+entry_from deed at phase seat turn = record { seat = seat; act = deed.act; hidden = deed.hidden; number = at; turn = turn; phase = phase; words = 0 }
 
 unfoldable pub entry_in : Sheet → Data → Option Entry
-entry_in sheet d =
-    if extra_in entry_names d then None
-    else
-    (natural_at 4294967295 (get (codes "number") d) >>= λ at.
-    phase_in sheet (get (codes "phase") d) >>= λ phase.
-    natural_at 255 (get (codes "seat") d) >>= λ seat.
-    natural_at 4294967295 (get (codes "turn") d) >>= λ turn.
-    option_and_then (deed_in sheet) (get (codes "act") d) >>= λ deed.
-    Some (entry_from deed at phase seat turn))
+entry_in sheet d = of_members entry_names d
+    (natural_at 4294967295 (get (codes "number") d) >>= λ at. phase_in sheet (get (codes "phase") d) >>= λ phase.
+    natural_at 255 (get (codes "seat") d) >>= λ seat. natural_at 4294967295 (get (codes "turn") d) >>= λ turn.
+    option_and_then (deed_in sheet) (get (codes "act") d) >>= λ deed. Some (entry_from deed at phase seat turn))

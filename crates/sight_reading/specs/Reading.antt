@@ -4,6 +4,7 @@ use Rattle.std.specs.Result.{result_ok}
 use Rattle.serde_json.specs.Data.{Data, Items, no_items, item}
 use Rattle.serde_json.specs.Find.{as_null, as_str}
 use Rattle.json_tree.specs.Fields.{text_in, natural_in}
+use Rattle.json_tree.specs.Names.{extra_in}
 
 infixl 10 ◌>>=◌
 abbrev pub ◌>>=◌ : {A B : Type 0} → Option A → (A → Option B) → Option B
@@ -20,6 +21,14 @@ abbrev pub naturals_from : Items → Option (List ℕ)
 naturals_from no_items = Some []
 naturals_from (item d ds) = option_and_then (λ n. option_map (λ ns. n ∷ ns) (naturals_from ds)) (natural_at 255 (Some d))
 
+-- null, or what is read in any other value
+abbrev pub unless_null : {A : Type 0} → Data → Option A → Option (Option A)
+unless_null d read = if is_some (as_null d) then Some None else option_map Some read
+
 -- null, or a name of the sheet
 abbrev pub id_or_null : (List ℕ → Option ℕ) → Data → Option (Option ℕ)
-id_or_null find d = if is_some (as_null d) then Some None else option_map Some (option_and_then find (as_str d))
+id_or_null find d = unless_null d (option_and_then find (as_str d))
+
+-- what was read, where the object has no member but these
+abbrev pub of_members : {A : Type 0} → List (List ℕ) → Data → Option A → Option A
+of_members names d read = if extra_in names d then None else read

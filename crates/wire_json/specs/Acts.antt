@@ -10,7 +10,7 @@ use Rattle.json_tree.specs.Steps.{◌>>=◌}
 use Rattle.json_tree.specs.declared.fields.FieldFault.{FieldFault}
 use Rattle.json_tree.specs.declared.fields.FieldFault.TheVariants.{Missing, WrongKind, OutOfRange}
 use Rattle.game_sheet.specs.declared.act.EventKind.{EventKind}
-use Rattle.game_sheet.specs.declared.act.EventKind.TheVariants.{EndTurn, EndPhase, SetPhase, EndStage, SetStage, EndGame}
+use Rattle.game_sheet.specs.declared.act.EventKind.TheVariants.{EndTurn, SetPhase, SetStage}
 use Rattle.game_sheet.specs.EventNames.{kind_from}
 use Rattle.sheet_json.specs.Arguments.{arguments_in}
 use Rattle.sheet_json.specs.Seats.{is_null_in}
@@ -40,11 +40,9 @@ seat_or_nothing_in found = if is_null_in found then Some Nothing else option_map
 -- what an event of the kind is aimed at
 abbrev pub aim_in : EventKind → Option Data → Option AskedTo
 aim_in EndTurn found = seat_or_nothing_in found
-aim_in EndPhase found = nothing_in found
 aim_in SetPhase found = option_map Name (word_in found)
-aim_in EndStage found = nothing_in found
 aim_in SetStage found = option_map Name (word_in found)
-aim_in EndGame found = nothing_in found
+aim_in other found = nothing_in found
 
 unfoldable pub event_in : Data → Option Asked
 event_in d =
@@ -57,12 +55,10 @@ alone_in act d = if extra_in (codes "kind" ∷ []) d then None else Some act
 
 abbrev pub asked_as : Option (List ℕ) → Data → Option Asked
 asked_as None d = None
-asked_as (Some kind) d =
-    if bytes_eq kind (codes "move") then move_in d
+asked_as (Some kind) d = if bytes_eq kind (codes "move") then move_in d
     else if bytes_eq kind (codes "event") then event_in d
     else if bytes_eq kind (codes "undo") then alone_in Undo d
-    else if bytes_eq kind (codes "redo") then alone_in Redo d
-    else None
+    else if bytes_eq kind (codes "redo") then alone_in Redo d else None
 
 unfoldable pub asked_in : Data → Option Asked
 asked_in d = asked_as (result_ok (text_in (get (codes "kind") d))) d

@@ -1,6 +1,6 @@
 -- How what a change says of the context and of the state is read: objects, and a list of the names that are gone.
 use Rattle.std.specs.Prelude.{◌+◌, ◌==◌, ◌&&◌, ℕ, [], ◌∷◌, Bool, true, false, nat_le, if◌then◌else◌, is_some, codes, Option, Some, None, option_map, option_and_then, Result, Ok, Err}
-use Rattle.serde_json.specs.Data.{Data, null, boolean, number, string, array, object, Items, no_items, item}
+use Rattle.serde_json.specs.Data.{Data, array, Items, no_items, item}
 use Rattle.serde_json.specs.Find.{get, as_str}
 use Rattle.json_tree.specs.Fields.{natural_in}
 use Rattle.json_tree.specs.Names.{extra_in}
@@ -14,12 +14,8 @@ are_texts no_items = true
 are_texts (item d ds) = is_some (as_str d) && are_texts ds
 
 abbrev pub is_texts : Data → Bool
-is_texts null = false
-is_texts (boolean b) = false
-is_texts (number n) = false
-is_texts (string s) = false
 is_texts (array ds) = are_texts ds
-is_texts (object ms) = false
+is_texts other = false
 
 -- the value, where the test holds
 abbrev pub if_holds : (Data → Bool) → Option Data → Option Data

@@ -1,5 +1,9 @@
 -- Why a line is no message, the first fault in order: the line itself, its type, a further member, and then the members in byte order of their names.
-use Rattle.std.specs.Prelude.{◌≡◌, ℕ, List, Result, Ok, Err}
+use Rattle.std.specs.Prelude.{◌≡◌, ℕ, List, [], ◌∷◌, if◌then◌else◌, Option, Result, Ok, Err}
+use Rattle.std.specs.Str.{bytes_eq}
+use Rattle.serde_json.specs.Data.{Data}
+use Rattle.serde_json.specs.Find.{get}
+use Rattle.json_tree.specs.Names.{extra_in}
 use Rattle.json_tree.specs.declared.lines.LineFault.{LineFault}
 use Rattle.json_tree.specs.declared.fields.FieldFault.{FieldFault}
 use Rattle.wire_json.specs.declared.wire_no.WireNo.{WireNo}
@@ -31,3 +35,16 @@ at_field name (Err fault) = Err (Field name fault)
 abbrev pub of_line : {A : Type 0} → Result A LineFault → Result A Refusal
 of_line (Ok x) = Ok x
 of_line (Err fault) = Err (Line fault)
+
+-- what the form reads in the member of this name; its fault is the member's
+abbrev pub read_at : {A : Type 0} → List ℕ → (Option Data → Result A FieldFault) → Data → Result A Refusal
+read_at name form d = at_field name (form (get name d))
+
+-- what was read, where the object has no member but these
+abbrev pub of_members : {A : Type 0} → List (List ℕ) → Data → Result A Refusal → Result A Refusal
+of_members names d read = if extra_in names d then Err ExtraField else read
+
+-- the row of a table that has this type reads the object; where none has, the answer is the other
+abbrev pub by_type : {A : Type 0} → List ℕ → Data → Result A Refusal → List (List ℕ × (Data → Result A Refusal)) → Result A Refusal
+by_type kind d other [] = other
+by_type kind d other (row ∷ rows) = if bytes_eq kind row.0 then row.1 d else by_type kind d other rows

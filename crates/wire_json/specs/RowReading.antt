@@ -19,12 +19,8 @@ boolean_in None = Err Missing
 boolean_in (Some d) = ok_or (as_bool d) WrongKind
 
 unfoldable pub player_in : Data → Result Player FieldFault
-player_in d =
-    if extra_in (codes "name" ∷ codes "seat" ∷ []) d then Err OutOfRange
-    else
-    (or_null (text_within 0 255) (get (codes "name") d) >>= λ name.
-    natural_in 255 (get (codes "seat") d) >>= λ seat.
-    Ok (seat, name))
+player_in d = if extra_in (codes "name" ∷ codes "seat" ∷ []) d then Err OutOfRange
+    else (or_null (text_within 0 255) (get (codes "name") d) >>= λ name. natural_in 255 (get (codes "seat") d) >>= λ seat. Ok (seat, name))
 
 abbrev pub players_from : Items → Option (List Player)
 players_from no_items = Some []
@@ -34,14 +30,9 @@ abbrev pub players_in : Option Data → Option (List Player)
 players_in found = option_and_then players_from (result_ok (list_in found))
 
 unfoldable pub row_from : Data → Result MatchRow FieldFault
-row_from d =
-    if extra_in (codes "game" ∷ codes "match" ∷ codes "over" ∷ codes "players" ∷ []) d then Err OutOfRange
-    else
-    (text_within 1 32 (get (codes "game") d) >>= λ game.
-    match_in (get (codes "match") d) >>= λ name.
-    boolean_in (get (codes "over") d) >>= λ over.
-    in_form (players_in (get (codes "players") d)) >>= λ players.
-    Ok (record { game = game; name = name; over = over; players = players }))
+row_from d = if extra_in (codes "game" ∷ codes "match" ∷ codes "over" ∷ codes "players" ∷ []) d then Err OutOfRange
+    else (text_within 1 32 (get (codes "game") d) >>= λ game. match_in (get (codes "match") d) >>= λ name. boolean_in (get (codes "over") d) >>= λ over.
+    in_form (players_in (get (codes "players") d)) >>= λ players. Ok (record { game = game; name = name; over = over; players = players }))
 
 abbrev pub rows_from : Items → Option (List MatchRow)
 rows_from no_items = Some []
