@@ -57,7 +57,8 @@ play: program page
 	@crates/board_server/out/board_server serve --listen $(LISTEN) --ws --page page --links $(PLAY_LINKS) \
 		--bots $(BOTS) --seats $(SEATS) --pace $(PACE)
 
-# The same at once, for an hour, by a program that is built without a proof; the page then guesses nothing ahead.
+# The same at once, for an hour, by a program that is built without a proof; without page_program.wasm the
+# page guesses nothing ahead.
 try:
 	@echo "Building without proofs, which takes some minutes."
 	@port=$$(printf '%04X' $(lastword $(subst :, ,$(LISTEN)))); \

@@ -3,7 +3,8 @@
 
   load.py latency PROGRAM SESSIONS SECONDS [-- WORDS]  Rooms of up to 32 sessions, a player and spectators. In each room the player boasts
                                                        every 400 ms. Prints how long it took until the others had the update.
-  load.py speed PROGRAM SESSIONS ACTS [-- WORDS]       So many players make so many actions each, two to four in a match, every one as soon
+  load.py speed PROGRAM SESSIONS ACTS [-- WORDS]       So many players make so many actions each, two to four in a match, or up to eight for
+                                                       more than 256 players, of whom there are at most 512; every one as soon
                                                        as the verdict on the last one came. Prints how many actions a second were answered.
   load.py rest PROGRAM SESSIONS SECONDS [-- WORDS]     So many sessions that look on and say nothing. Prints the processor time that the
                                                        server took meanwhile, and its memory a session.
