@@ -183,13 +183,13 @@ module _ {X G : Type 0} (named : List ℕ → Option X) (rules : X → Rules G) 
           let after : Rooms X = with_entry rooms at made in
           let busy : reply_in rules rooms at made ≡ told_as.Busy = same_reply rooms at u ∙ lower at (omega arith) (omega (arith, e)) in
           let rest : IsMade after (ran k (at + 1) after) =
-            least_made d k (at + 1) after (omega (arith, e)) (l ∙ omega arith) there (same_length rooms at made ∙ n) (still_unasked old rooms at made u)
-            (λ r low high. lower r (omega (arith, low)) high) in
+          least_made d k (at + 1) after (omega (arith, e)) (l ∙ omega arith) there (same_length rooms at made ∙ n) (still_unasked old rooms at made u)
+          (λ r low high. lower r (omega (arith, low)) high) in
           subst (λ m. IsMade rooms m) (sym (asks_one k at c rooms l ∙ ap (λ b. ran_on k at rooms b) (ap is_busy busy))) (
             rest.0,
             rest.1,
             λ r f. both_all (room_of rules r (history_of rooms r)) (room_of rules r (history_of after r)) (room_of rules r (history_of (ran k (at + 1) after).1.rooms r))
-            (passed_over rooms at busy r) (rest.2 r f),
+                (passed_over rooms at busy r) (rest.2 r f),
           )
 
 module _ {X G : Type 0} (named : List ℕ → Option X) (rules : X → Rules G) (tape : ℕ → List ℕ) where
@@ -228,10 +228,10 @@ module _ {X G : Type 0} (named : List ℕ → Option X) (rules : X → Rules G) 
     made_there : IsMade named rules pass game x found seats (seed_of h.seed (tape h.place)) h.rooms (core_of h pass) room free h.rooms (create_done named rules tape h pass game seats)
     made_there =
         subst (λ n. IsMade named rules pass game x found seats (seed_of h.seed (tape h.place)) h.rooms (core_of h pass) room free h.rooms
-          (run named (ask_rooms rules pass) n (moved (core_of h pass) (tries named (length h.rooms) game seats (seed_of h.seed (tape h.place)) 0)) (record { rooms = h.rooms; luck = None })))
+        (run named (ask_rooms rules pass) n (moved (core_of h pass) (tries named (length h.rooms) game seats (seed_of h.seed (tape h.place)) 0)) (record { rooms = h.rooms; luck = None })))
         (sym one_more)
         (least_made named rules pass game x found seats (seed_of h.seed (tape h.place)) h.rooms (core_of h pass) room free room (length h.rooms) 0 h.rooms
-          (omega arith) (omega arith) there refl (λ r l. refl) (λ r low high. lower r high))
+        (omega arith) (omega arith) there refl (λ r l. refl) (λ r low high. lower r high))
       where
         one_more : length h.rooms + 1 ≡ suc (length h.rooms)
         one_more = omega arith

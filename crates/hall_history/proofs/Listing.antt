@@ -75,7 +75,7 @@ module _ {X G : Type 0} (named : List ℕ → Option X) (rules : X → Rules G) 
   looks_on k at c rows rooms l =
       ap (λ b. ran (suc (suc k)) c (if b then Calls at (Look None) (Listing game rows at) else Says (answer.Matches rows)) rooms) (below at c.rooms k l)
       ∙ ap (λ d. run named (ask_rooms rules pass) (suc k) d (with_rooms (with_entry rooms at look)))
-        (moved_over c at (Look None) (Listing game rows at) (next named c.rooms (Listing game rows at) (reply_in rules rooms at look)))
+      (moved_over c at (Look None) (Listing game rows at) (next named c.rooms (Listing game rows at) (reply_in rules rooms at look)))
       ∙ ap (λ told. ran (suc k) c (after_listing c.rooms game rows at told) (with_entry rooms at look)) (look_told rules at (history_of rooms at) pass)
       ∙ ap (λ x. ran (suc k) c x (with_entry rooms at look)) (goes_on_with rules game c.rooms rows at (room_of rules at (history_of rooms at)).standing)
 
