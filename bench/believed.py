@@ -21,10 +21,10 @@ def without_comment(line):
 
 
 class Module:
-    """A file of specs: its definitions, each with its lines, and what its `use` lines bring."""
+    """A file of specs: its definitions, each with its lines, the constructors of its types, and what its `use` lines bring."""
 
     def __init__(self, path):
-        self.lines, self.inner, self.brought, self.aliases = {}, {}, {}, {}
+        self.lines, self.makers, self.brought, self.aliases = {}, {}, {}, {}
         scopes, name, kind = [], None, None
         for line in map(without_comment, path.read_text().split("\n")):
             text, depth = line.strip(), len(line) - len(line.lstrip())
@@ -45,10 +45,10 @@ class Module:
                     self.lines[name] = [scope for _, scope in scopes], []
                 elif first and first.group() in self.lines:
                     name = first.group()
-            elif kind and name:
+            elif kind == "data" and name:
                 member = re.match(r"(?:pub )?(\S+)\s*:", text)
                 if member:
-                    self.inner[member.group(1)] = name
+                    self.makers[member.group(1)] = name
             if name:
                 self.lines[name][1].append(text)
 
@@ -94,8 +94,8 @@ def main():
         here = modules[module]
         if name in here.lines:
             return module, name
-        if name in here.inner:
-            return module, here.inner[name]
+        if name in here.makers:
+            return module, here.makers[name]
         return found(*here.brought[name], depth + 1) if name in here.brought and depth < 8 else None
 
     def cited(module, name):
