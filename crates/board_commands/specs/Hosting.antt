@@ -62,7 +62,7 @@ module _ {D : Type 0} (is_told : D → Type 0) (seen : D → List ℕ) (may_leav
     pub ended : EndsBy how asked.sessions faults links shut faults_after count sink_faults sink_faults_after
     pub leaves : Leave is_told seen may_leave moment left_since disk_faults (starts_at opened) (length opened) served how closed
 
-  -- or one of them wasn't opened, for a reason that is the end's, and no link was taken and nothing printed
+  -- or one of them wasn't opened, for a reason that is the end's; no link was taken, and no fault of the listener or of the sink was counted
   abbrev pub Hosts : ServeWords → (List Calls → List Calls → Type 0) → Exit → List (ClosedRoom D) → Option (List D) → Option (List D) → ℕ → ℕ → ℕ → Option ℕ → Bool → ℕ → ℕ → ℕ → ℕ → Type 0
   Hosts asked served exit closed given given_after shelf_faults shelf_faults_after faults links shut faults_after count sink_faults sink_faults_after =
       HasHosted asked served exit closed given given_after faults links shut faults_after count sink_faults sink_faults_after

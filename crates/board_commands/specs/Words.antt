@@ -15,8 +15,7 @@ command_by word =
 -- a workload of two numbers: of any seed, and of 1 to 1,000,000 steps
 abbrev pub workload_of : Option ℕ → Option ℕ → Option Command
 workload_of (Some seed) (Some steps) = if nat_le 1 steps && nat_le steps 1000000 then Some (Workload seed steps) else None
-workload_of (Some seed) None = None
-workload_of None steps = None
+workload_of seed steps = None
 
 -- what three words ask for; the numbers are below 2^64, in decimal without a sign or a leading zero
 abbrev pub workload_by : List ℕ → List ℕ → List ℕ → Option Command
@@ -24,8 +23,6 @@ workload_by word seed steps = if bytes_eq word (codes "workload") then workload_
 
 -- what words ask for; none where they are in no form
 abbrev pub command_of : {A : Type 0} → List (String A) → Option Command
-command_of [] = None
 command_of (word ∷ []) = command_by (string_bytes word)
-command_of (word ∷ other ∷ []) = None
 command_of (word ∷ seed ∷ steps ∷ []) = workload_by (string_bytes word) (string_bytes seed) (string_bytes steps)
-command_of (word ∷ other ∷ another ∷ more ∷ words) = None
+command_of other = None

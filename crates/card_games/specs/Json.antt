@@ -10,9 +10,8 @@ use Rattle.serde_json.specs.View.{items_of}
 
 -- a function and what it is given, where both are there
 abbrev pub apply : {A B : Type 0} → Option (A → B) → Option A → Option B
-apply None x = None
-apply (Some f) None = None
 apply (Some f) (Some x) = Some (f x)
+apply f x = None
 
 -- what passes a test
 abbrev pub passing : {A : Type 0} → (A → Bool) → Option A → Option A

@@ -42,9 +42,8 @@ item_of (Some entry) = entry.item
 
 -- a seat may seal once, and only where its entry is there
 abbrev pub may_seal : {A : Type 0} → Option (Option (Sealed A)) → Bool
-may_seal None = false
-may_seal (Some None) = false
 may_seal (Some (Some entry)) = is_none entry.item
+may_seal found = false
 
 -- the state in which a seat has sealed an item
 abbrev pub with_item : {C A : Type 0} → Sealing C A → ℕ → A → Sealing C A

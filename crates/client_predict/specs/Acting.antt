@@ -28,9 +28,8 @@ act_no gone (Some p) = act_no_on gone (length p.waiting)
 
 -- the key of the line: the client's own, where it has one and the last sync gave a seat
 abbrev pub line_key : Option (List ℕ) → Option ℕ → List ℕ
-line_key None seat = replicate 16 0
-line_key (Some key) None = replicate 16 0
 line_key (Some key) (Some seat) = key
+line_key key seat = replicate 16 0
 
 abbrev pub next_ticket : ℕ → ℕ
 next_ticket ticket = if ticket == 4294967295 then 1 else ticket + 1

@@ -3,7 +3,7 @@
 use Rattle.std.specs.Prelude.{ℕ, ◌+◌, ◌==◌, [], Bool, false, not, ◌&&◌, is_none, slice_get, if◌then◌else◌, Option, Some, None, option_map}
 use Rattle.std.specs.List.{list_any}
 use Rattle.game_sheet.specs.declared.act.Act.{Act}
-use Rattle.game_sheet.specs.declared.act.Act.TheVariants.{Move, Event, Undo, Redo}
+use Rattle.game_sheet.specs.declared.act.Act.TheVariants.{Move}
 use Rattle.game_sheet.specs.declared.sheet.MoveRow.{MoveRow}
 use Rattle.game_sheet.specs.declared.sheet.Sheet.{Sheet}
 use Rattle.game_trait.specs.Deed.{Barred, Deed, Done, GaveUp}
@@ -35,12 +35,9 @@ made (Done g words events) = Some g
 made (GaveUp why) = None
 
 abbrev pub guessed_act : {G : Type 0} → Rules G → Snapshot G → ℕ → Option Act → Option G
-guessed_act rules s seat None = None
 guessed_act rules s seat (Some (Move id args)) =
     if may_guess rules.sheet s seat id then made (rules.play s.g s.ctx seat id args []) else None
-guessed_act rules s seat (Some (Event event)) = None
-guessed_act rules s seat (Some Undo) = None
-guessed_act rules s seat (Some Redo) = None
+guessed_act rules s seat other = None
 
 -- the state that a viewer's action is guessed to lead to, if it is guessed; a spectator's is not
 abbrev pub guessed : {G : Type 0} → Rules G → Snapshot G → Option ℕ → Asked → Option G

@@ -2,7 +2,7 @@
 -- is the one reached or its move is taken on any number. Another action changes nothing.
 use Rattle.std.specs.Prelude.{ℕ, ◌==◌, List, Bool, false, ◌||◌, fold, slice_get, if◌then◌else◌, Option, Some, None}
 use Rattle.game_sheet.specs.declared.act.Act.{Act}
-use Rattle.game_sheet.specs.declared.act.Act.TheVariants.{Move, Event, Undo, Redo}
+use Rattle.game_sheet.specs.declared.act.Act.TheVariants.{Move}
 use Rattle.game_sheet.specs.declared.sheet.MoveRow.{MoveRow}
 use Rattle.game_sheet.specs.declared.sheet.Sheet.{Sheet}
 use Rattle.game_trait.specs.Rules.{Rules}
@@ -17,11 +17,8 @@ ignores_stale (Some row) = row.ignore_stale
 
 -- whether the action is taken on any state number
 abbrev pub on_any_number : Sheet → Option Act → Bool
-on_any_number sheet None = false
 on_any_number sheet (Some (Move id args)) = ignores_stale (slice_get sheet.moves id)
-on_any_number sheet (Some (Event event)) = false
-on_any_number sheet (Some Undo) = false
-on_any_number sheet (Some Redo) = false
+on_any_number sheet other = false
 
 abbrev pub counts_on : {G : Type 0} → Sheet → Snapshot G → Waiting → Bool
 counts_on sheet s w = (w.number == s.number) || on_any_number sheet (act_of sheet w.asked)

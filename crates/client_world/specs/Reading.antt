@@ -14,9 +14,9 @@ use Rattle.wire_json.specs.Acts.{asked_in}
 use Rattle.wire_json.specs.KeyText.{lower_hex}
 use Rattle.wire_json.specs.MatchText.{match_from, number_from}
 use Rattle.wire_json.specs.declared.asked.Asked.{Asked}
-use Rattle.wire_json.specs.declared.asked.Asked.TheVariants.{Move, Event, Undo, Redo}
+use Rattle.wire_json.specs.declared.asked.Asked.TheVariants.{Move, Event}
 use Rattle.wire_json.specs.declared.asked.AskedTo.{AskedTo}
-use Rattle.wire_json.specs.declared.asked.AskedTo.TheVariants.{Nothing as Nowhere, Seat, Name as Named}
+use Rattle.wire_json.specs.declared.asked.AskedTo.TheVariants.{Name as Named}
 use Rattle.wire_json.specs.declared.protocol.Protocol.{Protocol}
 use Rattle.wire_json.specs.declared.protocol.Protocol.TheVariants.{One, Two}
 use Rattle.world_history.specs.World.{Step, Nothing, Seeds, Opens, Attaches, Acts, Arrives, Takes, Reads, Drops, Leaves, Shows}
@@ -89,16 +89,14 @@ attaching rest = option_and_then attaching_by (cut rest)
 -- ---- an act: a client, and the act as the member of a client's line has it
 
 abbrev pub aim_is_utf8 : AskedTo → Bool
-aim_is_utf8 Nowhere = true
-aim_is_utf8 (Seat seat) = true
 aim_is_utf8 (Named name) = is_utf8 name
+aim_is_utf8 to = true
 
 -- the names in an act are UTF-8, as every text of JSON is
 abbrev pub asked_is_utf8 : Asked → Bool
 asked_is_utf8 (Move name args) = is_utf8 name
 asked_is_utf8 (Event kind to) = aim_is_utf8 to
-asked_is_utf8 Undo = true
-asked_is_utf8 Redo = true
+asked_is_utf8 asked = true
 
 abbrev pub in_utf8 : Asked → Option Asked
 in_utf8 asked = if asked_is_utf8 asked then Some asked else None

@@ -1,6 +1,6 @@
 -- What a member holds in the form that was asked for, or which fault it has.
 use Rattle.std.specs.Prelude.{ℕ, List, ℤ, ◌&&◌, if◌then◌else◌, nat_le, int_le, Option, Some, None, Result, Ok, Err}
-use Rattle.serde_json.specs.Data.{Num, unsigned, negative, float, Data, null, boolean, number, string, array, object, Items}
+use Rattle.serde_json.specs.Data.{Num, unsigned, negative, float, Data, number, string, array, Items}
 use Rattle.serde_json.specs.Find.{as_i64, as_u64}
 use Rattle.json_tree.specs.Steps.{◌>>=◌}
 use Rattle.json_tree.specs.declared.fields.FieldFault.{FieldFault}
@@ -8,21 +8,13 @@ use Rattle.json_tree.specs.declared.fields.FieldFault.TheVariants.{Missing, Wron
 
 abbrev pub text_in : Option Data → Result (List ℕ) FieldFault
 text_in None = Err Missing
-text_in (Some null) = Err WrongKind
-text_in (Some (boolean b)) = Err WrongKind
-text_in (Some (number n)) = Err WrongKind
 text_in (Some (string s)) = Ok s
-text_in (Some (array ds)) = Err WrongKind
-text_in (Some (object ms)) = Err WrongKind
+text_in (Some other) = Err WrongKind
 
 abbrev pub list_in : Option Data → Result Items FieldFault
 list_in None = Err Missing
-list_in (Some null) = Err WrongKind
-list_in (Some (boolean b)) = Err WrongKind
-list_in (Some (number n)) = Err WrongKind
-list_in (Some (string s)) = Err WrongKind
 list_in (Some (array ds)) = Ok ds
-list_in (Some (object ms)) = Err WrongKind
+list_in (Some other) = Err WrongKind
 
 -- a float is no whole number
 abbrev pub whole_number : Num → Result Num FieldFault
@@ -32,12 +24,8 @@ whole_number (float x) = Err WrongKind
 
 abbrev pub number_in : Option Data → Result Num FieldFault
 number_in None = Err Missing
-number_in (Some null) = Err WrongKind
-number_in (Some (boolean b)) = Err WrongKind
 number_in (Some (number n)) = whole_number n
-number_in (Some (string s)) = Err WrongKind
-number_in (Some (array ds)) = Err WrongKind
-number_in (Some (object ms)) = Err WrongKind
+number_in (Some other) = Err WrongKind
 
 abbrev pub whole_between : ℤ → ℤ → Option ℤ → Result ℤ FieldFault
 whole_between lo hi None = Err OutOfRange

@@ -1,7 +1,7 @@
 -- When a line holds an object of the wire, and else which fault comes first.
 use Rattle.std.specs.Prelude.{◌≡◌, ◌≤◌, ℕ, List, [], ◌∷◌, length, false, nat_lt, if◌then◌else◌, Option, Some, None, Result, Ok, Err, IsUtf8}
 use Rattle.std.specs.Str.{is_utf8}
-use Rattle.serde_json.specs.Data.{Data, null, boolean, number, string, array, object, Members}
+use Rattle.serde_json.specs.Data.{Data, object, Members}
 use Rattle.serde_json.specs.Read.{read}
 use Rattle.serde_json.specs.View.{view}
 use Rattle.serde_json.specs.Written.{members_have_float}
@@ -31,12 +31,8 @@ abbrev pub IsLine : ℕ → List ℕ → Data → Type 0
 IsLine bound line d = (ms : Members) × (d ≡ object ms) × IsLineOf bound line ms
 
 abbrev pub object_in : Data → Result Members LineFault
-object_in null = Err NotObject
-object_in (boolean b) = Err NotObject
-object_in (number n) = Err NotObject
-object_in (string s) = Err NotObject
-object_in (array ds) = Err NotObject
 object_in (object ms) = if members_have_float ms then Err Float else Ok ms
+object_in other = Err NotObject
 
 abbrev pub object_read : Option Data → Result Members LineFault
 object_read None = Err NotJson

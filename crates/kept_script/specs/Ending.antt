@@ -44,7 +44,7 @@ as_run LongJournal = NoMemory
 as_run StoreFault = NoMemory
 as_run exit = exit
 
--- a count of the source or of the sink rises only at a fault of the lines' run; where the file wasn't opened nothing was read or printed
+-- a count of the source or of the sink rises only at a fault of the lines' run, and not where the file wasn't opened
 abbrev pub KeptRaises : Exit → ℕ → ℕ → ℕ → ℕ → Type 0
 KeptRaises (BadRecord place) source_old source_new sink_old sink_new = (source_new ≡ source_old) × (sink_new ≡ sink_old)
 KeptRaises exit source_old source_new sink_old sink_new = ExitRaises (as_run exit) source_old source_new sink_old sink_new
@@ -54,7 +54,7 @@ abbrev pub IsKeptComplete : Exit → Type 0
 IsKeptComplete (BadRecord place) = Unit {0}
 IsKeptComplete exit = IsComplete (as_run exit)
 
--- the file wasn't opened, and nothing was read or printed; or there was no memory to begin
+-- the file wasn't opened, or there was no memory to begin
 pub record IsUnopened {D : Type 0} (is_told : D → Type 0) (seen : D → List ℕ) (faults : D → ℕ) (start disk : D) (exit : Exit) : Type 0 where
   pub no : OpenNo
   pub is : exit ≡ exit_of no

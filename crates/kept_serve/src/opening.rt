@@ -36,8 +36,8 @@ pub struct Job<D: Disk + Drop> {
 /// is attached anywhere. The first that can't be opened is its error, which **refused** says of; a shelf that has no disk, and whose count of faults has
 /// risen, counts as a fault of the disk.
 ///
-/// A file doesn't grow for ever: where no match stands in a room, and that makes its file at most half as long, the file begins anew with the count of the
-/// matches that the room has made. **given** says so: each room was opened from the disk that the shelf gave, or from that disk once this was done.
+/// Where no match stands in a room, and that makes its file at most half as long, the file begins anew with the count of the matches that the room has
+/// made. **given** says so: each room was opened from the disk that the shelf gave, or from that disk once this was done.
 pub fn open_rooms<S: Shelf, R: Threads + Sync>(
     rt: &R,
     alloc: Global,

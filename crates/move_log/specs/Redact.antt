@@ -2,16 +2,14 @@
 -- no arguments. A viewer is a seat, or a spectator where there is none.
 use Rattle.std.specs.Prelude.{ℕ, Bool, false, not, ◌&&◌, ◌||◌, ◌==◌, [], Option, Some, None, option_map, unwrap_or, slice_get, if◌then◌else◌}
 use Rattle.game_sheet.specs.declared.act.Act.{Act}
-use Rattle.game_sheet.specs.declared.act.Act.TheVariants.{Move, Event, Undo, Redo}
+use Rattle.game_sheet.specs.declared.act.Act.TheVariants.{Move}
 use Rattle.game_sheet.specs.declared.sheet.Sheet.{Sheet}
 use Rattle.move_log.specs.declared.entry.Entry.{Entry}
 
 -- whether the action is a move whose row on the sheet says `redact`
 abbrev pub is_redacted : Sheet → Act → Bool
 is_redacted sheet (Move id args) = unwrap_or (option_map (λ row. row.redact) (slice_get sheet.moves id)) false
-is_redacted sheet (Event event) = false
-is_redacted sheet Undo = false
-is_redacted sheet Redo = false
+is_redacted sheet other = false
 
 -- whether the viewer is that seat
 abbrev pub is_seat : Option ℕ → ℕ → Bool
@@ -24,9 +22,7 @@ conceals sheet viewer e = not (is_seat viewer e.seat) && is_redacted sheet e.act
 
 abbrev pub without_args : Act → Act
 without_args (Move id args) = Move id []
-without_args (Event event) = Event event
-without_args Undo = Undo
-without_args Redo = Redo
+without_args other = other
 
 abbrev pub redact : Sheet → Option ℕ → Entry → Entry
 redact sheet viewer e = record {

@@ -82,9 +82,8 @@ object_of_one name form make part = record {
 
 -- a state that is made of two parts, where both are there
 abbrev pub both : {A B G : Type 0} → (A → B → G) → Option A → Option B → Option G
-both make None second = None
-both make (Some first) None = None
 both make (Some first) (Some second) = Some (make first second)
+both make first second = None
 
 -- a state of two parts, whose names rise in byte order
 abbrev pub object_of_two : {A B G : Type 0} → List ℕ → Form A → List ℕ → Form B → (A → B → G) → (G → A) → (G → B) → Form G

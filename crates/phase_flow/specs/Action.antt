@@ -3,7 +3,7 @@
 use Rattle.std.specs.Prelude.{ℕ, ◌+◌, ◌-◌, ◌%◌, ◌^◌, Bool, false, not, if◌then◌else◌, is_none, nat_eq, List, length, position, slice_get, Option, Some, None, Result, Ok, Err}
 use Rattle.dice_words.specs.Words.{words}
 use Rattle.game_sheet.specs.declared.act.Act.{Act}
-use Rattle.game_sheet.specs.declared.act.Act.TheVariants.{Move, Event as Asks, Undo, Redo}
+use Rattle.game_sheet.specs.declared.act.Act.TheVariants.{Move, Event as Asks}
 use Rattle.game_sheet.specs.declared.act.Event.{Event}
 use Rattle.game_sheet.specs.declared.act.Event.TheVariants.{EndTurn, EndPhase, EndStage}
 use Rattle.game_sheet.specs.declared.refusal.GameRule.{GameRule}
@@ -64,8 +64,7 @@ asked rules t seat event words = if is_invalid seat event t then Ends InvalidMov
 abbrev pub acted : {G : Type 0} → Rules G → Table G → ℕ → Act → List ℕ → Step G
 acted rules t seat (Move id args) words = played rules t seat (counts rules.sheet id) (rules.play t.g t.ctx seat id args words)
 acted rules t seat (Asks event) words = asked rules t seat event words
-acted rules t seat Undo words = Ends InvalidMove
-acted rules t seat Redo words = Ends InvalidMove
+acted rules t seat act words = Ends InvalidMove
 
 -- an action of a seat on a match
 unfoldable pub once : {G : Type 0} → Rules G → Reached G → ℕ → Act → Result (Reached G) GameRule

@@ -2,7 +2,7 @@
 use Rattle.std.specs.Prelude.{ℕ, List, Option, Some, None, position, slice_get, option_and_then}
 use Rattle.game_sheet.specs.declared.ctx.Ctx.{Ctx}
 use Rattle.game_sheet.specs.declared.sheet.Order.{Order}
-use Rattle.game_sheet.specs.declared.sheet.Order.TheVariants.{Default, Reset, Continue, Once, Custom, CustomFrom}
+use Rattle.game_sheet.specs.declared.sheet.Order.TheVariants.{Custom, CustomFrom}
 use Rattle.game_sheet.specs.declared.sheet.PhaseRow.{PhaseRow}
 use Rattle.game_sheet.specs.declared.sheet.Sheet.{Sheet}
 use Rattle.game_sheet.specs.declared.sheet.TurnRow.{TurnRow}
@@ -34,9 +34,6 @@ start_phase sheet = position (λ (row : PhaseRow). row.start) sheet.phases
 
 -- the play order of a match with so many seats, where `own` is the game's own list
 abbrev pub order_list : Order → ℕ → List ℕ → List ℕ
-order_list Default seats own = all_seats seats
-order_list Reset seats own = all_seats seats
-order_list Continue seats own = all_seats seats
-order_list Once seats own = all_seats seats
 order_list (Custom listed) seats own = listed
 order_list CustomFrom seats own = list_or_all seats own
+order_list other seats own = all_seats seats

@@ -1,6 +1,6 @@
 -- What changed between two values that a player was shown, and what a value is once it has changed so.
 use Rattle.std.specs.Prelude.{ℕ, List, [], ◌∷◌, map, Bool, false, if◌then◌else◌, bytes_eq, Option, Some, None, is_some}
-use Rattle.serde_json.specs.Data.{Data, null, boolean, number, string, array, object, Items, no_items, item, Members, member, no_members, put}
+use Rattle.serde_json.specs.Data.{Data, string, array, object, Items, no_items, item, Members, member, no_members, put}
 use Rattle.serde_json.specs.Find.{get}
 use Rattle.serde_json.specs.View.{items_of}
 use Rattle.serde_json.specs.Written.{compact_text}
@@ -23,21 +23,13 @@ lost_names (member k d ms) new = if is_some (get k new) then lost_names ms new e
 
 -- what of a new object is new to an old value; what is no object is new as a whole
 abbrev pub put_part : Data → Data → Data
-put_part old null = null
-put_part old (boolean b) = boolean b
-put_part old (number n) = number n
-put_part old (string s) = string s
-put_part old (array ds) = array ds
 put_part old (object ms) = object (changed_members old ms)
+put_part old new = new
 
 -- the members of an object
 abbrev pub members_in : Data → Members
-members_in null = no_members
-members_in (boolean b) = no_members
-members_in (number n) = no_members
-members_in (string s) = no_members
-members_in (array ds) = no_members
 members_in (object ms) = ms
+members_in other = no_members
 
 -- the names of an old object that a new value lacks
 abbrev pub gone_part : Data → Data → Data
@@ -45,24 +37,16 @@ gone_part old new = array (items_of (map string (lost_names (members_in old) new
 
 -- the texts of a list
 abbrev pub text_before : Data → List (List ℕ) → List (List ℕ)
-text_before null rest = rest
-text_before (boolean b) rest = rest
-text_before (number n) rest = rest
 text_before (string s) rest = s ∷ rest
-text_before (array ds) rest = rest
-text_before (object ms) rest = rest
+text_before other rest = rest
 
 abbrev pub texts_from : Items → List (List ℕ)
 texts_from no_items = []
 texts_from (item d ds) = text_before d (texts_from ds)
 
 abbrev pub texts_in : Data → List (List ℕ)
-texts_in null = []
-texts_in (boolean b) = []
-texts_in (number n) = []
-texts_in (string s) = []
 texts_in (array ds) = texts_from ds
-texts_in (object ms) = []
+texts_in other = []
 
 -- the members but those of some names
 abbrev pub without : List (List ℕ) → Members → Members
@@ -76,9 +60,5 @@ with_members ms (member k d more) = with_members (put k d ms) more
 
 -- an old object without the members that are gone and with those that are put; what is put, where it is no object
 abbrev pub patched : Data → Data → Data → Data
-patched old gone null = null
-patched old gone (boolean b) = boolean b
-patched old gone (number n) = number n
-patched old gone (string s) = string s
-patched old gone (array ds) = array ds
 patched old gone (object ms) = object (with_members (without (texts_in gone) (members_in old)) ms)
+patched old gone new = new

@@ -28,12 +28,9 @@ event_name (EndGame outcome) = event_text asks.EndGame
 -- what it goes to
 abbrev pub event_aim : Sheet → event.Event → Data
 event_aim sheet (EndTurn to) = natural_or_null to
-event_aim sheet EndPhase = null
 event_aim sheet (SetPhase to) = phase_name sheet to
-event_aim sheet EndStage = null
 event_aim sheet (SetStage to) = stage_name sheet to
-event_aim sheet (SetActive spec) = null
-event_aim sheet (EndGame outcome) = null
+event_aim sheet other = null
 
 abbrev pub event_data : Sheet → event.Event → Data
 event_data sheet e = object

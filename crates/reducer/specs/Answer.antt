@@ -3,7 +3,7 @@
 -- a redo is asked of the first undone action, by its own seat; and a move or an event is what one action comes to.
 use Rattle.std.specs.Prelude.{ℕ, Bool, false, nat_eq, if◌then◌else◌, List, [], ◌∷◌, Option, Some, None, Result, Ok, Err}
 use Rattle.game_sheet.specs.declared.act.Act.{Act}
-use Rattle.game_sheet.specs.declared.act.Act.TheVariants.{Move, Event as Asks, Undo, Redo}
+use Rattle.game_sheet.specs.declared.act.Act.TheVariants.{Move, Undo, Redo}
 use Rattle.game_sheet.specs.declared.refusal.GameRule.{GameRule}
 use Rattle.game_sheet.specs.declared.refusal.GameRule.TheVariants.{NothingToUndo, NothingToRedo, NotYours, NotUndoable}
 use Rattle.game_trait.specs.Rules.{Rules}
@@ -21,9 +21,7 @@ refusal (Err rule) = Some rule
 -- no event is taken back, and a move where the game says so of the present state
 abbrev pub is_undoable : {G : Type 0} → Rules G → Reached G → Act → Bool
 is_undoable rules now (Move id args) = rules.undoable now.g now.ctx id
-is_undoable rules now (Asks event) = false
-is_undoable rules now Undo = false
-is_undoable rules now Redo = false
+is_undoable rules now other = false
 
 -- a seat asks that the last action be undone, which was made in a turn of this number
 abbrev pub undo_broken : {G : Type 0} → Rules G → Reached G → ℕ → Accepted → ℕ → Option GameRule
@@ -41,7 +39,6 @@ redo_answer [] seat = Some NothingToRedo
 redo_answer (next ∷ undone) seat = if nat_eq next.seat seat then None else Some NotYours
 
 abbrev pub answer_on : {G : Type 0} → Rules G → Standing G → ℕ → Act → Option GameRule
-answer_on rules s seat (Move id args) = refusal (once rules s.table seat (Move id args))
-answer_on rules s seat (Asks event) = refusal (once rules s.table seat (Asks event))
 answer_on rules s seat Undo = undo_answer rules s s.done seat
 answer_on rules s seat Redo = redo_answer s.undone seat
+answer_on rules s seat act = refusal (once rules s.table seat act)

@@ -32,16 +32,14 @@ first_broken [] = None
 first_broken (rule ∷ rules) = if rule.0 then Some rule.1 else first_broken rules
 
 abbrev pub is_undo_or_redo : Asked → Bool
-is_undo_or_redo (asked.Move name args) = false
-is_undo_or_redo (asked.Event kind to) = false
 is_undo_or_redo asked.Undo = true
 is_undo_or_redo asked.Redo = true
+is_undo_or_redo other = false
 
 -- whether the seat is the only one that may act
 abbrev pub is_alone_in : List (ℕ × Option ℕ) → ℕ → Bool
-is_alone_in [] seat = false
 is_alone_in (row ∷ []) seat = row.0 == seat
-is_alone_in (row ∷ next ∷ rows) seat = false
+is_alone_in rows seat = false
 
 abbrev pub is_alone_on : Option (List (ℕ × Option ℕ)) → ℕ → ℕ → Bool
 is_alone_on None current seat = seat == current
@@ -61,10 +59,8 @@ is_kind kind other = false
 
 -- whether the sheet allows players the event that is asked for
 abbrev pub is_allowed : Sheet → Asked → Bool
-is_allowed sheet (asked.Move name args) = false
 is_allowed sheet (asked.Event kind to) = list_any (is_kind kind) sheet.events
-is_allowed sheet asked.Undo = false
-is_allowed sheet asked.Redo = false
+is_allowed sheet other = false
 
 -- whether the seat has the move that is asked for, or the players the event
 abbrev pub has_act : Sheet → Ctx → ℕ → Asked → Option Act → Bool
@@ -80,11 +76,8 @@ row_ignores (Some row) = row.ignore_stale
 
 -- whether the action is taken on any state number
 abbrev pub ignores_number : Sheet → Option Act → Bool
-ignores_number sheet None = false
 ignores_number sheet (Some (Move id args)) = row_ignores (slice_get sheet.moves id)
-ignores_number sheet (Some (Event event)) = false
-ignores_number sheet (Some Undo) = false
-ignores_number sheet (Some Redo) = false
+ignores_number sheet other = false
 
 -- the rules that only a seat's session can meet
 abbrev pub seat_rules : Sheet → Ctx → ℕ → ℕ → Asked → ℕ → List (Bool × Reason)

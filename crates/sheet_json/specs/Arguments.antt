@@ -1,7 +1,7 @@
 -- The arguments of a move as JSON values, at most eight: whole numbers of 32 bits with sign, and texts that a `Short` can hold.
 use Rattle.std.specs.Prelude.{◌≡◌, ◌≤◌, ℤ, pos, negsuc, List, [], ◌∷◌, length, map, Bool, true, ◌&&◌, nat_le, int_le, if◌then◌else◌, Option, Some, None, option_map, option_and_then}
 use Rattle.std.specs.List.{AllByRecursion}
-use Rattle.serde_json.specs.Data.{Data, null, boolean, number, string, array, object, Items, no_items, item}
+use Rattle.serde_json.specs.Data.{Data, number, string, Items, no_items, item}
 use Rattle.serde_json.specs.Events.{items_len}
 use Rattle.serde_json.specs.Find.{of_integer, as_i64}
 use Rattle.serde_json.specs.View.{items_of}
@@ -37,12 +37,9 @@ whole_from (Some z) = if_argument (Whole z)
 
 -- the argument that a value is; none where it is none
 abbrev pub argument_in : Data → Option Arg
-argument_in null = None
-argument_in (boolean b) = None
 argument_in (number n) = whole_from (as_i64 n)
 argument_in (string s) = if_argument (Text s)
-argument_in (array ds) = None
-argument_in (object ms) = None
+argument_in other = None
 
 abbrev pub arguments_from : Items → Option (List Arg)
 arguments_from no_items = Some []

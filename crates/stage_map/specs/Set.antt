@@ -11,9 +11,8 @@ use Rattle.stage_map.specs.Rows.{spec_rows}
 
 -- the stack with this map on it; only a map with rows is kept
 abbrev pub kept_on : Option (List Row) → Option ℕ → List Kept → List Kept
-kept_on None next stack = stack
-kept_on (Some []) next stack = stack
 kept_on (Some (row ∷ listed)) next stack = record { rows = row ∷ listed; next = next } ∷ stack
+kept_on listed next stack = stack
 
 abbrev pub stack_after : Bool → Map → List Kept
 stack_after true m = kept_on m.rows m.next m.stack
@@ -29,19 +28,17 @@ returned (top ∷ stack) = record { rows = Some top.rows; next = top.next; stack
 
 -- a map settled without a follower
 abbrev pub unfollowed_by : Option (List Row) → Map → Map
-unfollowed_by None m = m
 unfollowed_by (Some []) m = returned m.stack
-unfollowed_by (Some (row ∷ listed)) m = m
+unfollowed_by listed m = m
 
 abbrev pub unfollowed : Map → Map
 unfollowed m = unfollowed_by m.rows m
 
 -- a map settled with what `follow` makes of it by its follower
 abbrev pub settled_by : (ℕ → Map → Map) → Option (List Row) → Option ℕ → Map → Map
-settled_by follow None next m = m
 settled_by follow (Some []) None m = returned m.stack
 settled_by follow (Some []) (Some spec) m = follow spec m
-settled_by follow (Some (row ∷ listed)) next m = m
+settled_by follow listed next m = m
 
 abbrev pub settled : (ℕ → Map → Map) → Map → Map
 settled follow m = settled_by follow m.rows m.next m

@@ -10,9 +10,8 @@ empty = record { cells = replicate 9 None }
 
 -- a cell that is there and free becomes the mover's
 abbrev pub take_cell : Option (Option ℕ) → Board → Option Board
-take_cell None taken = None
-take_cell (Some (Some seat)) taken = None
 take_cell (Some None) taken = Some taken
+take_cell found taken = None
 
 abbrev pub click : Board → ℕ → ℕ → Option Board
 click b seat place = if nat_lt seat 2 then take_cell (slice_get b.cells place) (record b { cells = slice_set b.cells place (Some seat) }) else None
@@ -26,9 +25,8 @@ lines =
     ∷ []
 
 abbrev pub is_of : ℕ → Option (Option ℕ) → Bool
-is_of seat None = false
-is_of seat (Some None) = false
 is_of seat (Some (Some holder)) = nat_eq holder seat
+is_of seat found = false
 
 abbrev pub holds : Board → ℕ → List ℕ → Bool
 holds b seat line = list_all (λ place. is_of seat (slice_get b.cells place)) line

@@ -44,8 +44,7 @@ MayAim kind to = ⊥
 abbrev pub AskedFits : Asked → Type 0
 AskedFits (Move name args) = IsWord name × AreArguments args
 AskedFits (Event kind to) = MayAim kind to
-AskedFits Undo = Unit {0}
-AskedFits Redo = Unit {0}
+AskedFits asked = Unit {0}
 
 -- what a caller sees to, where the types keep the rest
 abbrev pub IsAskable : Asked → Type 0
@@ -56,12 +55,10 @@ IsAskable Redo = Unit {0}
 
 -- what every name is, since the types hold texts
 abbrev pub AimIsUtf8 : AskedTo → Type 0
-AimIsUtf8 Nothing = Unit {0}
-AimIsUtf8 (Seat seat) = Unit {0}
 AimIsUtf8 (Name name) = IsUtf8 name
+AimIsUtf8 to = Unit {0}
 
 abbrev pub AskedIsUtf8 : Asked → Type 0
 AskedIsUtf8 (Move name args) = IsUtf8 name
 AskedIsUtf8 (Event kind to) = AimIsUtf8 to
-AskedIsUtf8 Undo = Unit {0}
-AskedIsUtf8 Redo = Unit {0}
+AskedIsUtf8 asked = Unit {0}

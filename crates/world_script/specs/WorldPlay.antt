@@ -10,6 +10,6 @@ use Rattle.world_history.specs.WorldScript.{runs_world}
 use Rattle.world_script.specs.Deliveries.{DeliversLines}
 use Rattle.line_runner.specs.Play.{Play}
 
--- its transcript is that of hall_history over its steps, with the words of a script's tape
+-- its transcript is that of world_history over its steps, with the words of a script's tape
 unfoldable pub world_play : Play Mark (Step GameKind) (World GameKind AnyG)
 world_play = record { form = world_step_of; runs = runs_world named any_rules hall_tape; Tells = DeliversLines }
