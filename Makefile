@@ -4,10 +4,14 @@ SHELL := bash
 .SHELLFLAGS := -o pipefail -c
 JOBS ?= $(shell nproc)
 
+# Of what a check prints: the crates as they are done, and all that is not proved.
+BRIEFLY := grep --line-buffered -Ev ': proved$$|^(crate|library|logic|only=|so far|statements|by-macro|note:)|^rt: (the quick pass|rt check --fix-imports)|: note: '
+
 # Proves the program and each crate that it stands on, one job a crate and so many crates side by side, and builds it. What was proved
 # before is not proved again.
 program:
-	@cd crates/board_server && rt all check --jobs $(JOBS) | grep -Ev '^(crate|fn|library|logic|only=|so far|statements)'
+	@echo "Proves board_server and the crates below it, and builds it. The first time the first crate comes after some eight minutes."
+	@cd crates/board_server && rt all check --jobs $(JOBS) | $(BRIEFLY)
 	@cd crates/board_server && rt run -- script </dev/null
 
 # Plays the example matches and worlds, and prints their transcripts.
@@ -41,7 +45,7 @@ served: program
 page: page/page_program.wasm
 
 page/page_program.wasm: $(wildcard page/wasm/*) $(shell find crates -path '*/src/*' -name '*.rt')
-	@cd crates/page_program && rt all check --jobs $(JOBS) | grep -Ev '^(crate|fn|library|logic|only=|so far|statements)'
+	@cd crates/page_program && rt all check --jobs $(JOBS) | $(BRIEFLY)
 	@cd crates/page_program && ../../page/wasm/capture.py out/page_program.bc <stdin >out/page_program.lines
 	@cmp crates/page_program/out/page_program.lines crates/page_program/stdout
 	@page/wasm/compile.sh crates/page_program/out/page_program.bc $@
