@@ -3,7 +3,6 @@ use Rattle.std.proofs.Common.{◌≤◌, ◌+◌, ℕ, Bool, false, IsTrue, List
 use Rattle.std.proofs.lemmas.Bool.{false≢true}
 use Rattle.any_game.specs.AnyRules.{any_rules}
 use Rattle.any_game.specs.GameKind.{GameKind, TicTacToe, Countdown, Pig, HighHand, BlindBid, Captions}
-use Rattle.any_game.specs.Lifted.{on_own}
 use Rattle.any_game.specs.Values.{any_value, as_bids, as_board, as_cards, as_heap, as_points, as_texts}
 use Rattle.any_game.specs.declared.any_g.AnyG.{AnyG}
 use Rattle.card_games.specs.BlindBid.{bidding_value, bids_value, own_bids, sealed_bid_value}
@@ -15,6 +14,7 @@ use Rattle.open_game.specs.Forms.{seat_value}
 use Rattle.serde_json.specs.Data.{Data, depth, items_depth}
 use Rattle.serde_json.specs.View.{items_of}
 use Rattle.table_states.specs.StateForms.{board_form, heap_form, points_form}
+use Rattle.std.specs.Option.{option_map_or}
 
 -- each value is nested at most so deep
 abbrev Within : {A : Type 0} → ℕ → (A → Data) → Type 0
@@ -88,7 +88,7 @@ of_bids g = of_split bidding_value no_secret_value sealed_bid_value of_bidding (
 of_texts : Within 4 texts_value
 of_texts g = of_split shown_value no_secret_value sealed_text_value of_shown (λ secret. omega (arith, of_no_secret secret)) of_written g
 
-of_own : {G : Type 0} (own : G → Bool) (value : G → Data) (other : Data) (g : Option G) → Within 4 value → IsTrue (on_own g false own) → depth (on_own g other value) ≤ 125
+of_own : {G : Type 0} (own : G → Bool) (value : G → Data) (other : Data) (g : Option G) → Within 4 value → IsTrue (option_map_or own g false) → depth (option_map_or value g other) ≤ 125
 of_own own value other None low is = absurd (false≢true is)
 of_own own value other (Some g) low is = omega (arith, low g)
 

@@ -3,7 +3,6 @@ use Rattle.std.proofs.Common.{◌≡◌, ◌≢◌, Bool, false, IsTrue, Option,
 use Rattle.std.proofs.lemmas.Bool.{false≢true}
 use Rattle.any_game.specs.AnyRules.{any_rules}
 use Rattle.any_game.specs.GameKind.{GameKind, TicTacToe, Countdown, Pig, HighHand, BlindBid, Captions}
-use Rattle.any_game.specs.Lifted.{on_own}
 use Rattle.any_game.specs.Values.{any_value, as_bids, as_board, as_cards, as_heap, as_points, as_texts}
 use Rattle.any_game.specs.declared.any_g.AnyG.{AnyG}
 use Rattle.card_games.specs.BlindBid.{bids_value, own_bids}
@@ -11,8 +10,9 @@ use Rattle.card_games.specs.Captions.{own_texts, texts_value}
 use Rattle.card_games.specs.HighHand.{cards_value, own_state}
 use Rattle.serde_json.specs.Data.{Data}
 use Rattle.table_states.specs.StateForms.{board_form, heap_form, points_form}
+use Rattle.std.specs.Option.{option_map_or}
 
-unread_own : {S : Type 0} (own : S → Bool) (value : S → Data) (other : Data) (read : Data → Option AnyG) (g : Option S) → ((x : S) → read (value x) ≡ None) → IsTrue (on_own g false own) → read (on_own g other value) ≡ None
+unread_own : {S : Type 0} (own : S → Bool) (value : S → Data) (other : Data) (read : Data → Option AnyG) (g : Option S) → ((x : S) → read (value x) ≡ None) → IsTrue (option_map_or own g false) → read (option_map_or value g other) ≡ None
 unread_own own value other read None unread is = absurd (false≢true is)
 unread_own own value other read (Some x) unread is = unread x
 

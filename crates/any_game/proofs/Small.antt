@@ -7,7 +7,6 @@ use Rattle.serde_json.specs.Data.{Data, null, Members, member, no_members, objec
 use Rattle.serde_json.specs.Written.{compact_text, members_text}
 use Rattle.any_game.specs.AnyRules.{any_rules}
 use Rattle.any_game.specs.GameKind.{GameKind, TicTacToe, Countdown, Pig, HighHand, BlindBid, Captions}
-use Rattle.any_game.specs.Lifted.{on_own}
 use Rattle.any_game.specs.Values.{any_value, as_bids, as_board, as_cards, as_heap, as_points, as_texts}
 use Rattle.any_game.specs.declared.any_g.AnyG.{AnyG}
 use Rattle.card_games.specs.BlindBid.{Bids, bidding_value, bids_value, have_bidders, own_bidding, own_bids, own_sealed_bid, sealed_bid_value}
@@ -29,6 +28,7 @@ use Rattle.table_states.specs.Points.{Points}
 use Rattle.table_states.specs.StateForms.{board_form, heap_form, points_form}
 use Rattle.table_states.specs.declared.board.Board.{Board}
 use Rattle.table_states.specs.declared.heap.Heap.{Heap}
+use Rattle.std.specs.Option.{option_map_or}
 
 count_bytes : AtMost 10 number_value is_count
 count_bytes = number_bytes 10 (2 ^ 32 - 1) (lit< tt) (lit< tt) (lit< tt)
@@ -167,7 +167,7 @@ points_small p own =
 
 -- ---- all of them
 
-of_own : {G : Type 0} (own : G → Bool) (value : G → Data) (other : Data) (g : Option G) → ((x : G) → IsTrue (own x) → IsSmall (value x)) → IsTrue (on_own g false own) → IsSmall (on_own g other value)
+of_own : {G : Type 0} (own : G → Bool) (value : G → Data) (other : Data) (g : Option G) → ((x : G) → IsTrue (own x) → IsSmall (value x)) → IsTrue (option_map_or own g false) → IsSmall (option_map_or value g other)
 of_own own value other None small is = absurd (false≢true is)
 of_own own value other (Some g) small is = small g is
 

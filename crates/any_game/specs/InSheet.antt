@@ -1,17 +1,18 @@
 -- A lifted game keeps to its sheet where the game does: the proof of this law of games, which no other definition cites.
 use Rattle.std.specs.Prelude.{[], Option, Some, None}
-use Rattle.any_game.specs.Lifted.{lifted, lifted_deed, on_own}
+use Rattle.any_game.specs.Lifted.{lifted, lifted_deed}
 use Rattle.any_game.specs.declared.any_g.AnyG.{AnyG}
 use Rattle.game_sheet.specs.declared.sheet.Sheet.{Sheet}
 use Rattle.game_trait.specs.Deed.{Deed, Done, GaveUp, Invalid, Lack}
 use Rattle.game_trait.specs.Queues.{KeepsToSheet, QueuesInSheet}
 use Rattle.game_trait.specs.Rules.{Rules}
+use Rattle.std.specs.Option.{option_map_or}
 
 deed_keeps : {G E : Type 0} (sheet : Sheet) (inject : G → AnyG) (deed : Deed G E) → QueuesInSheet sheet deed → QueuesInSheet sheet (lifted_deed inject deed)
 deed_keeps sheet inject (Done g words queued) keeps = keeps
 deed_keeps sheet inject (GaveUp why) keeps = tt
 
-own_keeps : {G E : Type 0} (sheet : Sheet) (inject : G → AnyG) (own : Option G) (otherwise : Deed AnyG E) (go : G → Deed G E) → QueuesInSheet sheet otherwise → ((g : G) → QueuesInSheet sheet (go g)) → QueuesInSheet sheet (on_own own otherwise (λ g. lifted_deed inject (go g)))
+own_keeps : {G E : Type 0} (sheet : Sheet) (inject : G → AnyG) (own : Option G) (otherwise : Deed AnyG E) (go : G → Deed G E) → QueuesInSheet sheet otherwise → ((g : G) → QueuesInSheet sheet (go g)) → QueuesInSheet sheet (option_map_or (λ g. lifted_deed inject (go g)) own otherwise)
 own_keeps sheet inject None otherwise go keeps each = keeps
 own_keeps sheet inject (Some g) otherwise go keeps each = deed_keeps sheet inject (go g) (each g)
 

@@ -3,7 +3,7 @@ use Rattle.std.specs.Prelude.{◌≡◌, ◌<◌, ℕ, false, IsTrue, List, [], 
 use Rattle.std.specs.List.{AllByRecursion}
 use Rattle.std.proofs.Common.{ap, subst, sym, ◌∙◌}
 use Rattle.std.proofs.lemmas.Bool.{false≢true}
-use Rattle.any_game.specs.Lifted.{lifted, lifted_deed, on_own}
+use Rattle.any_game.specs.Lifted.{lifted, lifted_deed}
 use Rattle.any_game.specs.Values.{any_value}
 use Rattle.any_game.specs.declared.any_g.AnyG.{AnyG}
 use Rattle.game_sheet.specs.declared.act.Outcome.{Outcome}
@@ -18,27 +18,28 @@ use Rattle.json_tree.specs.Canonical.{IsCanonical}
 use Rattle.json_tree.specs.Writable.{IsWritable}
 use Rattle.serde_json.specs.Data.{Data}
 use Rattle.serde_json.specs.Find.{as_object}
+use Rattle.std.specs.Option.{option_map_or}
 
 module _ {G : Type 0} (inject : G → AnyG) (project : AnyG → Option G) (finds : (own : G) → project (inject own) ≡ Some own) (tells : (g : AnyG) → IfSome (project g) (λ own. g ≡ inject own)) (rules : Rules G) (laws : Lawful rules) where
   abbrev IsOwn : Option G → Type 0
-  IsOwn own = IsTrue (on_own own false rules.own)
+  IsOwn own = IsTrue (option_map_or rules.own own false)
 
   abbrev any_own : AnyG → Type 0
   any_own g = IsOwn (project g)
 
   injected_own : (own : G) → IsTrue (rules.own own) → any_own (inject own)
-  injected_own own is = ap (λ o. on_own o false rules.own) (finds own) ∙ is
+  injected_own own is = ap (λ o. option_map_or rules.own o false) (finds own) ∙ is
 
-  deed_own : {E : Type 0} (deed : Deed G E) → GivesOwn rules.own deed → GivesOwn (λ g. on_own (project g) false rules.own) (lifted_deed inject deed)
+  deed_own : {E : Type 0} (deed : Deed G E) → GivesOwn rules.own deed → GivesOwn (λ g. option_map_or rules.own (project g) false) (lifted_deed inject deed)
   deed_own (Done own words queued) is = injected_own own is
   deed_own (GaveUp why) is = tt
 
-  own_deed : {E : Type 0} (own : Option G) (otherwise : Deed AnyG E) (go : G → Deed G E) → IsOwn own → ((g : G) → IsTrue (rules.own g) → GivesOwn rules.own (go g)) → GivesOwn (λ g. on_own (project g) false rules.own) (on_own own otherwise (λ g. lifted_deed inject (go g)))
+  own_deed : {E : Type 0} (own : Option G) (otherwise : Deed AnyG E) (go : G → Deed G E) → IsOwn own → ((g : G) → IsTrue (rules.own g) → GivesOwn rules.own (go g)) → GivesOwn (λ g. option_map_or rules.own (project g) false) (option_map_or (λ g. lifted_deed inject (go g)) own otherwise)
   own_deed None otherwise go is each = absurd (false≢true is)
   own_deed (Some g) otherwise go is each = deed_own (go g) (each g is)
 
   abbrev seen : Ctx → Option ℕ → AnyG → Option G → AnyG
-  seen ctx viewer g own = on_own own g (λ h. inject (rules.view h ctx viewer))
+  seen ctx viewer g own = option_map_or (λ h. inject (rules.view h ctx viewer)) own g
 
   seen_own : (g : AnyG) (ctx : Ctx) (viewer : Option ℕ) (own : Option G) → IsOwn own → any_own (seen ctx viewer g own)
   seen_own g ctx viewer None is = absurd (false≢true is)
@@ -49,37 +50,37 @@ module _ {G : Type 0} (inject : G → AnyG) (project : AnyG → Option G) (finds
   seen_again g ctx viewer (Some own) is =
       ap (seen ctx viewer (inject (rules.view own ctx viewer))) (finds (rules.view own ctx viewer)) ∙ ap inject (laws.view_again own ctx viewer is)
 
-  of_value : (g : AnyG) (P : Data → Type 0) (own : Option G) → ((h : G) → IsTrue (rules.own h) → P (rules.value h)) → IsOwn own → P (on_own own (any_value g) rules.value)
+  of_value : (g : AnyG) (P : Data → Type 0) (own : Option G) → ((h : G) → IsTrue (rules.own h) → P (rules.value h)) → IsOwn own → P (option_map_or rules.value own (any_value g))
   of_value g P None each is = absurd (false≢true is)
   of_value g P (Some own) each is = each own is
 
-  again : (g : AnyG) (own : Option G) → IfSome own (λ h. g ≡ inject h) → IsOwn own → option_map inject (rules.read (on_own own (any_value g) rules.value)) ≡ Some g
+  again : (g : AnyG) (own : Option G) → IfSome own (λ h. g ≡ inject h) → IsOwn own → option_map inject (rules.read (option_map_or rules.value own (any_value g))) ≡ Some g
   again g None same is = absurd (false≢true is)
   again g (Some own) same is = ap (option_map inject) (laws.reads_back own is) ∙ ap Some (sym same)
 
   -- what was read is own, and is all of what it was read from
   abbrev IsReadFrom : Data → AnyG → Type 0
-  IsReadFrom v g = any_own g × (IsCanonical v → on_own (project g) (any_value g) rules.value ≡ v)
+  IsReadFrom v g = any_own g × (IsCanonical v → option_map_or rules.value (project g) (any_value g) ≡ v)
 
   injected_read : (v : Data) (own : Option G) → rules.read v ≡ own → IfSome (option_map inject own) (IsReadFrom v)
   injected_read v None is = tt
   injected_read v (Some own) is = (
     injected_own own (laws.read_own v own is),
-    λ c. ap (λ o. on_own o (any_value (inject own)) rules.value) (finds own) ∙ laws.read_only v own c is,
+    λ c. ap (λ o. option_map_or rules.value o (any_value (inject own))) (finds own) ∙ laws.read_only v own c is,
   )
 
   read_from : (v : Data) (g : AnyG) → option_map inject (rules.read v) ≡ Some g → IsReadFrom v g
   read_from v g is = subst (λ o. IfSome o (IsReadFrom v)) is (injected_read v (rules.read v) refl)
 
-  known : (ctx : Ctx) (seat : ℕ) (own : Option G) → AllByRecursion (λ (offer : ℕ × List Arg). offer.0 < length rules.sheet.moves) (on_own own [] (λ h. rules.options h ctx seat))
+  known : (ctx : Ctx) (seat : ℕ) (own : Option G) → AllByRecursion (λ (offer : ℕ × List Arg). offer.0 < length rules.sheet.moves) (option_map_or (λ h. rules.options h ctx seat) own [])
   known ctx seat None = tt
   known ctx seat (Some own) = laws.offers_known own ctx seat
 
-  none_offered : (ctx : Ctx) (seat : ℕ) (own : Option G) → may_be_offered ctx seat ≡ false → on_own own [] (λ h. rules.options h ctx seat) ≡ []
+  none_offered : (ctx : Ctx) (seat : ℕ) (own : Option G) → may_be_offered ctx seat ≡ false → option_map_or (λ h. rules.options h ctx seat) own [] ≡ []
   none_offered ctx seat None none = refl
   none_offered ctx seat (Some own) none = laws.offers_none own ctx seat none
 
-  ended : (ctx : Ctx) (outcome : Outcome) (own : Option G) → IsOwn own → on_own own None (λ h. rules.end_if h ctx) ≡ Some outcome → OutcomeFits outcome
+  ended : (ctx : Ctx) (outcome : Outcome) (own : Option G) → IsOwn own → option_map_or (λ h. rules.end_if h ctx) own None ≡ Some outcome → OutcomeFits outcome
   ended ctx outcome None is ends = absurd (false≢true is)
   ended ctx outcome (Some own) is ends = laws.ends own ctx outcome is ends
 

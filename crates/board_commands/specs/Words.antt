@@ -6,8 +6,7 @@ use Rattle.wire_json.specs.MatchText.{number_from}
 
 -- what a word alone asks for
 abbrev pub command_by : List ℕ → Option Command
-command_by word =
-    if bytes_eq word (codes "script") then Some Script
+command_by word = if bytes_eq word (codes "script") then Some Script
     else if bytes_eq word (codes "world") then Some World
     else if bytes_eq word (codes "replay") then Some Replay
     else None

@@ -3,7 +3,7 @@
 use Rattle.std.proofs.Common.{◌≡◌, ◌==◌, ◌+◌, ◌++◌, ℕ, Bool, true, false, cond, if◌then◌else◌, List, [], ◌∷◌, Option, Some, None, refl, sym, ap, subst, ◌∙◌}
 use Rattle.std.specs.Prelude.{position, option_and_then, option_map, Result, Ok, Err}
 use Rattle.client_predict.specs.Client.{Client, Playing, fresh}
-use Rattle.client_predict.specs.Reading.{change_in, change_onto, changed, goes_on, has_ticket, hears, hears_line, lost, only_told, reads, settled_by, settles, synced, taken_if, unless_gone, updated, verdict, verdict_at}
+use Rattle.client_predict.specs.Reading.{change_in, change_onto, changed, goes_on, has_ticket, hears, hears_line, lost, only_told, reads, settled_by, settles, synced, unless_gone, updated, verdict, answered, taken}
 use Rattle.client_predict.specs.declared.told.FeedNo.{FeedNo}
 use Rattle.client_predict.specs.declared.told.FeedNo.TheVariants as no
 use Rattle.client_predict.specs.declared.told.Told.{Told}
@@ -23,6 +23,7 @@ use Rattle.wire_json.specs.declared.server.ServerMsg.TheVariants as message
 use Rattle.client_predict.specs.Following.{followed, is_told, reads_all, tells, told_lines}
 use Rattle.bot_sitter.specs.Hears.{begins_by, client_after, clients_after}
 use Rattle.bot_sitter.specs.Seen.{Agrees, sees, sees_in}
+use Rattle.std.specs.Option.{option_map_or}
 
 module _ {G : Type 0} (rules : Rules G) where
   abbrev client : Bool → Option (Playing G) → Client G
@@ -64,7 +65,7 @@ module _ {G : Type 0} (rules : Rules G) where
   updated_seen p (Some change) number = step_by (number == p.settled.number + 1) p change number (no.OutOfStep p.settled.number number)
 
   taken_by : (b : Bool) (p : Playing G) (change : _) (number : ℕ) (why : FeedNo)
-      → sees (cond b (taken_if (client false (Some p)) (Some p) change number) (lost (client false (Some p)) why)).client ≡ cond b (option_map (λ change. settled_by p.settled change number) change) None
+      → sees (cond b (option_map_or (λ change. taken (client false (Some p)) (Some p) change number) change (lost (client false (Some p)) no.BadLine)) (lost (client false (Some p)) why)).client ≡ cond b (option_map (λ change. settled_by p.settled change number) change) None
   taken_by true p None number why = refl
   taken_by true p (Some change) number why = refl
   taken_by false p change number why = refl
@@ -104,7 +105,7 @@ module _ {G : Type 0} (rules : Rules G) where
   -- ---- verdicts and direct answers
 
   verdict_kept : (p : Playing G) (place : Option ℕ) (ticket : ℕ) (told : Told) (s : Snapshot G)
-      → sees (verdict_at (client false (Some p)) p place ticket told).client ≡ Some s → Some p.settled ≡ Some s
+      → sees (option_map_or (λ place. goes_on (client false (Some p)) told (answered p place)) place (lost (client false (Some p)) (no.UnknownTicket ticket))).client ≡ Some s → Some p.settled ≡ Some s
   verdict_kept p None ticket told s e = cc
   verdict_kept p (Some place) ticket told s e = e
 

@@ -15,6 +15,7 @@ use Rattle.game_trait.specs.Offers.{offered}
 use Rattle.game_trait.specs.Rules.{Rules, plain}
 use Rattle.secret_strip.specs.Strip.{strip}
 use Rattle.serde_json.specs.Data.{Data, object, member, no_members}
+use Rattle.std.specs.Option.{option_map_or}
 
 -- everybody sees the boasts and, at the end, the bids; each seat alone sees its own bid before
 abbrev pub Bids : Type 0
@@ -67,8 +68,7 @@ bid_end g = sealed_end (λ bid. bid) g.players
 
 -- the state in which these bids are shown, if any are
 abbrev pub with_bids : Bids → Option (List ℕ) → Bids
-with_bids g None = g
-with_bids g (Some bids) = record g { common = record g.common { revealed = Some bids } }
+with_bids g shown = option_map_or (λ bids. record g { common = record g.common { revealed = Some bids } }) shown g
 
 -- at the end all bids are shown, where all have bid
 abbrev pub revealed : Bids → Bids

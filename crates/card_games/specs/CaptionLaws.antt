@@ -3,7 +3,7 @@ use Rattle.std.specs.Prelude.{◌≡◌, ℕ, ◌<◌, ◌≤◌, ◌&&◌, nat_
 use Rattle.std.specs.List.{AllByRecursion, list_all}
 use Rattle.std.proofs.Common.{◌∙◌, ap, lit<}
 use Rattle.std.proofs.lemmas.Bool.{and_parts}
-use Rattle.card_games.specs.Captions.{Texts, caption_offers, caption_sheet, captions, have_writers, no_texts, offered_texts, own_sealed_text, own_shown, own_texts, read_sealed_text, read_shown, read_texts, sealed_text_value, shown_value, texts_revealed, texts_value, with_texts, write}
+use Rattle.card_games.specs.Captions.{Texts, caption_offers, caption_sheet, captions, have_writers, no_texts, offered_texts, own_sealed_text, own_shown, own_texts, read_sealed_text, read_shown, read_texts, sealed_text_value, shown_value, texts_revealed, texts_value, write}
 use Rattle.card_games.specs.Json.{list_value, lone_value, option_value, own_option, own_split, read_list, read_lone, read_option, read_split, read_text, text_value}
 use Rattle.card_games.specs.Offers.{offers}
 use Rattle.card_games.specs.OwnLaws.{all_if, count_seen, of_parts, offers_known, parts_of, view_own}
@@ -22,6 +22,7 @@ use Rattle.game_trait.specs.Offers.{offered_known, offered_none}
 use Rattle.game_trait.specs.Queues.{KeepsToSheet, QueuesInSheet}
 use Rattle.secret_strip.specs.Strip.{strip}
 use Rattle.secret_strip.proofs.PlayersLemmas.{strip_twice}
+use Rattle.std.specs.Option.{option_map_or}
 
 -- ---- reading
 
@@ -55,11 +56,11 @@ write_own g seat (Text text ∷ []) words own =
     seal_own have_writers own_shown is_short as_many (nat_lt seat 16 && nat_le 1 (length text) && is_short text) g seat text words own
     (λ allowed. (and_parts (nat_lt seat 16 && nat_le 1 (length text)) (is_short text) allowed).1)
 
-with_texts_own : (g : Texts) (texts : Option (List (List ℕ))) → IsTrue (own_texts g) → IfSome texts (λ items. (list_all is_short items ≡ true) × (length items ≡ length g.players)) → IsTrue (own_texts (with_texts g texts))
+with_texts_own : (g : Texts) (texts : Option (List (List ℕ))) → IsTrue (own_texts g) → IfSome texts (λ items. (list_all is_short items ≡ true) × (length items ≡ length g.players)) → IsTrue (own_texts (option_map_or (λ texts. record g { common = record { revealed = Some texts } }) texts g))
 with_texts_own g None own shown = own
 with_texts_own g (Some texts) own shown =
     let parts = parts_of have_writers own_shown own_no_secret own_sealed_text g own in
-    of_parts have_writers own_shown own_no_secret own_sealed_text (with_texts g (Some texts)) (record {
+    of_parts have_writers own_shown own_no_secret own_sealed_text (option_map_or (λ texts. record g { common = record { revealed = Some texts } }) (Some texts) g) (record {
       seats = seats_shown 16 (length g.players) (option_map (λ items. length items) g.common.revealed) (length texts) shown.1 parts.seats;
       own_common = shown.0;
       own_secret = parts.own_secret;

@@ -7,7 +7,6 @@ use Rattle.card_games.specs.Sealed.{Sealing, are_seats, no_secret_value, own_no_
 use Rattle.card_games.specs.declared.texts.Shown.{Shown}
 use Rattle.card_games.specs.declared.sealed.Sealed.{Sealed}
 use Rattle.game_sheet.specs.Short.{is_short}
-use Rattle.game_sheet.specs.declared.act.Outcome.{Outcome}
 use Rattle.game_sheet.specs.declared.args.Arg.{Arg}
 use Rattle.game_sheet.specs.declared.args.Arg.TheVariants.{Text}
 use Rattle.game_sheet.specs.declared.sheet.Sheet.{Sheet}
@@ -16,6 +15,7 @@ use Rattle.game_trait.specs.Offers.{offered}
 use Rattle.game_trait.specs.Rules.{Rules, plain}
 use Rattle.secret_strip.specs.Strip.{strip}
 use Rattle.serde_json.specs.Data.{Data}
+use Rattle.std.specs.Option.{option_map_or}
 
 -- each seat alone sees its own text; everybody sees all of them at the end
 abbrev pub Texts : Type 0
@@ -48,18 +48,9 @@ abbrev pub write : Texts → ℕ → List Arg → List ℕ → Deed Texts Barred
 write g seat (Text text ∷ []) words = seal (nat_lt seat 16 && nat_le 1 (length text) && is_short text) g seat text words
 write g seat _ words = GaveUp Invalid
 
--- once all have written, the one seat whose text has the most bytes wins; two such texts are a draw
-abbrev pub caption_end : Texts → Option Outcome
-caption_end g = sealed_end (λ text. length text) g.players
-
--- the state in which these texts are shown, if any are
-abbrev pub with_texts : Texts → Option (List (List ℕ)) → Texts
-with_texts g None = g
-with_texts g (Some texts) = record g { common = record { revealed = Some texts } }
-
 -- at the end all texts are shown, where all have written
 abbrev pub texts_revealed : Texts → Texts
-texts_revealed g = with_texts g (shown_items g.players)
+texts_revealed g = option_map_or (λ texts. record g { common = record { revealed = Some texts } }) (shown_items g.players) g
 
 abbrev pub offered_texts : List Arg
 offered_texts = Text (codes "one") ∷ Text (codes "two") ∷ []
@@ -101,7 +92,8 @@ own_texts g = have_writers g && own_split own_shown own_no_secret own_sealed_tex
 
 abbrev pub captions : Rules Texts
 captions = record (plain caption_sheet (λ seats words. Done (no_texts seats) words []) (λ g ctx seat id args words. write g seat args words) own_texts texts_value read_texts) {
-  end_if = λ g ctx. caption_end g;
+  -- once all have written, the one seat whose text has the most bytes wins; two such texts are a draw
+  end_if = λ g ctx. sealed_end (λ text. length text) g.players;
   game_end = λ g ctx words. Done (texts_revealed g) words [];
   view = λ g ctx viewer. strip g viewer;
   undoable = λ g ctx id. false;

@@ -1,7 +1,8 @@
 -- Who has the greatest number: of cards on a table, of scores, of bids, or of bytes.
-use Rattle.std.specs.Prelude.{ℕ, ◌==◌, max, nat_lt, if◌then◌else◌, List, count_by, fold, position, Option, Some, None}
+use Rattle.std.specs.Prelude.{ℕ, ◌==◌, max, nat_lt, if◌then◌else◌, List, count_by, fold, position, Option}
 use Rattle.game_sheet.specs.declared.act.Outcome.{Outcome}
 use Rattle.game_sheet.specs.declared.act.Outcome.TheVariants.{Winner, Draw}
+use Rattle.std.specs.Option.{option_map_or}
 
 -- the greatest of the numbers that a list's items are worth, or 0 of an empty list
 abbrev pub greatest : {A : Type 0} → (A → ℕ) → List A → ℕ
@@ -15,11 +16,7 @@ first_greatest worth items = position (λ item. worth item == greatest worth ite
 abbrev pub count_greatest : {A : Type 0} → (A → ℕ) → List A → ℕ
 count_greatest worth items = count_by (λ item. worth item == greatest worth items) items
 
--- a place is a seat's; no match has more than sixteen
-abbrev pub won_by : Option ℕ → Outcome
-won_by None = Draw
-won_by (Some seat) = if nat_lt seat 16 then Winner seat else Draw
-
--- the one seat whose item is worth the most wins; where several are, nobody does
+-- the one seat whose item is worth the most wins; where several are, nobody does. A place is a seat's; no match has more than sixteen
 abbrev pub one_greatest : {A : Type 0} → (A → ℕ) → List A → Outcome
-one_greatest worth items = if count_greatest worth items == 1 then won_by (first_greatest worth items) else Draw
+one_greatest worth items =
+    if count_greatest worth items == 1 then option_map_or (λ seat. if nat_lt seat 16 then Winner seat else Draw) (first_greatest worth items) Draw else Draw

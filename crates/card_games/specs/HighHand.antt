@@ -21,6 +21,7 @@ use Rattle.game_trait.specs.Rules.{Rules, plain}
 use Rattle.secret_strip.specs.Strip.{strip}
 use Rattle.secret_strip.specs.declared.split.Split.{Split}
 use Rattle.serde_json.specs.Data.{Data, object, Members, member, no_members}
+use Rattle.std.specs.Option.{option_map_or}
 
 -- everybody sees the table, each seat its own hand, and nobody the deck
 abbrev pub Cards : Type 0
@@ -73,8 +74,7 @@ abbrev pub hand_of : Cards → ℕ → Option (List ℕ)
 hand_of g seat = hand_in (slice_get g.players seat)
 
 abbrev pub deck_in : Option Deck → List ℕ
-deck_in None = []
-deck_in (Some deck) = deck.cards
+deck_in secret = option_map_or (λ deck. deck.cards) secret []
 
 -- the state in which a seat has this hand, of which everybody sees the count
 abbrev pub with_hand : Cards → ℕ → List ℕ → Cards
@@ -114,12 +114,10 @@ abbrev pub lay_down : Cards → ℕ → ℕ → List ℕ → List ℕ → Deed C
 lay_down g seat card left words = if are_few left && is_free (slice_get g.common.places seat) then Done (laid g seat card left) words [] else GaveUp Invalid
 
 abbrev pub lay_card : Cards → ℕ → ℕ → List ℕ → Option ℕ → List ℕ → Deed Cards Barred
-lay_card g seat place hand None words = GaveUp Invalid
-lay_card g seat place hand (Some card) words = lay_down g seat card (remove hand place) words
+lay_card g seat place hand found words = option_map_or (λ card. lay_down g seat card (remove hand place) words) found (GaveUp Invalid)
 
 abbrev pub lay_from : Cards → ℕ → ℕ → Option (List ℕ) → List ℕ → Deed Cards Barred
-lay_from g seat place None words = GaveUp Invalid
-lay_from g seat place (Some hand) words = lay_card g seat place hand (slice_get hand place) words
+lay_from g seat place found words = option_map_or (λ hand. lay_card g seat place hand (slice_get hand place) words) found (GaveUp Invalid)
 
 -- the one argument is the card's place in the hand
 abbrev pub lay : Cards → ℕ → List Arg → List ℕ → Deed Cards Barred
@@ -134,8 +132,7 @@ abbrev pub one_more : ℕ → ℕ
 one_more score = min (score + 1) (2 ^ 32 - 1)
 
 abbrev pub point_at : Option ℕ → List ℕ → List ℕ
-point_at None scores = scores
-point_at (Some place) scores = slice_set scores place (one_more (slice_index scores place))
+point_at found scores = option_map_or (λ place. slice_set scores place (one_more (slice_index scores place))) found scores
 
 -- what a place of the table counts for, or 0
 abbrev pub height : Option ℕ → ℕ
@@ -164,8 +161,7 @@ is_clear places = list_all (λ place. is_none place) places
 
 -- in the second phase every hand is empty and so is the table
 abbrev pub is_played : Cards → Option ℕ → Bool
-is_played g None = false
-is_played g (Some phase) = nat_eq phase 1 && are_empty g.common.hands && is_clear g.common.places
+is_played g phase = option_map_or (λ phase. nat_eq phase 1 && are_empty g.common.hands && is_clear g.common.places) phase false
 
 -- then the one seat with the greatest score wins; two such scores are a draw
 abbrev pub card_end : Cards → Option ℕ → Option Outcome
@@ -177,8 +173,7 @@ lays zero = []
 lays (suc place) = lays place ++ (1, Whole (pos place) ∷ []) ∷ []
 
 abbrev pub lay_offers : Cards → ℕ → Option (List ℕ) → List (ℕ × List Arg)
-lay_offers g seat None = []
-lay_offers g seat (Some hand) = if are_few hand && is_free (slice_get g.common.places seat) then lays (length hand) else []
+lay_offers g seat found = option_map_or (λ hand. if are_few hand && is_free (slice_get g.common.places seat) then lays (length hand) else []) found []
 
 -- in the first phase a seat is offered the draw, and in the second each card of its hand where its place on the table is free
 abbrev pub card_offers : Cards → ℕ → Option ℕ → List (ℕ × List Arg)

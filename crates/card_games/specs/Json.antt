@@ -7,6 +7,7 @@ use Rattle.secret_strip.specs.declared.split.Split.{Split}
 use Rattle.serde_json.specs.Data.{Data, null, number, unsigned, string, array, object, Items, no_items, item, Members, member, no_members}
 use Rattle.serde_json.specs.Find.{as_array, as_null, as_number, as_u64, get}
 use Rattle.serde_json.specs.View.{items_of}
+use Rattle.std.specs.Option.{option_map_or}
 
 -- a function and what it is given, where both are there
 abbrev pub apply : {A B : Type 0} → Option (A → B) → Option A → Option B
@@ -15,8 +16,7 @@ apply f x = None
 
 -- what passes a test
 abbrev pub passing : {A : Type 0} → (A → Bool) → Option A → Option A
-passing test None = None
-passing test (Some x) = if test x then Some x else None
+passing test found = option_and_then (λ x. if test x then Some x else None) found
 
 abbrev pub number_value : ℕ → Data
 number_value n = number (unsigned n)
@@ -41,15 +41,13 @@ read_text (string text) = passing is_short (Some text)
 read_text _ = None
 
 abbrev pub option_value : {A : Type 0} → (A → Data) → Option A → Data
-option_value value None = null
-option_value value (Some x) = value x
+option_value value found = option_map_or value found null
 
 abbrev pub read_option : {A : Type 0} → (Data → Option A) → Data → Option (Option A)
 read_option read d = if is_some (as_null d) then Some None else option_map (λ x. Some x) (read d)
 
 abbrev pub own_option : {A : Type 0} → (A → Bool) → Option A → Bool
-own_option own None = true
-own_option own (Some x) = own x
+own_option own found = option_map_or own found true
 
 abbrev pub list_value : {A : Type 0} → (A → Data) → List A → Data
 list_value value items = array (items_of (map value items))

@@ -1,5 +1,5 @@
 -- Games in which each seat alone seals one item, a bid or a text: once every seat has, the greatest item wins and all are shown.
-use Rattle.std.specs.Prelude.{ℕ, ◌==◌, ◌&&◌, nat_le, Bool, false, if◌then◌else◌, List, [], ◌∷◌, replicate, slice_get, slice_set, is_none, is_some, unwrap_or, Option, Some, None}
+use Rattle.std.specs.Prelude.{ℕ, ◌==◌, ◌&&◌, nat_le, Bool, false, if◌then◌else◌, List, [], ◌∷◌, replicate, slice_get, slice_set, is_none, is_some, unwrap_or, Option, Some, None, option_and_then}
 use Rattle.std.specs.List.{filter_map, list_all}
 use Rattle.std.specs.Option.{option_map_or}
 use Rattle.card_games.specs.Greatest.{one_greatest}
@@ -37,8 +37,7 @@ unsealed seats = replicate seats (Some (record { item = None }))
 
 -- the item of an entry, where it is there and has one
 abbrev pub item_of : {A : Type 0} → Option (Sealed A) → Option A
-item_of None = None
-item_of (Some entry) = entry.item
+item_of entry = option_and_then (λ entry. entry.item) entry
 
 -- a seat may seal once, and only where its entry is there
 abbrev pub may_seal : {A : Type 0} → Option (Option (Sealed A)) → Bool

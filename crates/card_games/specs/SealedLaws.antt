@@ -5,7 +5,7 @@ use Rattle.std.proofs.Common.{◌∙◌, ap, eq-eqb, lit≤, subst}
 use Rattle.std.proofs.Math.Nat.{le_trans}
 use Rattle.std.proofs.lemmas.Bool.{and_parts, false≢true, le-leb}
 use Rattle.std.proofs.lemmas.List.{length-replicate, length-set}
-use Rattle.card_games.specs.Greatest.{count_greatest, first_greatest, one_greatest, won_by}
+use Rattle.card_games.specs.Greatest.{count_greatest, first_greatest, one_greatest}
 use Rattle.card_games.specs.Json.{lone_value, option_value, own_option, own_split, read_lone, read_option}
 use Rattle.card_games.specs.OwnLaws.{all_copies, all_set, either_keeps, move_own, of_parts, parts_of}
 use Rattle.card_games.specs.PartLaws.{IsNeverNull, IsPart, both_true, lone_part, option_part, wrapped_part}
@@ -22,6 +22,7 @@ use Rattle.serde_json.specs.Data.{Data, member, no_members}
 use Rattle.serde_json.specs.Find.{get_member}
 use Rattle.std.proofs.lemmas.Bool.{ltb-true}
 use Rattle.json_tree.proofs.WritableRows.{all_rise}
+use Rattle.std.specs.Option.{option_map_or}
 
 -- ---- reading
 
@@ -123,7 +124,7 @@ if_fits : (seat : ℕ) (small : Bool) → nat_lt seat 16 ≡ small → OutcomeFi
 if_fits seat true is = ltb-true seat 16 is
 if_fits seat false is = tt
 
-won_fits : (o : Option ℕ) → OutcomeFits (won_by o)
+won_fits : (o : Option ℕ) → OutcomeFits (option_map_or (λ seat. if nat_lt seat 16 then Winner seat else Draw) o Draw)
 won_fits None = tt
 won_fits (Some seat) = if_fits seat (nat_lt seat 16) refl
 
@@ -133,7 +134,7 @@ one_fits false one fits = tt
 
 -- whoever has the greatest is one of sixteen seats
 pub greatest_fits : {A : Type 0} (worth : A → ℕ) (items : List A) → OutcomeFits (one_greatest worth items)
-greatest_fits worth items = one_fits (count_greatest worth items == 1) (won_by (first_greatest worth items)) (won_fits (first_greatest worth items))
+greatest_fits worth items = one_fits (count_greatest worth items == 1) (option_map_or (λ seat. if nat_lt seat 16 then Winner seat else Draw) (first_greatest worth items) Draw) (won_fits (first_greatest worth items))
 
 if_ends : (test : Bool) (one outcome : Outcome) → OutcomeFits one → (if test then Some one else None) ≡ Some outcome → OutcomeFits outcome
 if_ends true one outcome fits is = let same : IfSome (Some outcome) OutcomeFits = subst (λ o. IfSome o OutcomeFits) is fits in same

@@ -46,26 +46,19 @@ leave_in d = option_and_then (λ seat. option_map (λ key. change.Leave seat key
 abbrev pub act_in : Data → Found
 act_in d = option_and_then (λ seat. option_map (λ asked. change.Act seat asked) (option_and_then asked_in (get (codes "act") d))) (small_under (codes "seat") d)
 
-abbrev pub change_as : List ℕ → Data → Found
-change_as kind d =
+unfoldable pub change_in : Data → Found
+change_in d = option_and_then (λ kind.
     if bytes_eq kind (codes "act") then act_in d
     else if bytes_eq kind (codes "create") then create_in d
     else if bytes_eq kind (codes "join") then join_in d
     else if bytes_eq kind (codes "rename") then rename_in d
     else if bytes_eq kind (codes "leave") then leave_in d
     else if bytes_eq kind (codes "clear") then Some change.Clear
-    else None
-
-unfoldable pub change_in : Data → Found
-change_in d = option_and_then (λ kind. change_as kind d) (text_under (codes "kind") d)
+    else None) (text_under (codes "kind") d)
 
 -- a change is what is read where its text is the one that was read
-abbrev pub if_text_of : List ℕ → Found → Found
-if_text_of text None = None
-if_text_of text (Some c) = if bytes_eq (payload any_rules c) text then Some c else None
-
 abbrev pub change_of_line : List ℕ → Result Members LineFault → Found
-change_of_line text (Ok ms) = if_text_of text (change_in (object ms))
+change_of_line text (Ok ms) = option_and_then (λ c. if bytes_eq (payload any_rules c) text then Some c else None) (change_in (object ms))
 change_of_line text (Err fault) = None
 
 unfoldable pub change_read : List ℕ → Found

@@ -13,13 +13,14 @@ use Rattle.wire_json.specs.declared.reason.Reason.{Reason}
 use Rattle.wire_json.specs.declared.server.ServerMsg.{ServerMsg}
 use Rattle.wire_json.specs.declared.server.ServerMsg.TheVariants as message
 use Rattle.client_predict.specs.Client.{Client, Held, Playing, shown_in}
-use Rattle.client_predict.specs.Reading.{Heard, begun, change_by, change_in, changed, ended, hears, hears_line, has_ticket, goes_on, in_step, settled_by, settles, Hears, lost, reads, synced, patched_by, taken, taken_if, unless_gone, updated, verdict, verdict_at}
+use Rattle.client_predict.specs.Reading.{Heard, begun, change_by, change_in, changed, ended, hears, hears_line, has_ticket, goes_on, in_step, settled_by, settles, Hears, lost, reads, synced, patched_by, taken, unless_gone, updated, verdict, answered}
 use Rattle.client_predict.specs.Rollback.{IsRolledBack}
 use Rattle.client_predict.specs.declared.change.Change.{Change}
 use Rattle.client_predict.specs.declared.told.FeedNo.{FeedNo}
 use Rattle.client_predict.specs.declared.told.FeedNo.TheVariants as no
 use Rattle.client_predict.specs.declared.told.Told.{Told}
 use Rattle.client_predict.specs.declared.told.Told.TheVariants.{Accepted, Refused, Again, Updated}
+use Rattle.std.specs.Option.{option_map_or}
 
 -- where the answer isn't a refusal, it is the definition's
 pub told_as : {X G : Type 0} (old new : Held X G) (result : Result Told FeedNo) (heard : Heard G) (told : Told) → result ≡ Ok told → Hears old result new heard → (Ok told ≡ heard.told) × (new.client ≡ heard.client)
@@ -36,7 +37,7 @@ module _ {G : Type 0} (rules : Rules G) (ticket : ℕ) (reason : Reason) where
   unless true c heard r = λ e. cc
   unless false c heard r = r
 
-  at_place : (c : Client G) (p : Playing G) (o : Option ℕ) (t : ℕ) (told : Told) → c.playing ≡ Some p → position (has_ticket t) p.waiting ≡ o → (told ≡ Refused ticket reason → t ≡ ticket) → Rolls c (verdict_at c p o t told)
+  at_place : (c : Client G) (p : Playing G) (o : Option ℕ) (t : ℕ) (told : Told) → c.playing ≡ Some p → position (has_ticket t) p.waiting ≡ o → (told ≡ Refused ticket reason → t ≡ ticket) → Rolls c (option_map_or (λ place. goes_on c told (answered p place)) o (lost c (no.UnknownTicket t)))
   at_place c p None t told is found same = λ e. cc
   at_place c p (Some place) t told is found same = λ e.
       let said : told ≡ Refused ticket reason = cc in
@@ -66,7 +67,7 @@ module _ {G : Type 0} (rules : Rules G) (ticket : ℕ) (reason : Reason) where
   updates c o None n = λ e. cc
   updates c o (Some change) n = stepping c o n (taken c o change n) (takes c o change n)
 
-  takes_if : (c : Client G) (o : Option (Playing G)) (q : Option (Change G)) (n : ℕ) → Rolls c (taken_if c o q n)
+  takes_if : (c : Client G) (o : Option (Playing G)) (q : Option (Change G)) (n : ℕ) → Rolls c (option_map_or (λ change. taken c o change n) q (lost c no.BadLine))
   takes_if c o None n = λ e. cc
   takes_if c o (Some change) n = takes c o change n
 

@@ -8,16 +8,17 @@ use Rattle.game_sheet.specs.declared.ctx.Ctx.{Ctx}
 use Rattle.game_trait.specs.Rules.{Rules}
 use Rattle.move_log.specs.declared.entry.Entry.{Entry}
 use Rattle.player_sight.specs.declared.shown.Snapshot.{Snapshot}
-use Rattle.wire_json.specs.Resolve.{act_of}
+use Rattle.wire_json.specs.Resolve.{act_of, ignores_number}
 use Rattle.client_predict.specs.Acting.{predicted}
 use Rattle.client_predict.specs.Prediction.{guessed, one_further}
-use Rattle.client_predict.specs.Shown.{counts_on, on_any_number, or_stay, shown, taken_on}
+use Rattle.client_predict.specs.Shown.{counts_on, shown, taken_on}
 use Rattle.client_predict.specs.Stack.{after, ahead, guess_of, guesses, tried}
 use Rattle.client_predict.specs.declared.guess.Guess.{Guess}
 use Rattle.client_predict.specs.declared.waiting.Waiting.{Waiting}
+use Rattle.std.specs.Prelude.{unwrap_or}
 
 one : {G : Type 0} (s : Snapshot G) (counts : Bool) (guess : Option G)
-    → ahead s (if counts then option_map (guess_of s) guess else None) ≡ (if counts then or_stay s (option_map (one_further s) guess) else s)
+    → ahead s (if counts then option_map (guess_of s) guess else None) ≡ (if counts then unwrap_or (option_map (one_further s) guess) s else s)
 one s true (Some g) = refl
 one s true None = refl
 one s false guess = refl
@@ -76,7 +77,7 @@ module _ {G : Type 0} (rules : Rules G) (seat : Option ℕ) where
       → guesses rules seat s (ws ++ w ∷ []) ≡ guesses rules seat s ws ++ option_map (guess_of (after s (guesses rules seat s ws))) (guessed rules (after s (guesses rules seat s ws)) seat w.asked) ∷ []
   waits_too s ws w same =
       let t = after s (guesses rules seat s ws) in
-      more s ws (w ∷ []) ∙ ap (λ g. guesses rules seat s ws ++ g ∷ []) (chosen w.number t.number (on_any_number rules.sheet (act_of rules.sheet w.asked)) (option_map (guess_of t) (guessed rules t seat w.asked)) same)
+      more s ws (w ∷ []) ∙ ap (λ g. guesses rules seat s ws ++ g ∷ []) (chosen w.number t.number (ignores_number rules.sheet (act_of rules.sheet w.asked)) (option_map (guess_of t) (guessed rules t seat w.asked)) same)
 
   skipped : (s : Snapshot G) (w : Waiting) (ws : List Waiting) → tried rules seat s w ≡ None → guesses rules seat (ahead s (tried rules seat s w)) ws ≡ guesses rules seat s ws
   skipped s w ws none = ap (λ g. guesses rules seat (ahead s g) ws) none

@@ -13,18 +13,16 @@ use Rattle.client_predict.specs.declared.told.ActNo.TheVariants as no
 use Rattle.client_predict.specs.declared.told.Predicted.{Predicted}
 use Rattle.client_predict.specs.declared.told.Predicted.TheVariants.{Guessed, Sent}
 use Rattle.client_predict.specs.declared.waiting.Waiting.{Waiting}
+use Rattle.std.specs.Option.{option_map_or}
 
 -- at most so many actions wait
 abbrev pub most_waiting : ℕ
 most_waiting = 32
 
-abbrev pub act_no_on : Bool → ℕ → Option ActNo
-act_no_on gone waiting = if gone then Some no.Gone else if waiting == most_waiting then Some no.TooManyWaiting else None
-
 -- why the client makes no action, but for want of memory
 abbrev pub act_no : {G : Type 0} → Bool → Option (Playing G) → Option ActNo
 act_no gone None = Some no.NotSynced
-act_no gone (Some p) = act_no_on gone (length p.waiting)
+act_no gone (Some p) = if gone then Some no.Gone else if length p.waiting == most_waiting then Some no.TooManyWaiting else None
 
 -- the key of the line: the client's own, where it has one and the last sync gave a seat
 abbrev pub line_key : Option (List ℕ) → Option ℕ → List ℕ
@@ -35,8 +33,7 @@ abbrev pub next_ticket : ℕ → ℕ
 next_ticket ticket = if ticket == 4294967295 then 1 else ticket + 1
 
 abbrev pub predicted : {S : Type 0} → Option S → Predicted
-predicted None = Sent
-predicted (Some s) = Guessed
+predicted guess = option_map_or (λ s. Guessed) guess Sent
 
 abbrev pub waits_for : {G : Type 0} → Rules G → Playing G → Asked → Waiting
 waits_for rules p asked = record { ticket = p.ticket; number = (shown_of rules p).number; asked = asked }
@@ -67,7 +64,7 @@ with_act rules p asked = record {
 pub record IsActed {X G : Type 0} (rules : Rules G) (old : Held X G) (asked : Asked) (line : List ℕ) (told : Predicted) (new : Held X G) : Type 0 where
   pub p : Playing G
   pub playing : old.client.playing ≡ Some p
-  pub may : act_no_on old.client.gone (length p.waiting) ≡ None
+  pub may : act_no old.client.gone (Some p) ≡ None
   pub sent : line ≡ client_text (Act (submitted rules old.key p asked))
   pub guessed : told ≡ act_told rules p asked
   pub waits : new ≡ record { game = old.game; key = old.key; client = record { gone = old.client.gone; playing = Some (with_act rules p asked) } }

@@ -1,5 +1,5 @@
 -- What a client comes to that makes no act and reads lines in order, passing over those that are verdicts and direct answers.
-use Rattle.std.specs.Prelude.{ℕ, List, [], ◌∷◌, Bool, true, false, if◌then◌else◌, Result, Ok, Err}
+use Rattle.std.specs.Prelude.{ℕ, List, Bool, true, false, Result, Ok, Err, filter, fold}
 use Rattle.std.specs.List.{list_any}
 use Rattle.client_predict.specs.Client.{Client, fresh}
 use Rattle.client_predict.specs.Reading.{reads}
@@ -23,13 +23,11 @@ is_told (Ok m) = tells m
 is_told (Err fault) = true
 
 abbrev pub told_lines : List (List ℕ) → List (List ℕ)
-told_lines [] = []
-told_lines (line ∷ lines) = if is_told (server_read line) then line ∷ told_lines lines else told_lines lines
+told_lines lines = filter (λ line. is_told (server_read line)) lines
 
 -- the lines are read in order
 abbrev pub reads_all : {G : Type 0} → Rules G → Client G → List (List ℕ) → Client G
-reads_all rules c [] = c
-reads_all rules c (line ∷ lines) = reads_all rules (reads rules c line).client lines
+reads_all rules c lines = fold (λ c line. (reads rules c line).client) c lines
 
 abbrev pub followed : {G : Type 0} → Rules G → List (List ℕ) → Client G
 followed rules lines = reads_all rules fresh (told_lines lines)

@@ -1,5 +1,5 @@
 -- What a client makes of a line that it reads: what it is told, or why the line is none for it, and what it then has come to.
-use Rattle.std.specs.Prelude.{◌≡◌, MatchBool, ℕ, ◌+◌, ◌==◌, List, [], ◌∷◌, ◌++◌, Bool, true, false, if◌then◌else◌, position, Option, Some, None, Result, Ok, Err}
+use Rattle.std.specs.Prelude.{◌≡◌, MatchBool, ℕ, ◌+◌, ◌==◌, List, [], ◌∷◌, ◌++◌, Bool, true, false, if◌then◌else◌, position, Option, Some, None, Result, Ok, Err, option_and_then}
 use Rattle.std.specs.List.{remove}
 use Rattle.game_sheet.specs.MatchName.{Name}
 use Rattle.game_trait.specs.Rules.{Rules}
@@ -23,6 +23,7 @@ use Rattle.client_predict.specs.declared.told.FeedNo.TheVariants as no
 use Rattle.client_predict.specs.declared.told.Told.{Told}
 use Rattle.client_predict.specs.declared.told.Told.TheVariants.{Synced, Updated, Accepted, Refused, Again, Ended, Other}
 use Rattle.client_predict.specs.declared.waiting.Waiting.{Waiting}
+use Rattle.std.specs.Option.{option_map_or}
 
 -- what a line comes to
 pub record Heard (G : Type 0) : Type 0 where
@@ -58,8 +59,7 @@ synced c name seat (Some s) = record { told = Ok Synced; client = record { gone 
 
 -- what a line shows of it; nothing where a part is in no form of the game
 abbrev pub change_in : {G : Type 0} → Rules G → Data → Data → Data → Option (Change G)
-change_in rules ctx entry g =
-    ctx_in rules.sheet ctx >>= λ c.
+change_in rules ctx entry g = ctx_in rules.sheet ctx >>= λ c.
     entry_in rules.sheet entry >>= λ e.
     rules.read g >>= λ s.
     Some (record { ctx = c; entry = e; g = s })
@@ -77,37 +77,28 @@ in_step c None number heard = lost c no.BadLine
 in_step c (Some p) number heard = if number == p.settled.number + 1 then heard else lost c (no.OutOfStep p.settled.number number)
 
 abbrev pub taken : {G : Type 0} → Client G → Option (Playing G) → Change G → ℕ → Heard G
-taken c None change number = lost c no.BadLine
-taken c (Some p) change number = goes_on c Updated (settles p (settled_by p.settled change number))
+taken c playing change number = option_map_or (λ p. goes_on c Updated (settles p (settled_by p.settled change number))) playing (lost c no.BadLine)
 
 -- an update: all its parts are read before its number is looked at
 abbrev pub updated : {G : Type 0} → Client G → Option (Playing G) → Option (Change G) → ℕ → Heard G
-updated c playing None number = lost c no.BadLine
-updated c playing (Some change) number = in_step c playing number (taken c playing change number)
+updated c playing made number = option_map_or (λ change. in_step c playing number (taken c playing change number)) made (lost c no.BadLine)
 
 -- a change: the context and the state are those whose values are the settled ones', changed as the line says
 abbrev pub change_onto : {G : Type 0} → Rules G → Snapshot G → Entry → Data → Data → Data → Option (Change G)
-change_onto rules s entry ctx gone put =
-    ctx_in rules.sheet (patched (ctx_data rules.sheet s.ctx) (array no_items) ctx) >>= λ c.
+change_onto rules s entry ctx gone put = ctx_in rules.sheet (patched (ctx_data rules.sheet s.ctx) (array no_items) ctx) >>= λ c.
     rules.read (patched (rules.value s.g) gone put) >>= λ g.
     Some (record { ctx = c; entry = entry; g = g })
 
-abbrev pub taken_if : {G : Type 0} → Client G → Option (Playing G) → Option (Change G) → ℕ → Heard G
-taken_if c playing None number = lost c no.BadLine
-taken_if c playing (Some change) number = taken c playing change number
-
 abbrev pub change_by : {G : Type 0} → Rules G → Option (Playing G) → Entry → Data → Data → Data → Option (Change G)
-change_by rules None entry ctx gone put = None
-change_by rules (Some p) entry ctx gone put = change_onto rules p.settled entry ctx gone put
+change_by rules playing entry ctx gone put = option_and_then (λ p. change_onto rules p.settled entry ctx gone put) playing
 
 abbrev pub patched_by : {G : Type 0} → Rules G → Client G → Option (Playing G) → Entry → Data → Data → Data → ℕ → Heard G
-patched_by rules c playing entry ctx gone put number = taken_if c playing (change_by rules playing entry ctx gone put) number
+patched_by rules c playing entry ctx gone put number = option_map_or (λ change. taken c playing change number) (change_by rules playing entry ctx gone put) (lost c no.BadLine)
 
 -- only its entry is read before its number is looked at
 abbrev pub changed : {G : Type 0} → Rules G → Client G → Option (Playing G) → Option Entry → Data → Data → Data → ℕ → Heard G
 changed rules c playing None ctx gone put number = lost c no.BadLine
-changed rules c playing (Some entry) ctx gone put number =
-    in_step c playing number (patched_by rules c playing entry ctx gone put number)
+changed rules c playing (Some entry) ctx gone put number = in_step c playing number (patched_by rules c playing entry ctx gone put number)
 
 -- ---- a verdict
 
@@ -118,20 +109,15 @@ has_ticket ticket w = w.ticket == ticket
 abbrev pub answered : {G : Type 0} → Playing G → ℕ → Playing G
 answered p place = record { name = p.name; seat = p.seat; settled = p.settled; waiting = remove p.waiting place; ticket = p.ticket }
 
-abbrev pub verdict_at : {G : Type 0} → Client G → Playing G → Option ℕ → ℕ → Told → Heard G
-verdict_at c p None ticket told = lost c (no.UnknownTicket ticket)
-verdict_at c p (Some place) ticket told = goes_on c told (answered p place)
-
 -- the oldest waiting action that has the ticket waits no more
 abbrev pub verdict : {G : Type 0} → Client G → Option (Playing G) → ℕ → Told → Heard G
 verdict c None ticket told = lost c (no.UnknownTicket ticket)
-verdict c (Some p) ticket told = verdict_at c p (position (has_ticket ticket) p.waiting) ticket told
+verdict c (Some p) ticket told = option_map_or (λ place. goes_on c told (answered p place)) (position (has_ticket ticket) p.waiting) (lost c (no.UnknownTicket ticket))
 
 -- ---- any line
 
 abbrev pub again : {G : Type 0} → Client G → Option ℕ → Heard G
-again c None = only_told c (Again None)
-again c (Some ticket) = verdict c c.playing ticket (Again (Some ticket))
+again c ticket = option_map_or (λ ticket. verdict c c.playing ticket (Again (Some ticket))) ticket (only_told c (Again None))
 
 abbrev pub unless_gone : {G : Type 0} → Client G → Heard G → Heard G
 unless_gone c heard = if c.gone then lost c no.Gone else heard
@@ -140,8 +126,7 @@ unless_gone c heard = if c.gone then lost c no.Gone else heard
 abbrev pub hears : {G : Type 0} → Rules G → Client G → ServerMsg → Heard G
 hears rules c (message.Sync name seat protocol snapshot) = synced c name seat (snapshot_in rules snapshot)
 hears rules c (message.Update ctx entry g number) = unless_gone c (updated c c.playing (change_in rules ctx entry g) number)
-hears rules c (message.Change ctx entry gone put number) =
-    unless_gone c (changed rules c c.playing (entry_in rules.sheet entry) ctx gone put number)
+hears rules c (message.Change ctx entry gone put number) = unless_gone c (changed rules c c.playing (entry_in rules.sheet entry) ctx gone put number)
 hears rules c (message.Ok number ticket) = unless_gone c (verdict c c.playing ticket (Accepted ticket))
 hears rules c (message.No number reason ticket) = unless_gone c (verdict c c.playing ticket (Refused ticket reason))
 hears rules c (message.Again ticket) = unless_gone c (again c ticket)

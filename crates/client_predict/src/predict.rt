@@ -4,10 +4,10 @@ ghost use Rattle.std.specs.Prelude.{◌≡◌, ◌==◌, ◌<◌, ◌++◌, [], 
 ghost use Rattle.std.specs.List.{list_any};
 ghost use Rattle.std.specs.Option.{option_copied};
 ghost use Rattle.game_sheet.specs.SheetFits.{SheetFits};
-ghost use Rattle.wire_json.specs.Resolve.{act_of};
+ghost use Rattle.wire_json.specs.Resolve.{act_of, ignores_number};
 ghost use Rattle.player_sight.specs.declared.shown.Snapshot.{Snapshot};
 ghost use Rattle.client_predict.specs.Prediction.{guessed, guessed_act, last_number, made, may_guess, runs_on_client};
-ghost use Rattle.client_predict.specs.Shown.{counts_on, on_any_number};
+ghost use Rattle.client_predict.specs.Shown.{counts_on};
 ghost use Rattle.client_predict.specs.Stack.{after, ahead, guess_of, guesses, snapshot_of, tried};
 
 use crate::guess::Guess;
@@ -53,7 +53,7 @@ fn may_guess<G>(sheet: &Sheet, s: &Shown<'_, G>, seat: Seat, id: MoveId) -> bool
 /// Whether the action is taken on any state number.
 fn is_on_any_number(sheet: &Sheet, asked: &Asked) -> bool
     requires { SheetFits sheet.now }
-    ensures { result ≡ on_any_number sheet.now (act_of sheet.now asked.now) }
+    ensures { result ≡ ignores_number sheet.now (act_of sheet.now asked.now) }
 {
     let act = resolve(sheet, asked);
     match &act {

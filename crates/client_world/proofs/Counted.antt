@@ -1,6 +1,6 @@
 -- What each step of a world comes to where it is served, and what it counts.
 use Rattle.std.proofs.Common.{◌≡◌, ◌++◌, ◌+◌, ℕ, Bool, true, false, List, [], ◌∷◌, Option, Some, None, codes, decimal, refl, sym, ap, subst, ◌∙◌}
-use Rattle.std.specs.Prelude.{Result, Ok, Err, bytes_eq}
+use Rattle.std.specs.Prelude.{Result, Ok, Err, bytes_eq, is_some}
 use Rattle.std.proofs.lemmas.List.{append_cancel_left, append_cancel_right}
 use Rattle.any_game.specs.AnyRules.{any_rules, named}
 use Rattle.any_game.specs.GameKind.{GameKind}
@@ -22,7 +22,7 @@ use Rattle.hall_history.specs.Freeing.{frees}
 use Rattle.hall_history.specs.Hall.{after_line}
 use Rattle.hall_history.specs.Mark.{Mark, Served}
 use Rattle.world_history.specs.Words.{act_no_word, heard_word, of_client, predicted_word}
-use Rattle.world_history.specs.Workload.{is_held, is_read, is_some_no}
+use Rattle.world_history.specs.Workload.{is_held, is_read}
 use Rattle.world_history.specs.World.{World, with_hall}
 use Rattle.world_history.specs.WorldScript.{acts, acts_in, arrived, arrives, has_starved, prints_word, reads_in, takes}
 use Rattle.room_history.specs.declared.call.RoomCall.TheVariants as call
@@ -88,7 +88,7 @@ module _ (w : World GameKind AnyG) (c : ℕ) (asked : Asked) where
   text_by starved o = (acts any_rules starved w c o asked).1
 
   made_in : (held : Held GameKind AnyG) (unmade : Option ActNo) (told : Predicted) → (acts_in any_rules w c held held.client.playing asked unmade).1 ≡ of_client c (predicted_word told)
-      → is_some_no unmade ≡ false
+      → is_some unmade ≡ false
   made_in held None told e = refl
   made_in held (Some unmade) told e = absurd (made_not_held told unmade (same_word c _ _ e))
 
@@ -99,11 +99,11 @@ module _ (w : World GameKind AnyG) (c : ℕ) (asked : Asked) where
   made_by false (Some held) told e = (refl, made_in held (act_no held.client.gone held.client.playing) told e)
 
   no_in : (held : Held GameKind AnyG) (playing : Option (Playing AnyG)) (unmade : ActNo) → (acts_in any_rules w c held playing asked (act_no held.client.gone playing)).1 ≡ of_client c (act_no_word unmade)
-      → is_some_no (act_no held.client.gone playing) ≡ true
+      → is_some (act_no held.client.gone playing) ≡ true
   no_in held None unmade e = refl
   no_in held (Some p) unmade e = by (act_no held.client.gone (Some p)) e
     where
-      by : (q : Option ActNo) → (acts_in any_rules w c held (Some p) asked q).1 ≡ of_client c (act_no_word unmade) → is_some_no q ≡ true
+      by : (q : Option ActNo) → (acts_in any_rules w c held (Some p) asked q).1 ≡ of_client c (act_no_word unmade) → is_some q ≡ true
       by (Some q) f = refl
       by None f = absurd (made_not_held _ unmade (sym (same_word c _ _ f)))
 

@@ -1,10 +1,10 @@
 -- What one client comes to by itself is what the world's definitions make of it.
-use Rattle.std.proofs.Common.{◌≡◌, ◌++◌, ◌⊎◌, inl, inr, ℕ, false, List, [], ◌∷◌, length, set, Option, Some, None, codes, refl, sym, ap, subst, ◌∙◌}
+use Rattle.std.proofs.Common.{◌≡◌, ◌++◌, ◌⊎◌, inl, inr, ℕ, false, List, [], ◌∷◌, set, Option, Some, None, codes, refl, sym, ap, subst, ◌∙◌}
 use Rattle.std.specs.Prelude.{Result, Ok, Err, MatchBool, IfSome, IfNone, option_map}
 use Rattle.any_game.specs.AnyRules.{any_rules}
 use Rattle.any_game.specs.GameKind.{GameKind}
 use Rattle.any_game.specs.declared.any_g.AnyG.{AnyG}
-use Rattle.client_predict.specs.Acting.{act_no, act_no_on, act_told}
+use Rattle.client_predict.specs.Acting.{act_no, act_told}
 use Rattle.client_predict.specs.Client.{Held, Playing}
 use Rattle.client_predict.specs.Reading.{is_starved, reads}
 use Rattle.client_predict.specs.declared.told.ActNo.{ActNo}
@@ -15,7 +15,7 @@ use Rattle.client_predict.specs.declared.told.Told.{Told}
 use Rattle.hall_history.specs.Mark.{Mark, Served, Unread}
 use Rattle.world_history.specs.Words.{act_no_word, heard_word, of_client, predicted_word}
 use Rattle.world_history.specs.World.{World, with_client, with_down, with_up}
-use Rattle.world_history.specs.WorldScript.{act_line, acts, acts_in, has_starved, heard_by, prints_word, reads_in, with_action}
+use Rattle.world_history.specs.WorldScript.{act_line, acts, acts_in, has_starved, prints_word, reads_in, with_action}
 use Rattle.wire_json.specs.declared.asked.Asked.{Asked}
 use Rattle.client_world.specs.Outcomes.{Acted, HasActed, HasHeard, HasRead, MakesNone, PeerActs, PeerReads, ReadsNext, PopsUp, reads_next}
 use Rattle.client_world.specs.Peers.{ArePeers, peer_of}
@@ -25,7 +25,7 @@ use Rattle.client_world.proofs.Peering.{down_put, links_put, player_down_put, pl
 module _ (w : World GameKind AnyG) (c : ℕ) (peers : List Peer) (are : ArePeers peers w) where
   -- ---- an action
 
-  acts_as : (asked : Asked) (held : Held GameKind AnyG) (p : Playing AnyG) → w.clients c ≡ Some held → held.client.playing ≡ Some p → act_no_on held.client.gone (length p.waiting) ≡ None
+  acts_as : (asked : Asked) (held : Held GameKind AnyG) (p : Playing AnyG) → w.clients c ≡ Some held → held.client.playing ≡ Some p → act_no held.client.gone (Some p) ≡ None
       → acts any_rules false w c (w.clients c) asked
       ≡ prints_word (with_up (with_client w c (with_action any_rules held p asked)) c (w.up c ++ act_line any_rules held p asked ∷ [])) c (predicted_word (act_told (any_rules held.game) p asked))
   acts_as asked held p there playing may =
@@ -85,7 +85,7 @@ module _ (w : World GameKind AnyG) (c : ℕ) (peers : List Peer) (are : ArePeers
       let both = subst (λ b. MatchBool b (h.after ≡ held) ((told ≡ heard.told) × (h.after ≡ after))) fed h.hears in
       let with_player : Held GameKind AnyG → Peer = λ a. record { player = Some a; up = w.up c; down = h.rest } in
       let is = h.is ∙ ap with_player both.1 in
-      let done : reads_next w c ≡ heard_by w c held h.rest heard = ap (λ o. reads_in any_rules w c o (w.down c)) h.there ∙ ap (reads_in any_rules w c (Some held)) h.waits in
+      let done : reads_next w c ≡ prints_word (with_down (with_client w c after) c h.rest) c (heard_word heard.told) = ap (λ o. reads_in any_rules w c o (w.down c)) h.there ∙ ap (reads_in any_rules w c (Some held)) h.waits in
       record {
         peers = subst (λ d. ArePeers (set peers c q) d.0) (sym done) (subst (λ x. ArePeers (set peers c x) (with_down (with_client w c after) c h.rest)) (sym is) (player_down_put w c peers are after h.rest));
         word = ap (λ d. d.1) done ∙ ap (λ t. of_client c (heard_word t)) (sym both.0);

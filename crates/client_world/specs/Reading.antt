@@ -20,6 +20,7 @@ use Rattle.wire_json.specs.declared.asked.AskedTo.TheVariants.{Name as Named}
 use Rattle.wire_json.specs.declared.protocol.Protocol.{Protocol}
 use Rattle.wire_json.specs.declared.protocol.Protocol.TheVariants.{One, Two}
 use Rattle.world_history.specs.World.{Step, Nothing, Seeds, Opens, Attaches, Acts, Arrives, Takes, Reads, Drops, Leaves, Shows}
+use Rattle.std.specs.Option.{option_map_or}
 
 abbrev pub is_blank : ℕ → Bool
 is_blank b = b == 32
@@ -44,47 +45,30 @@ looker_in word = if bytes_eq word (codes "-") then Some None else option_map Som
 -- ---- an open: a game that there is, and a number of seats that it allows
 
 unfoldable pub is_played : ℕ → Option GameKind → Bool
-is_played seats None = false
-is_played seats (Some kind) = seats_fit (any_rules kind).sheet seats
+is_played seats named = option_map_or (λ kind. seats_fit (any_rules kind).sheet seats) named false
 
 abbrev pub opening_of : List ℕ → ℕ → Option (Step GameKind)
 opening_of game seats = if is_played seats (named game) then Some (Opens game seats) else None
 
-abbrev pub opening_by : List ℕ × List ℕ → Option (Step GameKind)
-opening_by p = option_and_then (opening_of p.0) (seat_in p.1)
-
 abbrev pub opening : List ℕ → Option (Step GameKind)
-opening rest = option_and_then opening_by (cut rest)
+opening rest = option_and_then (λ p. option_and_then (opening_of p.0) (seat_in p.1)) (cut rest)
 
 -- ---- an attach: a client, its game, the match, who looks, and 2 behind it for the second protocol
 
 abbrev pub looking_in : Protocol → List ℕ → Option (Option ℕ × Protocol)
 looking_in protocol word = option_map (λ seat. (seat, protocol)) (looker_in word)
 
-abbrev pub looking_by : List ℕ → Option (List ℕ × List ℕ) → Option (Option ℕ × Protocol)
-looking_by rest None = looking_in One rest
-looking_by rest (Some p) = if bytes_eq p.1 (codes "2") then looking_in Two p.0 else None
-
 abbrev pub looking : List ℕ → Option (Option ℕ × Protocol)
-looking rest = looking_by rest (cut rest)
-
-abbrev pub claim_by : List ℕ × List ℕ → Option (Name × Option ℕ × Protocol)
-claim_by p = option_and_then (λ name. option_map (λ l. (name, l.0, l.1)) (looking p.1)) (match_from p.0)
+looking rest = option_map_or (λ p. if bytes_eq p.1 (codes "2") then looking_in Two p.0 else None) (cut rest) (looking_in One rest)
 
 abbrev pub claim_in : List ℕ → Option (Name × Option ℕ × Protocol)
-claim_in rest = option_and_then claim_by (cut rest)
-
-abbrev pub attaching_of : ℕ → Name × Option ℕ × Protocol → Option GameKind → Option (Step GameKind)
-attaching_of client claim game = option_map (λ kind. Attaches client kind claim.0 claim.1 claim.2) game
+claim_in rest = option_and_then (λ p. option_and_then (λ name. option_map (λ l. (name, l.0, l.1)) (looking p.1)) (match_from p.0)) (cut rest)
 
 abbrev pub attaching_as : ℕ → List ℕ × List ℕ → Option (Step GameKind)
-attaching_as client p = option_and_then (λ claim. attaching_of client claim (named p.0)) (claim_in p.1)
-
-abbrev pub attaching_by : List ℕ × List ℕ → Option (Step GameKind)
-attaching_by p = option_and_then (λ client. option_and_then (attaching_as client) (cut p.1)) (client_in p.0)
+attaching_as client p = option_and_then (λ claim. option_map (λ kind. Attaches client kind claim.0 claim.1 claim.2) (named p.0)) (claim_in p.1)
 
 abbrev pub attaching : List ℕ → Option (Step GameKind)
-attaching rest = option_and_then attaching_by (cut rest)
+attaching rest = option_and_then (λ p. option_and_then (λ client. option_and_then (attaching_as client) (cut p.1)) (client_in p.0)) (cut rest)
 
 -- ---- an act: a client, and the act as the member of a client's line has it
 
@@ -108,26 +92,19 @@ asked_by (Err fault) = None
 abbrev pub asked_of : List ℕ → Option Asked
 asked_of text = asked_by (text_read text)
 
-abbrev pub acting_by : List ℕ × List ℕ → Option (Step GameKind)
-acting_by p = option_and_then (λ client. option_map (Acts client) (asked_of p.1)) (client_in p.0)
-
 abbrev pub acting : List ℕ → Option (Step GameKind)
-acting rest = option_and_then acting_by (cut rest)
+acting rest = option_and_then (λ p. option_and_then (λ client. option_map (Acts client) (asked_of p.1)) (client_in p.0)) (cut rest)
 
 -- ---- a leaving: a match and a seat
 
-abbrev pub leaving_by : List ℕ × List ℕ → Option (Step GameKind)
-leaving_by p = option_and_then (λ name. option_map (Leaves name) (seat_in p.1)) (match_from p.0)
-
 abbrev pub leaving : List ℕ → Option (Step GameKind)
-leaving rest = option_and_then leaving_by (cut rest)
+leaving rest = option_and_then (λ p. option_and_then (λ name. option_map (Leaves name) (seat_in p.1)) (match_from p.0)) (cut rest)
 
 -- ---- the first word says what a line is
 
 -- what a word asks of a client
 abbrev pub client_step : List ℕ → ℕ → Option (Step GameKind)
-client_step word client =
-    if bytes_eq word (codes "arrive") then Some (Arrives client)
+client_step word client = if bytes_eq word (codes "arrive") then Some (Arrives client)
     else if bytes_eq word (codes "take") then Some (Takes client)
     else if bytes_eq word (codes "read") then Some (Reads client)
     else if bytes_eq word (codes "drop") then Some (Drops client)
@@ -138,8 +115,7 @@ abbrev pub by_client : List ℕ → List ℕ → Option (Step GameKind)
 by_client word rest = option_and_then (client_step word) (client_in rest)
 
 abbrev pub by_word : List ℕ → List ℕ → Option (Step GameKind)
-by_word word rest =
-    if bytes_eq word (codes "open") then opening rest
+by_word word rest = if bytes_eq word (codes "open") then opening rest
     else if bytes_eq word (codes "seed") then option_map Seeds (lower_hex 32 rest)
     else if bytes_eq word (codes "attach") then attaching rest
     else if bytes_eq word (codes "act") then acting rest

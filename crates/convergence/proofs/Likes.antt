@@ -2,7 +2,7 @@
 use Rattle.std.proofs.Common.{◌≡◌, ◌⊎◌, inl, inr, ◌+◌, ◌==◌, ℕ, Bool, true, false, if◌then◌else◌, List, [], ◌∷◌, Option, Some, None, option_map, Ok, Err, refl, sym, ap, ◌∙◌, subst}
 use Rattle.std.specs.Prelude.{Result}
 use Rattle.client_predict.specs.Client.{Client, Playing, settled_in}
-use Rattle.client_predict.specs.Reading.{Heard, again, change_by, change_in, changed, ended, hears, hears_line, in_step, lost, only_told, patched_by, reads, settled_by, synced, taken, taken_if, unless_gone, updated, verdict, verdict_at}
+use Rattle.client_predict.specs.Reading.{Heard, again, change_by, change_in, changed, ended, hears, hears_line, in_step, lost, only_told, patched_by, reads, settled_by, synced, taken, unless_gone, updated, verdict, answered, goes_on}
 use Rattle.client_predict.specs.declared.told.FeedNo.TheVariants as no
 use Rattle.client_predict.specs.declared.told.Told.{Told}
 use Rattle.client_predict.specs.declared.told.Told.TheVariants.{Accepted, Refused, Again, Ended, Other}
@@ -20,6 +20,7 @@ use Rattle.wire_json.specs.declared.server.ServerMsg.{ServerMsg}
 use Rattle.wire_json.specs.declared.server.ServerMsg.TheVariants as message
 use Rattle.convergence.specs.Doing.{Acts, AnswersAll, Doing, Face, IsLike, Knows, KnowsWhere, Reads, acts_in, does_all, face, lines_in, ticket_in, ticket_of}
 use Rattle.client_predict.specs.Following.{is_told, reads_all, tells, told_lines}
+use Rattle.std.specs.Option.{option_map_or}
 
 one : {A : Type 0} (x y : A) → Some x ≡ Some y → x ≡ y
 one x y e = cc
@@ -90,14 +91,14 @@ module _ {G : Type 0} (rules : Rules G) where
   same_change (Some p) (Some q) entry ctx gone put e =
       ap (λ (s : Snapshot G). change_by rules (Some (record { name = p.name; seat = p.seat; settled = s; waiting = p.waiting; ticket = p.ticket })) entry ctx gone put) (ap (λ (f : Face G). f.settled) (one (face p) (face q) e))
 
-  taken_if_alike : (c d : Client G) (o r : Option (Playing G)) (change : _) (n : ℕ) → IsLike c d → option_map face o ≡ option_map face r → IsLike (taken_if c o change n).client (taken_if d r change n).client
+  taken_if_alike : (c d : Client G) (o r : Option (Playing G)) (change : _) (n : ℕ) → IsLike c d → option_map face o ≡ option_map face r → IsLike (option_map_or (λ change. taken c o change n) change (lost c no.BadLine)).client (option_map_or (λ change. taken d r change n) change (lost d no.BadLine)).client
   taken_if_alike c d o r None n l e = record { gone = refl; sees = l.sees }
   taken_if_alike c d o r (Some change) n l e = taken_alike c d o r change n l e
 
   patched_alike : (c d : Client G) (o r : Option (Playing G)) (entry : Entry) (ctx gone put : Data) (n : ℕ) → IsLike c d → option_map face o ≡ option_map face r
       → IsLike (patched_by rules c o entry ctx gone put n).client (patched_by rules d r entry ctx gone put n).client
   patched_alike c d o r entry ctx gone put n l e =
-      subst (λ x. IsLike (patched_by rules c o entry ctx gone put n).client (taken_if d r x n).client) (same_change o r entry ctx gone put e)
+      subst (λ x. IsLike (patched_by rules c o entry ctx gone put n).client (option_map_or (λ change. taken d r change n) x (lost d no.BadLine)).client) (same_change o r entry ctx gone put e)
       (taken_if_alike c d o r (change_by rules o entry ctx gone put) n l e)
 
   changed_alike : (c d : Client G) (o r : Option (Playing G)) (entry : Option Entry) (ctx gone put : Data) (n : ℕ) → IsLike c d → option_map face o ≡ option_map face r
@@ -140,7 +141,7 @@ module _ {G : Type 0} (rules : Rules G) where
   verdict_stays c t told (inl gone) here = absurd (no_both (sym here ∙ gone))
   verdict_stays c t told (inr k) here =
       subst (λ o. IsLike (verdict c o t told).client c) (sym k.playing)
-      (subst (λ o. IsLike (verdict_at c k.p o t told).client c) (sym k.found) (record { gone = refl; sees = sym (ap (option_map face) k.playing) }))
+      (subst (λ o. IsLike (option_map_or (λ place. goes_on c told (answered k.p place)) o (lost c (no.UnknownTicket t))).client c) (sym k.found) (record { gone = refl; sees = sym (ap (option_map face) k.playing) }))
 
   again_stays : (c : Client G) (ticket : Option ℕ) → KnowsWhere c ticket → c.gone ≡ false → IsLike (again c ticket).client c
   again_stays c None k here = like c

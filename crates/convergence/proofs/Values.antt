@@ -23,14 +23,14 @@ use Rattle.json_tree.specs.Writable.{IsWritable, ItemsAreWritable, MembersAreWri
 use Rattle.move_log.specs.declared.entry.Entry.{Entry}
 use Rattle.player_sight.specs.CtxData.{active_data, ctx_data, outcome_data, over_data, with_row}
 use Rattle.player_sight.specs.EntryData.{act_data, entry_data, event_aim, event_data, event_name, move_data}
-use Rattle.player_sight.specs.Parts.{move_name, phase_name, phase_or_null, stage_name, stage_or_null, text_or_null}
+use Rattle.player_sight.specs.Parts.{move_name, phase_name, phase_or_null, stage_name, stage_or_null}
 use Rattle.player_sight.specs.Plain.{ActFits, ActiveFits, EventFits, IsPlainCtx, IsPlainEntry, OverFits, RowsFit}
 use Rattle.player_sight.specs.SnapshotData.{Snap, snapshot_data}
 use Rattle.room_history.specs.Showing.{newest_entry}
 use Rattle.serde_json.specs.Data.{Data, null, array, Members, no_members}
 use Rattle.serde_json.specs.View.{items_of}
 use Rattle.sheet_json.specs.Arguments.{arguments}
-use Rattle.sheet_json.specs.Seats.{IsWithin, natural, natural_or_null}
+use Rattle.sheet_json.specs.Seats.{IsWithin, natural, natural_or_null, text_or_null}
 use Rattle.sheet_json.proofs.ArgumentLaws.{arguments_writable}
 use Rattle.convergence.proofs.Rows.{ascii, fixed, rows_of}
 

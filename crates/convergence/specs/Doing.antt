@@ -1,6 +1,6 @@
 -- What a client comes to that reads lines and makes acts in between, and in what it is like another client: apart from the acts that wait and
 -- the next ticket, in everything.
-use Rattle.std.specs.Prelude.{◌≡◌, ◌⊎◌, ℕ, List, [], ◌∷◌, true, false, position, Option, Some, None, option_map, Result, Ok, Err}
+use Rattle.std.specs.Prelude.{◌≡◌, ◌⊎◌, ℕ, List, [], ◌∷◌, true, false, position, Option, Some, None, option_map, Result, Ok, Err, IfSome}
 use Rattle.client_predict.specs.Acting.{with_act}
 use Rattle.client_predict.specs.Client.{Client, Playing}
 use Rattle.client_predict.specs.Reading.{has_ticket, reads}
@@ -51,8 +51,7 @@ pub record Knows {G : Type 0} (c : Client G) (ticket : ℕ) : Type 0 where
 
 -- a client that is gone takes in no answer
 abbrev pub KnowsWhere : {G : Type 0} → Client G → Option ℕ → Type 0
-KnowsWhere c None = Unit {0}
-KnowsWhere c (Some ticket) = (c.gone ≡ true) ⊎ Knows c ticket
+KnowsWhere c ticket = IfSome ticket (λ ticket. (c.gone ≡ true) ⊎ Knows c ticket)
 
 -- the lines that are read, in order
 abbrev pub lines_in : List Doing → List (List ℕ)

@@ -8,9 +8,10 @@ use Rattle.serde_json.specs.Data.{Data, Items, array, object, member}
 use Rattle.serde_json.specs.Written.{comma_if, compact_text, items_text}
 use Rattle.wire_json.specs.declared.match_row.MatchRow.{MatchRow}
 use Rattle.wire_json.specs.RowText.{row_data, rows_data}
-use Rattle.wire_json.specs.ServerText.{of_type, text}
+use Rattle.wire_json.specs.ServerText.{text}
 use Rattle.wire_json.specs.declared.server.ServerMsg.TheVariants as message
 use Rattle.game_hall.specs.RowLines.{ending}
+use Rattle.wire_json.specs.ClientText.{of_type}
 
 -- the rows with their commas, without brackets
 abbrev pub body : Bool → List MatchRow → List ℕ

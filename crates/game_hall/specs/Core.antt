@@ -16,6 +16,7 @@ use Rattle.game_hall.specs.declared.next.Next.TheVariants.{Calls, Says, Attaches
 use Rattle.game_hall.specs.declared.request.Request.{Request}
 use Rattle.game_hall.specs.declared.request.Request.TheVariants.{Acting}
 use Rattle.game_hall.specs.Requests.{hears, next}
+use Rattle.std.specs.Option.{option_map_or}
 
 pub record Core (X : Type 0) : Type 0 where
   -- the number by which rooms know the session
@@ -58,8 +59,7 @@ module _ {X : Type 0} (named : List ℕ → Option X) where
   heard c read words seed = moved (record c { bench = bench_after c.bench read }) (or_bench c.bench read (hears named c.rooms c.at read words seed))
 
   abbrev pub replied : Core X → Option Request → RoomReply → Core X
-  replied c None told = c
-  replied c (Some request) told = moved c (next named c.rooms request told)
+  replied c awaited told = option_map_or (λ request. moved c (next named c.rooms request told)) awaited c
 
   -- the call was replied to
   abbrev pub answered : Core X → RoomReply → Core X

@@ -21,6 +21,7 @@ use Rattle.game_hall.specs.declared.next.Next.TheVariants.{Calls, Says, Attaches
 use Rattle.game_hall.specs.declared.request.Request.{Request}
 use Rattle.game_hall.specs.declared.request.Request.TheVariants.{Creating, Listing, Looking, Joining, Renaming, Leaving, Syncing, Acting}
 use Rattle.game_hall.specs.Words.{seed_of, key_of}
+use Rattle.std.specs.Option.{option_map_or}
 
 abbrev pub refuses : {X : Type 0} → Refusal → Next X
 refuses why = Says (answer.Refused why)
@@ -109,8 +110,7 @@ abbrev pub after_listing : {X : Type 0} → ℕ → List ℕ → List MatchRow �
 after_listing rooms game rows room told = if is_starved told then Says (answer.Again None) else lists rooms game (with_row game rows told) (room + 1)
 
 abbrev pub makes : {X : Type 0} → Option X → List ℕ → ℕ → List ℕ → ℕ → Next X
-makes None game seats seed room = refuses NoGame
-makes (Some x) game seats seed room = Calls room (call.Create x seats seed) (Creating game seats seed room)
+makes named game seats seed room = option_map_or (λ x. Calls room (call.Create x seats seed) (Creating game seats seed room)) named (refuses NoGame)
 
 -- a room is asked for a call, if it is there
 abbrev pub in_room : {X : Type 0} → ℕ → ℕ → RoomCall X → Request → Next X
@@ -118,17 +118,14 @@ in_room rooms room asked request = if nat_lt room rooms then Calls room asked re
 
 -- an attached session has a stream already
 abbrev pub syncs : {X : Type 0} → ℕ → Option ℕ → ℕ → RoomCall X → Next X
-syncs rooms None room asked = in_room rooms room asked (Syncing room)
-syncs rooms (Some at) room asked = refuses AlreadyAttached
+syncs rooms at room asked = option_map_or (λ at. refuses AlreadyAttached) at (in_room rooms room asked (Syncing room))
 
 -- an act goes to the attached room, whatever match it names
 abbrev pub acts : {X : Type 0} → Option ℕ → RoomCall X → ℕ → Next X
-acts None asked ticket = refuses NotAttached
-acts (Some room) asked ticket = Calls room asked (Acting ticket)
+acts at asked ticket = option_map_or (λ room. Calls room asked (Acting ticket)) at (refuses NotAttached)
 
 abbrev pub lists_of : {X : Type 0} → ℕ → Option X → List ℕ → Next X
-lists_of rooms None game = refuses NoGame
-lists_of rooms (Some x) game = lists rooms game [] 0
+lists_of rooms named game = option_map_or (λ x. lists rooms game [] 0) named (refuses NoGame)
 
 module _ {X : Type 0} (named : List ℕ → Option X) (rooms : ℕ) where
   -- a room is asked for a match, if there is one more

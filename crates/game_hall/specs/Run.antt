@@ -9,12 +9,9 @@ use Rattle.wire_json.specs.declared.match_row.MatchRow.{MatchRow}
 
 -- over anything that replies to calls, such as rooms by their histories, or a list of replies
 module _ {X S : Type 0} (named : List ℕ → Option X) (ask : ℕ → RoomCall X → S → RoomReply × S) where
-  abbrev pub hears_reply : (Core X → S → Core X × S) → Core X → RoomReply × S → Core X × S
-  hears_reply rest c told = rest (answered named (asked c) told.0) told.1
-
   abbrev pub goes_on : (Core X → S → Core X × S) → Option (ℕ × RoomCall X) → Core X → S → Core X × S
   goes_on rest None c s = (c, s)
-  goes_on rest (Some call) c s = hears_reply rest c (ask call.0 call.1 s)
+  goes_on rest (Some call) c s = let told = ask call.0 call.1 s in rest (answered named (asked c) told.0) told.1
 
   -- at most so many calls
   abbrev pub run : ℕ → Core X → S → Core X × S

@@ -1,11 +1,12 @@
 -- The words that a line draws, and what is made of them: a match's seed of eight words, and a key of four, each word least byte first.
-use Rattle.std.specs.Prelude.{ℕ, ◌+◌, List, Option, Some, None, take, drop, Result, Ok, Err}
+use Rattle.std.specs.Prelude.{ℕ, ◌+◌, List, Option, None, take, drop, Result, Ok, Err, unwrap_or}
 use Rattle.std.specs.Int.{w32, to_le_bytes}
 use Rattle.std.specs.List.{flat_map}
 use Rattle.dice_words.specs.Strip.{Strip, begun, place_of}
 use Rattle.wire_json.specs.Refusals.{Refusal}
 use Rattle.wire_json.specs.declared.client.ClientMsg.{ClientMsg}
 use Rattle.wire_json.specs.declared.client.ClientMsg.TheVariants.{Create, Join}
+use Rattle.std.specs.Option.{option_map_or}
 
 -- the bytes of words, each least byte first
 abbrev pub bytes_of_words : List ℕ → List ℕ
@@ -21,15 +22,13 @@ drawn n strip = record strip { used = strip.used + n; left = drop n strip.left }
 
 -- a match's seed is the one that stands ready, else it is made of eight words
 abbrev pub seed_of : Option (List ℕ) → List ℕ → List ℕ
-seed_of None words = bytes_of_words (take 8 words)
-seed_of (Some seed) words = seed
+seed_of given words = unwrap_or given (bytes_of_words (take 8 words))
 
 abbrev pub key_of : List ℕ → List ℕ
 key_of words = bytes_of_words (take 4 words)
 
 abbrev pub seed_words : Option (List ℕ) → ℕ
-seed_words None = 8
-seed_words (Some seed) = 0
+seed_words given = option_map_or (λ seed. 0) given 8
 
 -- how many words a message draws, whatever its answer is then
 abbrev pub words_drawn : ClientMsg → Option (List ℕ) → ℕ

@@ -7,6 +7,7 @@ use Rattle.room_history.specs.declared.reply.RoomReply.{RoomReply}
 use Rattle.room_object.specs.Entry.{entry}
 use Rattle.hall_history.specs.Hall.{Hall, attached_to}
 use Rattle.hall_history.specs.Rooms.{with_entry, reply_in}
+use Rattle.std.specs.Option.{option_map_or}
 
 -- the room that a session attached to this one is attached to after its call and the reply
 abbrev pub room_after : {X : Type 0} → ℕ → RoomCall X → RoomReply → Option ℕ
@@ -20,8 +21,7 @@ freed h pass call room told = (
 
 module _ {X G : Type 0} (rules : X → Rules G) where
   abbrev pub frees_at : Hall X → ℕ → RoomCall X → Option ℕ → Hall X × Option RoomReply
-  frees_at h pass call None = (h, None)
-  frees_at h pass call (Some room) = freed h pass call room (reply_in rules h.rooms room (entry pass call false))
+  frees_at h pass call at = option_map_or (λ room. freed h pass call room (reply_in rules h.rooms room (entry pass call false))) at (h, None)
 
   -- the hall after it, and the room's reply; none where the session isn't attached
   abbrev pub frees : Hall X → ℕ → RoomCall X → Hall X × Option RoomReply

@@ -1,7 +1,7 @@
 -- How a session's line went: it was served, or there was no memory for it. Then either the line wasn't read, or it was read and made so many
 -- calls, of which the last met the want of memory, in its room or at its reply. A mark that asks for more calls than are made, or for a
 -- want of memory where none is taken, is as that of a line that was served.
-use Rattle.std.specs.Prelude.{ℕ, zero, suc, ◌==◌, Bool, true, false, ◌&&◌, if◌then◌else◌, Option, Some, None}
+use Rattle.std.specs.Prelude.{ℕ, zero, suc, ◌==◌, Bool, true, false, ◌&&◌, if◌then◌else◌, Option, option_map}
 use Rattle.game_trait.specs.Rules.{Rules}
 use Rattle.room_history.specs.declared.call.RoomCall.{RoomCall}
 use Rattle.room_history.specs.declared.call.RoomCall.TheVariants.{Join, Rename, Leave, Take, Detach, Clear}
@@ -9,6 +9,7 @@ use Rattle.room_history.specs.declared.reply.RoomReply.{RoomReply}
 use Rattle.room_history.specs.declared.reply.RoomReply.TheVariants.{NoMemory, Busy, Looked}
 use Rattle.room_object.specs.Entry.{Entry, entry}
 use Rattle.hall_history.specs.Rooms.{Rooms, with_entry, reply_in}
+use Rattle.std.specs.Option.{option_map_or}
 
 pub data Mark : Type 0 where
   Served : Mark
@@ -20,20 +21,17 @@ abbrev pub Luck : Type 0
 Luck = Option (ℕ × Bool)
 
 abbrev pub runs_out : Luck → Bool
-runs_out None = false
-runs_out (Some luck) = luck.0 == 1
+runs_out luck = option_map_or (λ luck. luck.0 == 1) luck false
 
 abbrev pub one_less : ℕ → ℕ
 one_less zero = zero
 one_less (suc n) = n
 
 abbrev pub luck_after : Luck → Luck
-luck_after None = None
-luck_after (Some luck) = Some (one_less luck.0, luck.1)
+luck_after luck = option_map (λ luck. (one_less luck.0, luck.1)) luck
 
 abbrev pub runs_out_there : Luck → Bool
-runs_out_there None = false
-runs_out_there (Some luck) = luck.0 == 1 && luck.1
+runs_out_there luck = option_map_or (λ luck. luck.0 == 1 && luck.1) luck false
 
 -- what is asked of a roster, a Take, a Detach and a Clear take no memory
 abbrev pub takes_memory : {X : Type 0} → RoomCall X → Bool

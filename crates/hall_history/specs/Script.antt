@@ -16,6 +16,7 @@ use Rattle.hall_history.specs.Freeing.{frees}
 use Rattle.hall_history.specs.Hall.{Hall, after_line, new_hall}
 use Rattle.hall_history.specs.Mark.{Mark, Served}
 use Rattle.hall_history.specs.Opening.{after_open, opened_text}
+use Rattle.std.specs.Option.{option_map_or}
 
 -- what a line of a script in form asks for: nothing, a seed for the next match, a match of a game with so many seats, a line of a session,
 -- and a session's Take and Detach
@@ -35,8 +36,7 @@ abbrev pub all_to_session : ℕ → List ℕ → List ℕ
 all_to_session pass bytes = flat_map (to_session pass) (lines bytes)
 
 abbrev pub answered_text : ℕ → Option Answer → List ℕ
-answered_text pass None = []
-answered_text pass (Some said) = to_session pass (line_of said)
+answered_text pass answer = option_map_or (λ said. to_session pass (line_of said)) answer []
 
 abbrev pub unattached_text : ℕ → List ℕ
 unattached_text pass = to_session pass (line_of (answer.Refused refusal.NotAttached))
@@ -66,13 +66,11 @@ first_mark [] = Served
 first_mark (mark ∷ marks) = mark
 
 module _ {X G : Type 0} (named : List ℕ → Option X) (rules : X → Rules G) (tape : ℕ → List ℕ) where
-  abbrev pub followed_by : (Hall X → Hall X × List ℕ) → Hall X × List ℕ → Hall X × List ℕ
-  followed_by rest done = ((rest done.0).0, done.1 ++ (rest done.0).1)
-
   -- the hall after these steps, the first one first, and what they print
   abbrev pub runs_script : List Mark → List Step → Hall X → Hall X × List ℕ
   runs_script marks [] h = (h, [])
-  runs_script marks (step ∷ steps) h = followed_by (runs_script (drop 1 marks) steps) (does named rules tape (first_mark marks) step h)
+  runs_script marks (step ∷ steps) h =
+      let done = does named rules tape (first_mark marks) step h in let rest = runs_script (drop 1 marks) steps done.0 in (rest.0, done.1 ++ rest.1)
 
   -- the hall after a script over so many rooms, and the script's transcript
   abbrev pub script_hall : ℕ → List Mark → List Step → Hall X

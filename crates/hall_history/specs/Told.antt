@@ -27,8 +27,7 @@ bytes_in (Some told) = bytes_handed_out told
 module _ {X G : Type 0} (rules : X → Rules G) (pass room j : ℕ) where
   -- the session is attached, and this is the one of its pass's that is
   abbrev pub is_session : Hall X → ℕ → Bool
-  is_session h taker =
-      (taker == pass) && (is_at (h.at taker) room && (length ((room_of rules room (history_of h.rooms room)).sessions pass) == j + 1))
+  is_session h taker = (taker == pass) && (is_at (h.at taker) room && (length ((room_of rules room (history_of h.rooms room)).sessions pass) == j + 1))
 
   -- the bytes that a step hands out to the session: those of the lines that it prints
   abbrev pub handed_by : Step → Hall X → List ℕ

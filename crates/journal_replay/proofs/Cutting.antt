@@ -6,9 +6,10 @@ use Rattle.serde_json.specs.Data.{Data, null, string}
 use Rattle.serde_json.specs.Written.{compact_text, members_text}
 use Rattle.game_sheet.specs.MatchName.{Name}
 use Rattle.wire_json.specs.MatchText.{match_text}
-use Rattle.wire_json.specs.ServerText.{of_type, text as server_text}
+use Rattle.wire_json.specs.ServerText.{text as server_text}
 use Rattle.wire_json.specs.declared.protocol.Protocol.TheVariants.{One}
 use Rattle.wire_json.specs.declared.server.ServerMsg.TheVariants.{Sync}
+use Rattle.wire_json.specs.ClientText.{of_type}
 
 module _ (name : Name) where
   pub front : List ℕ

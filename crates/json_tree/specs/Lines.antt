@@ -1,5 +1,5 @@
 -- When a line holds an object of the wire, and else which fault comes first.
-use Rattle.std.specs.Prelude.{◌≡◌, ◌≤◌, ℕ, List, [], ◌∷◌, length, false, nat_lt, if◌then◌else◌, Option, Some, None, Result, Ok, Err, IsUtf8}
+use Rattle.std.specs.Prelude.{◌≡◌, ◌≤◌, ℕ, List, [], ◌∷◌, length, false, nat_lt, if◌then◌else◌, Option, Some, Result, Ok, Err, IsUtf8}
 use Rattle.std.specs.Str.{is_utf8}
 use Rattle.serde_json.specs.Data.{Data, object, Members}
 use Rattle.serde_json.specs.Read.{read}
@@ -8,6 +8,7 @@ use Rattle.serde_json.specs.Written.{members_have_float}
 use Rattle.serde_json.specs.declared.value.Value.{Value}
 use Rattle.json_tree.specs.declared.lines.LineFault.{LineFault}
 use Rattle.json_tree.specs.declared.lines.LineFault.TheVariants.{TooLong, NotJson, NotObject, Float, NoMemory}
+use Rattle.std.specs.Option.{option_map_or}
 
 abbrev pub newline : List ℕ
 newline = 10 ∷ []
@@ -35,8 +36,7 @@ object_in (object ms) = if members_have_float ms then Err Float else Ok ms
 object_in other = Err NotObject
 
 abbrev pub object_read : Option Data → Result Members LineFault
-object_read None = Err NotJson
-object_read (Some d) = object_in d
+object_read read = option_map_or object_in read (Err NotJson)
 
 -- the members of the object that a text holds, or its first fault
 unfoldable pub text_read : List ℕ → Result Members LineFault

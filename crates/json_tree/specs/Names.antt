@@ -1,11 +1,11 @@
 -- Which members of an object have a name outside a list of known ones.
-use Rattle.std.specs.Prelude.{ℕ, List, [], ◌∷◌, Bool, false, not, ◌||◌}
+use Rattle.std.specs.Prelude.{ℕ, List, Bool, false, not, ◌||◌}
 use Rattle.std.specs.Str.{bytes_eq}
 use Rattle.serde_json.specs.Data.{Data, object, Members, no_members, member}
+use Rattle.std.specs.List.{list_any}
 
 abbrev pub is_known : List (List ℕ) → List ℕ → Bool
-is_known [] name = false
-is_known (k ∷ known) name = bytes_eq name k || is_known known name
+is_known known name = list_any (bytes_eq name) known
 
 abbrev pub has_extra : List (List ℕ) → Members → Bool
 has_extra known no_members = false

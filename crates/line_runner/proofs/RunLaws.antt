@@ -2,7 +2,7 @@
 use Rattle.std.proofs.Common.{◌≡◌, ◌⊎◌, inl, inr, ◌+◌, ℕ, zero, suc, false, List, [], ◌∷◌, ◌++◌, length, take, drop, Option, Some, None, refl, sym, ap, ◌∙◌, subst, append_assoc, append-nil}
 use Rattle.std.proofs.lemmas.List.{length-append}
 use Rattle.board_links.specs.Pieces.{told_bytes}
-use Rattle.line_runner.specs.Play.{Doing, IsPlay, Play, after_steps, bad_by, bad_from, bad_line, followed_by, printed, steps_of}
+use Rattle.line_runner.specs.Play.{Doing, IsPlay, Play, after_steps, bad_from, bad_line, printed, steps_of}
 use Rattle.line_runner.specs.Reader.{Reader, fresh}
 use Rattle.line_runner.specs.Reading.{Moves}
 use Rattle.line_runner.specs.Running.{BreaksOff, Leaves, Plays, PlaysAll, RanOn, RunsToEnd, StopsAtBad, StopsAtFault, StopsAtLong, StopsEarly, StoppedIn}
@@ -13,6 +13,7 @@ use Rattle.line_runner.specs.declared.exit.Exit.TheVariants.{NoMemory, WriteFaul
 use Rattle.line_runner.specs.declared.next.Next.TheVariants.{ReadFault}
 use Rattle.line_runner.proofs.Playing.{bad_printed, line_printed, nothing_printed}
 use Rattle.line_runner.proofs.Underway.{HasRead, Underway, fault_part, fault_read, nothing_read}
+use Rattle.std.specs.Option.{option_map_or}
 
 halves : (n : ℕ) (xs : List ℕ) → take n xs ++ drop n xs ≡ xs
 halves zero xs = refl
@@ -69,8 +70,8 @@ module _ {Mark Step State Held : Type 0} (p : Play Mark Step State) (d : Doing M
           ∙ sym (append_assoc u.gained said (printed p ms more (d.does r.mark r.step u.h).0));
       at = λ ms more. ap (λ l. after_steps d ((u.marks ++ r.mark ∷ []) ++ ms) (steps_of p.form l) begin) (append_assoc u.done (line ∷ []) more)
           ∙ ap (λ l. after_steps d l (steps_of p.form (u.done ++ line ∷ more)) begin) (append_assoc u.marks (r.mark ∷ []) ms) ∙ u.at (r.mark ∷ ms) (line ∷ more)
-          ∙ ap (λ o. after_steps d (r.mark ∷ ms) (followed_by p.form o (steps_of p.form more)) u.h) r.in_form;
-      bad = λ more. ap (bad_from p.form 0) (append_assoc u.done (line ∷ []) more) ∙ u.bad (line ∷ more) ∙ ap (λ o. bad_by p.form o given (bad_from p.form (given + 1) more)) r.in_form;
+          ∙ ap (λ o. after_steps d (r.mark ∷ ms) (option_map_or (λ step. step ∷ steps_of p.form more) o []) u.h) r.in_form;
+      bad = λ more. ap (bad_from p.form 0) (append_assoc u.done (line ∷ []) more) ∙ u.bad (line ∷ more) ∙ ap (λ o. option_map_or (λ step. (bad_from p.form (given + 1) more)) o (Some (given + 1))) r.in_form;
     }
       where
         said : List ℕ
@@ -145,7 +146,7 @@ module _ {Mark Step State Held : Type 0} (p : Play Mark Step State) (d : Doing M
         → StopsAtBad p begin (script bytes) (given + 1) before held
     unfolding bad_line
     ends_bad line rest held u e = record {
-      first_bad = ap (bad_from p.form 0) u.lines ∙ u.bad (line ∷ rest.lines) ∙ ap (λ o. bad_by p.form o given (bad_from p.form (given + 1) rest.lines)) e;
+      first_bad = ap (bad_from p.form 0) u.lines ∙ u.bad (line ∷ rest.lines) ∙ ap (λ o. option_map_or (λ step. (bad_from p.form (given + 1) rest.lines)) o (Some (given + 1))) e;
       plays = plays_by (u.marks ++ []) (script bytes).lines before u.gained held u.added
           (ap (λ ls. printed p (u.marks ++ []) ls begin) u.lines ∙ u.so_far [] (line ∷ rest.lines)
           ∙ ap (λ x. u.gained ++ x) (bad_printed p d ok [] line rest.lines u.h e) ∙ append-nil u.gained);
@@ -186,7 +187,7 @@ module _ {Mark Step State Held : Type 0} (p : Play Mark Step State) (d : Doing M
           ∙ sym (u.so_far (r.mark ∷ []) (line ∷ []) ∙ ap (λ x. u.gained ++ x) (line_printed p d ok r.mark [] line [] r.step u.h r.in_form));
       added = r.added ∙ ap (λ x. Some (x ++ take r.printed_bytes said)) (ap told_bytes u.added) ∙ ap Some (append_assoc before u.gained (take r.printed_bytes said));
       all_shown = inr refl;
-      stands = inl (subst (λ s. d.Stands hall' s) (sym (u.at (r.mark ∷ []) (line ∷ []) ∙ ap (λ o. after_steps d (r.mark ∷ []) (followed_by p.form o []) u.h) r.in_form)) r.stands);
+      stands = inl (subst (λ s. d.Stands hall' s) (sym (u.at (r.mark ∷ []) (line ∷ []) ∙ ap (λ o. after_steps d (r.mark ∷ []) (option_map_or (λ step. step ∷ []) o []) u.h) r.in_form)) r.stands);
     }
       where
         said : List ℕ

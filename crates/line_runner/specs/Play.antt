@@ -3,26 +3,19 @@
 use Rattle.std.specs.Prelude.{◌≡◌, ℕ, ◌+◌, List, [], ◌∷◌, ◌++◌, Option, Some, None, Result, Ok, Err}
 use Rattle.line_runner.specs.declared.interpreter.LineNo.{LineNo}
 use Rattle.line_runner.specs.declared.interpreter.LineNo.TheVariants.{BadLine, NoMemory}
+use Rattle.std.specs.Option.{option_map_or}
 
 -- by the step that each line asks for; none where a line is in no form
 module _ {Step : Type 0} (form : List ℕ → Option Step) where
-  abbrev pub followed_by : Option Step → List Step → List Step
-  followed_by None rest = []
-  followed_by (Some step) rest = step ∷ rest
-
   -- the steps of lines, up to the first that is in no form
   abbrev pub steps_of : List (List ℕ) → List Step
   steps_of [] = []
-  steps_of (line ∷ lines) = followed_by (form line) (steps_of lines)
-
-  abbrev pub bad_by : Option Step → ℕ → Option ℕ → Option ℕ
-  bad_by None given rest = Some (given + 1)
-  bad_by (Some step) given rest = rest
+  steps_of (line ∷ lines) = option_map_or (λ step. step ∷ steps_of lines) (form line) []
 
   -- the number of the first line in no form, where so many lines came before
   abbrev pub bad_from : ℕ → List (List ℕ) → Option ℕ
   bad_from given [] = None
-  bad_from given (line ∷ lines) = bad_by (form line) given (bad_from (given + 1) lines)
+  bad_from given (line ∷ lines) = option_map_or (λ step. bad_from (given + 1) lines) (form line) (Some (given + 1))
 
   -- the number of the first line in no form, counted from 1
   unfoldable pub bad_line : List (List ℕ) → Option ℕ

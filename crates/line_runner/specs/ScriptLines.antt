@@ -40,8 +40,7 @@ no_whole_line line = no_lines Ended
 -- of a line that no newline ends
 unfoldable pub lines_from : (List ℕ → Script) → ℕ → List ℕ → List ℕ → Script
 lines_from last newlines begun [] = last begun
-lines_from last newlines begun (b ∷ bytes) =
-    if newlines == most_lines then no_lines TooMany else
+lines_from last newlines begun (b ∷ bytes) = if newlines == most_lines then no_lines TooMany else
     (if b == 10 then first_line (without_return begun) (lines_from last (newlines + 1) [] bytes) else
     (if length begun == most_bytes then no_lines TooLong else lines_from last newlines (begun ++ b ∷ []) bytes))
 

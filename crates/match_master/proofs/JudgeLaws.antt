@@ -35,10 +35,11 @@ use Rattle.reducer.specs.Steps.{state_after}
 use Rattle.game_sheet.specs.Viewer.{Viewer, seat_of}
 use Rattle.room_history.specs.Match.{Match, number_of, table_of}
 use Rattle.room_history.specs.Shown.{entry_of, words_drawn}
-use Rattle.room_history.specs.Verdict.{first_reason, public_reason, game_reason, with_act, game_rule, else_reason, reason_of}
+use Rattle.room_history.specs.Verdict.{first_reason, public_reason, game_reason, with_act, game_rule, reason_of}
 use Rattle.match_master.specs.declared.running_match.RunningMatch.{RunningMatch}
 use Rattle.match_master.specs.Held.{running_of}
 use Rattle.match_master.specs.Judged.{IsAccepted, entry_at}
+use Rattle.std.specs.Option.{option_or}
 
 chosen : (b : Bool) (n i : ℕ) → (if b then Some n else None) ≡ Some i → (b ≡ true) × (n ≡ i)
 chosen true n i h = (refl, cc)
@@ -147,7 +148,7 @@ module _ {X G : Type 0} (rules : X → Rules G) (room : ℕ) where
   game_is : (m : Match X G) (viewer : Viewer) (s : Submission) (seat : ℕ) (act : Act) (r : Option GameRule) → seat_of viewer ≡ Some seat → act_of (rules m.game).sheet s.asked ≡ Some act
       → answer_on (rules m.game) (running_of rules m).state seat act ≡ r → public_reason rules room m viewer s ≡ None → first_reason rules room m viewer s ≡ option_map reason_of r
   game_is m viewer s seat act r p q h n =
-      ap (λ b. else_reason b (game_reason rules m viewer s)) n ∙ ap (option_map reason_of) (rule_is m (seat_of viewer) (act_of (rules m.game).sheet s.asked) seat act p q ∙ h)
+      ap (λ b. option_or b (game_reason rules m viewer s)) n ∙ ap (option_map reason_of) (rule_is m (seat_of viewer) (act_of (rules m.game).sheet s.asked) seat act p q ∙ h)
 
   pub accepted_is : (m : Match X G) (viewer : Viewer) (s : Submission) (seat : ℕ) (act : Act) (coming : Coming G) (entry : Entry) → seat_of viewer ≡ Some seat → act_of (rules m.game).sheet s.asked ≡ Some act
       → coming.action ≡ record { seat = seat; act = act } → IsReady (rules m.game) (running_of rules m).state coming → entry ≡ entry_at (running_of rules m).state coming.table.place (record { seat = seat; act = act })

@@ -3,8 +3,8 @@
 ghost use Rattle.std.specs.Prelude.{◌≡◌, ◌==◌, Option, Some, None, ℕ};
 ghost use Rattle.std.specs.List.{list_any};
 ghost use Rattle.game_sheet.specs.SheetFits.{SheetFits};
-ghost use Rattle.wire_json.specs.Resolve.{act_of};
-ghost use Rattle.room_history.specs.Rule.{public, first_broken, seat_rules, is_undo_or_redo, is_alone, is_kind, is_allowed, has_act, ignores_number};
+ghost use Rattle.wire_json.specs.Resolve.{act_of, ignores_number};
+ghost use Rattle.room_history.specs.Rule.{public, first_broken, seat_rules, is_undo_or_redo, is_alone, is_kind, is_allowed, has_act};
 
 use game_sheet::{Act, Ctx, EventKind, MOST_ACTIONS, MoveId, Number, Seat, Sheet};
 use stage_map::{is_active, moves_of};

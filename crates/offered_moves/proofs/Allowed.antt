@@ -17,13 +17,13 @@ use Rattle.game_sheet.specs.declared.ctx.Ctx.{Ctx}
 use Rattle.game_sheet.specs.declared.sheet.Sheet.{Sheet}
 use Rattle.game_sheet.specs.declared.sheet.TurnRow.{TurnRow}
 use Rattle.phase_flow.specs.Action.{words_from}
-use Rattle.phase_flow.specs.Automatic.{automatic, match_ended}
+use Rattle.phase_flow.specs.Automatic.{automatic}
 use Rattle.phase_flow.specs.Reached.{Reached, table_of}
 use Rattle.phase_flow.specs.Rows.{turn_row}
 use Rattle.phase_flow.specs.declared.task.Task.{Task}
 use Rattle.stage_map.specs.Active.{Map}
 use Rattle.stage_map.specs.Moves.{may, moves, moves_at, stage_moves}
-use Rattle.table_states.specs.Countdown.{countdown, countdown_end, countdown_move}
+use Rattle.table_states.specs.Countdown.{countdown, countdown_move}
 use Rattle.table_states.specs.Pig.{pig}
 use Rattle.table_states.specs.TicTacToe.{tic_tac_toe}
 use Rattle.table_states.specs.declared.heap.Heap.{Heap}
@@ -34,6 +34,9 @@ use Rattle.offered_moves.proofs.CardOffers.{Bid, CanDraw, Plays, Writes, bids_ma
 use Rattle.offered_moves.proofs.Lifting.{all_calm, lifted_made, lifted_quiet}
 use Rattle.offered_moves.proofs.TableMatches.{HasTotals, WasTaken, has_total}
 use Rattle.offered_moves.proofs.TableOffers.{Clicks, Rolls, Takes, clicks_made, is_zero, rolls_made, takes_made}
+use Rattle.std.specs.Option.{option_map_or}
+use Rattle.game_sheet.specs.declared.act.Event.TheVariants.{EndGame}
+use Rattle.phase_flow.specs.Step.{by_itself}
 
 -- ---- the moves that a seat has
 
@@ -76,7 +79,7 @@ abbrev pub HeapHas : AnyG → Type 0
 HeapHas (OfCountdown h) = WasTaken h
 HeapHas _ = Unit {0}
 
-no_end : (end : Option Outcome) (otherwise : Option Task) → match_ended end otherwise ≡ None → end ≡ None
+no_end : (end : Option Outcome) (otherwise : Option Task) → option_map_or (λ outcome. Some (by_itself (EndGame outcome))) end otherwise ≡ None → end ≡ None
 no_end None otherwise is = refl
 no_end (Some outcome) otherwise is = absurd (cc)
 
@@ -97,7 +100,7 @@ heap_allowed (OfCountdown h) ctx active seed place seat low taken rests =
       record { goes_on = on; active = mays; has = base_has countdown.sheet ctx seat offer.0 mays (λ stage. plain_moves countdown.sheet ctx.phase stage refl refl) (two_have offer.0 made.0) },
       quiet_accepted (any_rules Countdown) (all_calm Countdown) (at (OfCountdown h) ctx active seed place) seat offer.0 offer.1 (lifted_quiet OfCountdown (countdown_move h seat offer.0 offer.1 words) made.1),
     ))
-    (takes_made h seat words low (some_left h (nat_eq h.left 0) refl (no_end (countdown_end h) _ (rests on)) taken) (some_words seed place)))
+    (takes_made h seat words low (some_left h (nat_eq h.left 0) refl (no_end (if nat_eq h.left 0 then option_map Winner h.last else None) _ (rests on)) taken) (some_words seed place)))
 heap_allowed g ctx active seed place seat low taken rests = tt
 
 -- ---- Pig

@@ -24,15 +24,16 @@ use Rattle.open_game.specs.Form.{Form}
 use Rattle.open_game.specs.OpenRules.{OpenRules, of_open}
 use Rattle.phase_flow.specs.Action as action
 use Rattle.phase_flow.specs.Reached.{Reached, table_of}
-use Rattle.phase_flow.specs.Rows.{phase_row, turn_of_phase, turn_row}
+use Rattle.phase_flow.specs.Rows.{turn_of_phase, turn_row}
 use Rattle.phase_flow.specs.Step.{At, Ends, Step}
 use Rattle.phase_flow.specs.declared.table.Table.{Table}
 use Rattle.reducer.specs.Answer.{refusal}
-use Rattle.stage_map.specs.Moves.{first_list, may, may_on, moves_at, moves_if_listed, moves_on, phase_moves, place_of, stage_moves}
+use Rattle.stage_map.specs.Moves.{first_list, may, may_on, moves_at, phase_moves, place_of, stage_moves}
 use Rattle.turn_order.specs.Position.{next}
 use Rattle.offered_moves.specs.Admitted.{IsAdmitted}
 use Rattle.offered_moves.proofs.Ending.{IsAt, IsCalm, IsQuiet, is_calm_turn, quiet_move_ends, turning_move_ends}
 use Rattle.offered_moves.proofs.TableOffers.{AreWords, IsMade, if_offered}
+use Rattle.std.specs.Option.{option_map_or}
 
 -- ---- the words of an action
 
@@ -59,12 +60,12 @@ yes_then : (Q : List ℕ → Type 0) (is : Bool) (list : List ℕ) → is ≡ tr
 yes_then Q true list is q = q
 yes_then Q false list is q = absurd (false≢true is)
 
-listed_by : (sheet : Sheet) (phase : Option ℕ) (place : Option (Option ℕ)) (Q : List ℕ → Type 0) → is_some place ≡ true → ((stage : Option ℕ) → Q (moves_at sheet phase stage)) → Q (moves_if_listed sheet phase place)
+listed_by : (sheet : Sheet) (phase : Option ℕ) (place : Option (Option ℕ)) (Q : List ℕ → Type 0) → is_some place ≡ true → ((stage : Option ℕ) → Q (moves_at sheet phase stage)) → Q (option_map_or (moves_at sheet phase) place [])
 listed_by sheet phase None Q is each = absurd (false≢true is)
 listed_by sheet phase (Some stage) Q is each = each stage
 
 -- a seat that may act has the moves of its phase and some stage
-pub moves_by : (sheet : Sheet) (phase : Option ℕ) (active : Option (List (ℕ × Option ℕ))) (current seat : ℕ) (Q : List ℕ → Type 0) → may_on active current seat ≡ true → ((stage : Option ℕ) → Q (moves_at sheet phase stage)) → Q (moves_on sheet phase active current seat)
+pub moves_by : (sheet : Sheet) (phase : Option ℕ) (active : Option (List (ℕ × Option ℕ))) (current seat : ℕ) (Q : List ℕ → Type 0) → may_on active current seat ≡ true → ((stage : Option ℕ) → Q (moves_at sheet phase stage)) → Q (option_map_or (λ rows. option_map_or (moves_at sheet phase) (place_of rows seat) []) active (if seat == current then moves_at sheet phase None else []))
 moves_by sheet phase None current seat Q may each = yes_then Q (seat == current) (moves_at sheet phase None) may (each None)
 moves_by sheet phase (Some rows) current seat Q may each = listed_by sheet phase (place_of rows seat) Q may each
 
@@ -85,7 +86,7 @@ plain_moves sheet phase stage phases stages = base_moves sheet phase stage phase
 
 -- ---- the turns of a sheet without phases
 
-row_none : (sheet : Sheet) (phase : Option ℕ) → sheet.phases ≡ [] → phase_row sheet phase ≡ None
+row_none : (sheet : Sheet) (phase : Option ℕ) → sheet.phases ≡ [] → option_and_then (slice_get sheet.phases) phase ≡ None
 row_none sheet None none = refl
 row_none sheet (Some phase) none = ap (λ rows. slice_get rows phase) none
 

@@ -22,7 +22,7 @@ use Rattle.game_sheet.specs.declared.ctx.Ctx.{Ctx}
 use Rattle.game_sheet.specs.declared.refusal.GameRule.TheVariants.{InvalidMove}
 use Rattle.game_trait.specs.Deed.{Barred, Deed, Done, GaveUp, Invalid, Lack, Lacks}
 use Rattle.phase_flow.specs.Action as action
-use Rattle.phase_flow.specs.Flow.{begin, moved, moves_after, run_event, set_up as begun_by}
+use Rattle.phase_flow.specs.Flow.{begin, moved, run_event, set_up as begun_by}
 use Rattle.phase_flow.specs.Reached.{Reached, reached, table_of}
 use Rattle.phase_flow.specs.Rows.{phase_after}
 use Rattle.phase_flow.specs.Settle.{pass_or_end, settle}
@@ -149,7 +149,7 @@ module _ (deck : Option Dealt) (seats : ℕ) where
       → StepDeals (moved (any_rules (HighHand deck)) seat true (table c count turn current order pos moves) words [])
   unfolding moved
   moved_deals c count turn current order pos moves seat words its few low most deal =
-      subst (λ is. StepDeals (settle (any_rules (HighHand deck)) 64 (table c count turn current order pos (moves_after is moves)) words [] false)) (sym its)
+      subst (λ is. StepDeals (settle (any_rules (HighHand deck)) 64 (table c count turn current order pos (if is then moves + 1 else moves)) words [] false)) (sym its)
       (drawn c count turn current order pos moves words few low most deal)
 
   played_deals : (c : Cards) (count turn current : ℕ) (order : List ℕ) (pos moves seat : ℕ) (deed : Deed Cards Barred) → (seat == current) ≡ true → moves ≤ 1 → pos < length order → length order ≤ 4 → QuietlyMakes (IsDeal seats (2 * pos + moves + 1)) deed

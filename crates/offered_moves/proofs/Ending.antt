@@ -8,7 +8,7 @@ use Rattle.game_sheet.specs.declared.ctx.Ctx.{Ctx}
 use Rattle.game_sheet.specs.declared.sheet.TurnRow.{TurnRow}
 use Rattle.game_trait.specs.Deed.{Deed, Done, GaveUp, Lack}
 use Rattle.game_trait.specs.Rules.{Rules}
-use Rattle.phase_flow.specs.Automatic.{automatic, in_front, is_full, match_ended, phase_ended as phase_says, with_automatic}
+use Rattle.phase_flow.specs.Automatic.{automatic, is_full, phase_ended as phase_says, with_automatic}
 use Rattle.phase_flow.specs.Flow.{moved, with_count}
 use Rattle.phase_flow.specs.Rows.{order_list, phase_after, turn_row}
 use Rattle.phase_flow.specs.Settle.{end_game, end_phase, end_turn, end_turn_to, next_by, over, pass_or_end, run, settle}
@@ -17,6 +17,7 @@ use Rattle.phase_flow.specs.Turns.{enter, in_phase, order_begun, ordered, pass_o
 use Rattle.phase_flow.specs.declared.table.Table.{Table}
 use Rattle.phase_flow.specs.declared.task.Task.{Task}
 use Rattle.turn_order.specs.Position.{first, next}
+use Rattle.std.specs.Option.{option_map_or}
 
 -- a hook makes a state and queues nothing
 abbrev pub IsQuiet : {A E : Type 0} → Deed A E → Type 0
@@ -85,7 +86,7 @@ phase_by Q None says otherwise is q = q
 phase_by Q (Some phase) true otherwise is q = absurd (false≢true (sym is))
 phase_by Q (Some phase) false otherwise is q = q
 
-match_by : (Q : Option Task → Type 0) (end : Option Outcome) (otherwise : Option Task) → ((outcome : Outcome) → Q (Some (by_itself (EndGame outcome)))) → Q otherwise → Q (match_ended end otherwise)
+match_by : (Q : Option Task → Type 0) (end : Option Outcome) (otherwise : Option Task) → ((outcome : Outcome) → Q (Some (by_itself (EndGame outcome)))) → Q otherwise → Q (option_map_or (λ outcome. Some (by_itself (EndGame outcome))) end otherwise)
 match_by Q None otherwise ends q = q
 match_by Q (Some outcome) otherwise ends q = ends outcome
 
@@ -126,8 +127,8 @@ module _ {G : Type 0} (rules : Rules G) (calm : IsCalm rules) where
   unfolding settle
   one_more n t words tasks ends turns others =
       let go : Task → List Task → Step G = λ task rest. carry_on (run rules task.event task.speaker t words rest) (settle rules n) in
-      unless_over t.ctx.over t words (in_front (automatic rules t) tasks) go
-      (automatic_by (λ o. IsAt (next_by None t words (in_front o tasks) go)) t ends turns (next_by_cases None t words tasks go others))
+      unless_over t.ctx.over t words (option_map_or (λ task. task ∷ tasks) (automatic rules t) tasks) go
+      (automatic_by (λ o. IsAt (next_by None t words (option_map_or (λ task. task ∷ tasks) o tasks) go)) t ends turns (next_by_cases None t words tasks go others))
 
   no_task : (P : Task → List Task → Type 0) (task : Task) (rest : List Task) → [] ≡ task ∷ rest → P task rest
   no_task P task rest is = cc
@@ -210,8 +211,8 @@ module _ {G : Type 0} (rules : Rules G) (calm : IsCalm rules) where
   asked_ends n who t words endless =
       let go : Task → List Task → Step G = λ task rest. carry_on (run rules task.event task.speaker t words rest) (settle rules (suc (suc (suc n)))) in
       let tasks = spoken who (EndTurn None) ∷ [] in
-      unless_over t.ctx.over t words (in_front (automatic rules t) tasks) go
-      (automatic_by (λ o. IsAt (next_by None t words (in_front o tasks) go)) t (λ outcome. game_ends (suc (suc (suc n))) outcome t words)
+      unless_over t.ctx.over t words (option_map_or (λ task. task ∷ tasks) (automatic rules t) tasks) go
+      (automatic_by (λ o. IsAt (next_by None t words (option_map_or (λ task. task ∷ tasks) o tasks) go)) t (λ outcome. game_ends (suc (suc (suc n))) outcome t words)
       (λ many full. absurd (false≢true (ap (λ most. is_full most t.ctx) (sym endless) ∙ full)))
       (turn_ends (suc n) t words (λ few. rested_ends n t words)))
 

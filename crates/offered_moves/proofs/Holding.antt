@@ -12,7 +12,7 @@ use Rattle.game_sheet.specs.declared.refusal.GameRule.TheVariants.{InvalidMove, 
 use Rattle.game_trait.specs.Deed.{Barred, Deed, Done, GaveUp, Invalid, Lack, Lacks}
 use Rattle.game_trait.specs.Rules.{Rules}
 use Rattle.phase_flow.specs.Action as action
-use Rattle.phase_flow.specs.Automatic.{automatic, in_front, with_automatic}
+use Rattle.phase_flow.specs.Automatic.{automatic, with_automatic}
 use Rattle.phase_flow.specs.Flow.{after_move, begin, fresh, is_early, moved, run_event, set_up, with_count}
 use Rattle.phase_flow.specs.Reached.{Reached, reached, table_of}
 use Rattle.phase_flow.specs.Rows.{order_list, phase_after, start_phase, turn_row}
@@ -23,6 +23,7 @@ use Rattle.phase_flow.specs.declared.table.Table.{Table}
 use Rattle.phase_flow.specs.declared.task.Task.{Task}
 use Rattle.turn_order.specs.Position.{first, next}
 use Rattle.offered_moves.proofs.Ending.{IsCalm, IsQuiet, automatic_by}
+use Rattle.std.specs.Option.{option_map_or}
 
 -- an event that sets no phase
 abbrev pub IsPlain : Event → Type 0
@@ -54,7 +55,7 @@ abbrev PlainIfAny : Option Task → Type 0
 PlainIfAny None = Unit {0}
 PlainIfAny (Some task) = IsPlain task.event
 
-front_plain : (o : Option Task) (tasks : List Task) → PlainIfAny o → AllPlain tasks → AllPlain (in_front o tasks)
+front_plain : (o : Option Task) (tasks : List Task) → PlainIfAny o → AllPlain tasks → AllPlain (option_map_or (λ task. task ∷ tasks) o tasks)
 front_plain None tasks p q = q
 front_plain (Some task) tasks p q = (p, q)
 
@@ -64,7 +65,7 @@ IsLeft true [] = ⊥
 IsLeft true (task ∷ tasks) = Unit {0}
 IsLeft false tasks = Unit {0}
 
-none_in_front : (o : Option Task) (tasks : List Task) → in_front o tasks ≡ [] → o ≡ None
+none_in_front : (o : Option Task) (tasks : List Task) → option_map_or (λ task. task ∷ tasks) o tasks ≡ [] → o ≡ None
 none_in_front None tasks is = refl
 none_in_front (Some task) tasks is = cc
 

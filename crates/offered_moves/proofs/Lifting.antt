@@ -1,9 +1,9 @@
 -- Each of the games is calm among all games, and what its rules keep of a state its hooks keep.
-use Rattle.std.specs.Prelude.{◌≡◌, ◌<◌, ℕ, zero, suc, Bool, true, false, is_some, length, List, [], ◌∷◌, Option, Some, None, IfSome, IsTrue, refl}
+use Rattle.std.specs.Prelude.{◌≡◌, ◌<◌, ℕ, zero, suc, Bool, true, false, is_some, length, List, [], ◌∷◌, Option, Some, None, IfSome, IsTrue, refl, option_and_then, slice_get}
 use Rattle.std.proofs.Common.{ap, subst, arith}
 use Rattle.any_game.specs.AnyRules.{any_rules}
 use Rattle.any_game.specs.GameKind.{GameKind, TicTacToe, Countdown, Pig, HighHand, BlindBid, Captions}
-use Rattle.any_game.specs.Lifted.{lifted, lifted_deed, on_own}
+use Rattle.any_game.specs.Lifted.{lifted, lifted_deed}
 use Rattle.any_game.specs.Values.{as_bids, as_board, as_cards, as_heap, as_points, as_texts}
 use Rattle.any_game.specs.declared.any_g.AnyG.{AnyG}
 use Rattle.any_game.specs.declared.any_g.AnyG.TheVariants.{TicTacToe as OfTicTacToe, Countdown as OfCountdown, Pig as OfPig, HighHand as OfHighHand, BlindBid as OfBlindBid, Captions as OfCaptions}
@@ -23,7 +23,7 @@ use Rattle.game_trait.specs.Queues.{AllInSheet}
 use Rattle.game_trait.specs.Rules.{Rules}
 use Rattle.open_game.specs.Form.{Form}
 use Rattle.open_game.specs.OpenRules.{OpenRules, of_open}
-use Rattle.phase_flow.specs.Rows.{phase_row, turn_of_phase}
+use Rattle.phase_flow.specs.Rows.{turn_of_phase}
 use Rattle.table_states.specs.Countdown.{countdown}
 use Rattle.table_states.specs.Pig.{pig}
 use Rattle.table_states.specs.StateForms.{board_form, heap_form, points_form}
@@ -33,6 +33,7 @@ use Rattle.offered_moves.proofs.Allowing.{one_goes_round, one_is_calm, open_calm
 use Rattle.offered_moves.proofs.Ending.{IsCalm, IsQuiet, is_calm_turn}
 use Rattle.offered_moves.proofs.Holding.{AreKept, ArePlain, Gives, IsPlain}
 use Rattle.offered_moves.proofs.TableOffers.{IsMade}
+use Rattle.std.specs.Option.{option_map_or}
 
 pub lifted_quiet : {G E : Type 0} (inject : G → AnyG) (deed : Deed G E) → IsQuiet deed → IsQuiet (lifted_deed inject deed)
 lifted_quiet inject (Done g left []) quiet = tt
@@ -44,11 +45,11 @@ lifted_made inject (Done g left []) made = tt
 lifted_made inject (Done g left (EndTurn None ∷ [])) made = tt
 lifted_made inject deed made = absurd made
 
-own_quiet : {G E : Type 0} (inject : G → AnyG) (own : Option G) (otherwise : Deed AnyG E) (go : G → Deed G E) → IsQuiet otherwise → ((g : G) → IsQuiet (go g)) → IsQuiet (on_own own otherwise (λ g. lifted_deed inject (go g)))
+own_quiet : {G E : Type 0} (inject : G → AnyG) (own : Option G) (otherwise : Deed AnyG E) (go : G → Deed G E) → IsQuiet otherwise → ((g : G) → IsQuiet (go g)) → IsQuiet (option_map_or (λ g. lifted_deed inject (go g)) own otherwise)
 own_quiet inject None otherwise go quiet each = quiet
 own_quiet inject (Some g) otherwise go quiet each = lifted_quiet inject (go g) (each g)
 
-own_false : {G : Type 0} (own : Option G) (go : G → Bool) → ((g : G) → go g ≡ false) → on_own own false go ≡ false
+own_false : {G : Type 0} (own : Option G) (go : G → Bool) → ((g : G) → go g ≡ false) → option_map_or go own false ≡ false
 own_false None go each = refl
 own_false (Some g) go each = each g
 
@@ -94,7 +95,7 @@ texts_calm = record {
   goes_round = λ ctx none. one_goes_round captions.sheet ctx refl refl;
 }
 
-hand_turns : (phase : Option ℕ) → is_calm_turn (turn_of_phase high_hand_sheet.turn (phase_row high_hand_sheet phase)) ≡ true
+hand_turns : (phase : Option ℕ) → is_calm_turn (turn_of_phase high_hand_sheet.turn (option_and_then (slice_get high_hand_sheet.phases) phase)) ≡ true
 hand_turns None = refl
 hand_turns (Some zero) = refl
 hand_turns (Some (suc zero)) = refl
@@ -111,7 +112,7 @@ cards_calm deck = record {
   turn_end_if = λ g ctx. refl;
   phase_end_if = λ g ctx. refl;
   turns = λ ctx. hand_turns ctx.phase;
-  goes_round = λ ctx none. ap (λ phase. is_some (next (turn_of_phase high_hand_sheet.turn (phase_row high_hand_sheet phase)).order ctx.pos (length ctx.order))) none;
+  goes_round = λ ctx none. ap (λ phase. is_some (next (turn_of_phase high_hand_sheet.turn (option_and_then (slice_get high_hand_sheet.phases) phase)).order ctx.pos (length ctx.order))) none;
 }
 
 pub all_calm : (kind : GameKind) → IsCalm (any_rules kind)
@@ -146,7 +147,7 @@ module _ {G : Type 0} (inject : G → AnyG) (project : AnyG → Option G) (tells
   abbrev pub On : AnyG → ℕ → Option ℕ → Type 0
   On g seats phase = P g
 
-  idle_gives : (g : AnyG) (ctx : Ctx) (words : List ℕ) (own : Option G) → IfSome own (λ h. g ≡ inject h) → P g → Gives rules calm On {E = Lack} ctx (on_own own (Done g words []) (λ h. lifted_deed inject (Done h words [])))
+  idle_gives : (g : AnyG) (ctx : Ctx) (words : List ℕ) (own : Option G) → IfSome own (λ h. g ≡ inject h) → P g → Gives rules calm On {E = Lack} ctx (option_map_or (λ h. lifted_deed inject (Done h words [])) own (Done g words []))
   idle_gives g ctx words None same is = is
   idle_gives g ctx words (Some own) same is = subst P same is
 

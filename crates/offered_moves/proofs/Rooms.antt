@@ -36,9 +36,9 @@ use Rattle.room_history.specs.Match.{Match, number_of, table_of}
 use Rattle.room_history.specs.Piece.{State, Open, Ended, Closed}
 use Rattle.room_history.specs.Reply.{Fate, Goes, Turned, Unheard, attached_match, created_match, fate, fate_by, fate_in, last_serial, named_match, new_match, reseated_match, seats_fit, submit_reply}
 use Rattle.room_history.specs.Room.{latest_in, latest_session, reply as reply_to_entry, room_of, standing}
-use Rattle.room_history.specs.Rule.{first_broken, has_act as has_asked, has_key, ignores_number, is_allowed, is_alone, is_undo_or_redo, is_kind, public, viewer_rules}
+use Rattle.room_history.specs.Rule.{first_broken, has_act as has_asked, has_key, is_allowed, is_alone, is_undo_or_redo, is_kind, public, seat_rules}
 use Rattle.room_history.specs.Session.{Session, latest_state, session_state}
-use Rattle.room_history.specs.Verdict.{else_reason, first_reason, game_reason, game_rule, is_named, match_accepting, public_reason, reason_of, with_act}
+use Rattle.room_history.specs.Verdict.{first_reason, game_reason, game_rule, is_named, match_accepting, public_reason, reason_of, with_act}
 use Rattle.room_history.specs.declared.call.RoomCall.{RoomCall}
 use Rattle.room_history.specs.declared.call.RoomCall.TheVariants.{Create, Join, Rename, Leave, Look, Attach, Submit, Take, Detach, Clear}
 use Rattle.room_history.specs.declared.reply.RoomReply.{RoomReply}
@@ -47,14 +47,14 @@ use Rattle.room_object.specs.Entry.{Entry, entry}
 use Rattle.sight_reading.proofs.PartLaws.{place_again}
 use Rattle.seat_roster.specs.Roster.{is_empty, join, leave, rename}
 use Rattle.stage_map.specs.Moves.{may}
-use Rattle.wire_json.specs.Resolve.{act_of, event_of}
+use Rattle.wire_json.specs.Resolve.{act_of, event_of, ignores_number}
 use Rattle.wire_json.specs.declared.asked.Asked.{Asked}
 use Rattle.wire_json.specs.declared.asked.Asked.TheVariants as asked
 use Rattle.wire_json.specs.declared.asked.AskedTo.{AskedTo}
 use Rattle.wire_json.specs.declared.asked.AskedTo.TheVariants as to
 use Rattle.wire_json.specs.declared.protocol.Protocol.{Protocol}
 use Rattle.wire_json.specs.declared.reason.Reason.{Reason}
-use Rattle.wire_json.specs.declared.reason.Reason.TheVariants.{NoMatch}
+use Rattle.wire_json.specs.declared.reason.Reason.TheVariants.{NoMatch, Unauthorized}
 use Rattle.wire_json.specs.declared.verdict.Verdict.TheVariants as verdict
 use Rattle.wire_json.specs.declared.submission.Submission.{Submission}
 use Rattle.offered_moves.specs.Admitted.{IsAdmitted, IsPlayed, has_act, is_of_kind}
@@ -62,6 +62,7 @@ use Rattle.offered_moves.specs.OfferedLaw.{HasCards, IsAllowed, offers_at}
 use Rattle.offered_moves.specs.Submitting.{OffersAreAccepted, OffersAreReplied, Submits}
 use Rattle.offered_moves.proofs.Allowing.{all_mapped}
 use Rattle.offered_moves.proofs.Matches.{all_offers}
+use Rattle.std.specs.Option.{option_or, option_map_or}
 
 -- ---- no rule of a list is broken
 
@@ -167,7 +168,7 @@ asked_has sheet ctx seat a Redo is has = refl
 goes_on : (sheet : Sheet) (ctx : Ctx) (number : ℕ) (same : Bool) (viewer : Option ℕ) (fits : Bool) (a : Asked) (at seat : ℕ) → viewer ≡ Some seat → public sheet ctx number same viewer fits a at ≡ None → ctx.over ≡ None
 unfolding public
 goes_on sheet ctx number same None fits a at seat is h = absurd (cc)
-goes_on sheet ctx number same (Some s) fits a at seat is h = no_outcome ctx.over (none_hold ((not same, NoMatch) ∷ viewer_rules sheet ctx number (Some s) fits a at) h).1.1.0
+goes_on sheet ctx number same (Some s) fits a at seat is h = no_outcome ctx.over (none_hold ((not same, NoMatch) ∷ option_map_or (λ seat. (not fits, Unauthorized) ∷ seat_rules sheet ctx number seat a at) (Some s) ((true, Unauthorized) ∷ [])) h).1.1.0
 
 -- ---- matches of a room
 
@@ -343,7 +344,7 @@ no_public m room seat key id args s few submits allowed =
     let act : act_of sheet s.asked ≡ Some (Move id args) = submitted m.game id args s submits.row submits.named submits.asked in
     let has : has_asked sheet ctx seat s.asked (act_of sheet s.asked) ≡ true = ap (has_asked sheet ctx seat s.asked) act ∙ a.has in
     let same : is_named room m.serial s.name ≡ true = and_from (s.name.room == room) (s.name.serial == m.serial) (same_name s.name.room room (ap (λ n. n.room) submits.name)) (same_name s.name.serial m.serial (ap (λ n. n.serial) submits.name)) in
-    none_broken ((not (is_named room m.serial s.name), NoMatch) ∷ viewer_rules sheet ctx (number_of m) (Some seat) (bytes_eq key s.key) s.asked s.number) (
+    none_broken ((not (is_named room m.serial s.name), NoMatch) ∷ option_map_or (λ seat. (not (bytes_eq key s.key), Unauthorized) ∷ seat_rules sheet ctx (number_of m) seat s.asked s.number) (Some seat) ((true, Unauthorized) ∷ [])) (
       not_true (is_named room m.serial s.name) same,
       (
         not_true (bytes_eq key s.key) (keys key s.key (sym submits.key_is)),
@@ -369,8 +370,8 @@ no_public m room seat key id args s few submits allowed =
 no_game : (m : Match GameKind AnyG) (seat : ℕ) (key : List ℕ) (act : Act) (s : Submission) → act_of (any_rules m.game).sheet s.asked ≡ Some act → answer (any_rules m.game) m.first m.accepted seat act ≡ None → game_reason any_rules m (Some (seat, key)) s ≡ None
 no_game m seat key act s is accepted = ap (λ o. option_map reason_of (game_rule any_rules m (Some seat) o)) is ∙ ap (option_map reason_of) accepted
 
-no_reason : (public game : Option Reason) → public ≡ None → game ≡ None → else_reason public game ≡ None
-no_reason public game p g = ap (λ (o : Option Reason). else_reason o game) p ∙ g
+no_reason : (public game : Option Reason) → public ≡ None → game ≡ None → option_or public game ≡ None
+no_reason public game p g = ap (λ (o : Option Reason). option_or o game) p ∙ g
 
 -- each offered move is accepted in the match that stands
 pub all_accepted : (room : ℕ) (h : List (Entry (RoomCall GameKind))) (m : Match GameKind AnyG) → standing any_rules room h ≡ Some m → HasCards m.game → number_of m < MOST_ACTIONS → (seat : ℕ) → seat < m.seats → OffersAreAccepted room m seat

@@ -12,11 +12,12 @@ use Rattle.json_tree.specs.Names.{has_extra}
 use Rattle.json_tree.specs.Writable.{IsWritable, ItemsAreWritable}
 use Rattle.json_tree.proofs.Rows.{canonical_member, row_is}
 use Rattle.open_game.specs.Form.{Form, FormLaws, IsReadFrom, StateLaws}
-use Rattle.open_game.specs.Forms.{both, counted, is_between, is_seat, list_of, natural, natural_read, object_of_one, object_of_two, read_each, seat_or_none, seat_read, seat_value}
+use Rattle.open_game.specs.Forms.{both, counted, is_between, is_seat, list_of, natural, natural_read, object_of_one, object_of_two, seat_or_none, seat_read, seat_value}
 use Rattle.serde_json.specs.Data.{Data, null, boolean, number, string, array, object, unsigned, negative, float, Items, no_items, item, Members, no_members, member}
 use Rattle.serde_json.specs.Find.{get_member}
 use Rattle.serde_json.specs.View.{items_of}
 use Rattle.serde_json.specs.Written.{has_float, items_have_float}
+use Rattle.json_tree.specs.Fields.{read_each}
 
 -- an answer says less where each value of it does
 pub weaker : {A : Type 0} (o : Option A) (P Q : A → Type 0) → ((x : A) → P x → Q x) → IfSome o P → IfSome o Q

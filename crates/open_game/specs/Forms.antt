@@ -3,9 +3,11 @@ use Rattle.std.specs.Prelude.{ℕ, Bool, true, ◌&&◌, if◌then◌else◌, na
 use Rattle.std.specs.List.{list_all}
 use Rattle.json_tree.specs.Names.{extra_in}
 use Rattle.open_game.specs.Form.{Form}
-use Rattle.serde_json.specs.Data.{Data, null, number, unsigned, array, object, Items, no_items, item, member, no_members}
+use Rattle.serde_json.specs.Data.{Data, null, number, unsigned, array, object, member, no_members}
 use Rattle.serde_json.specs.Find.{as_array, as_null, as_number, as_u64, get}
 use Rattle.serde_json.specs.View.{items_of}
+use Rattle.std.specs.Option.{option_map_or}
+use Rattle.json_tree.specs.Fields.{read_each}
 
 -- the greatest number of 32 bits
 abbrev pub greatest : ℕ
@@ -13,12 +15,8 @@ greatest = 4294967295
 
 -- ---- whole numbers up to a greatest one
 
-abbrev pub up_to : ℕ → Option ℕ → Option ℕ
-up_to most None = None
-up_to most (Some n) = if nat_le n most then Some n else None
-
 abbrev pub natural_read : ℕ → Data → Option ℕ
-natural_read most v = up_to most (option_and_then as_u64 (as_number v))
+natural_read most v = option_and_then (λ n. if nat_le n most then Some n else None) (option_and_then as_u64 (as_number v))
 
 abbrev pub natural : ℕ → Form ℕ
 natural most = record { own = λ n. nat_le n most; value = λ n. number (unsigned n); read = natural_read most }
@@ -26,12 +24,10 @@ natural most = record { own = λ n. nat_le n most; value = λ n. number (unsigne
 -- ---- a seat up to a greatest one, or none
 
 abbrev pub is_seat : ℕ → Option ℕ → Bool
-is_seat most None = true
-is_seat most (Some seat) = nat_le seat most
+is_seat most found = option_map_or (λ seat. nat_le seat most) found true
 
 abbrev pub seat_value : Option ℕ → Data
-seat_value None = null
-seat_value (Some seat) = number (unsigned seat)
+seat_value found = option_map_or (λ seat. number (unsigned seat)) found null
 
 -- null is no seat
 abbrev pub seat_read : ℕ → Data → Option (Option ℕ)
@@ -41,11 +37,6 @@ abbrev pub seat_or_none : ℕ → Form (Option ℕ)
 seat_or_none most = record { own = is_seat most; value = seat_value; read = seat_read most }
 
 -- ---- lists of a least to a greatest length, each item in a form
-
--- the items, where each of them can be read
-abbrev pub read_each : {A : Type 0} → (Data → Option A) → Items → Option (List A)
-read_each read no_items = Some []
-read_each read (item d ds) = option_and_then (λ x. option_map (λ xs. x ∷ xs) (read_each read ds)) (read d)
 
 abbrev pub is_between : ℕ → ℕ → ℕ → Bool
 is_between least most n = nat_le least n && nat_le n most

@@ -1,5 +1,5 @@
 -- What a game without hooks and secrets means, its laws, and the game that it makes.
-use Rattle.std.specs.Prelude.{◌≡◌, ◌<◌, ◌≤◌, ℕ, Bool, IsTrue, List, [], length, Option, Some, None, IfSome}
+use Rattle.std.specs.Prelude.{◌≡◌, ◌<◌, ◌≤◌, ℕ, Bool, IsTrue, List, [], length, Option, IfSome}
 use Rattle.std.specs.List.{AllByRecursion}
 use Rattle.game_sheet.specs.SheetRules.{broken}
 use Rattle.game_sheet.specs.declared.act.Outcome.{Outcome}
@@ -12,6 +12,7 @@ use Rattle.game_trait.specs.Offers.{offered}
 use Rattle.game_trait.specs.Queues.{QueuesInSheet}
 use Rattle.game_trait.specs.Rules.{Rules, plain}
 use Rattle.open_game.specs.Form.{Form}
+use Rattle.std.specs.Option.{option_map_or}
 
 pub record OpenRules (G : Type 0) : Type 0 where
   -- the fixed description of the game
@@ -45,5 +46,4 @@ of_open form r = record (plain r.sheet (λ seats words. Done (r.opening seats) w
 
 -- a move that gives a state is made without a word or an event, and another isn't allowed
 abbrev pub made : {G : Type 0} → Option G → List ℕ → Deed G Barred
-made None words = GaveUp Invalid
-made (Some g) words = Done g words []
+made result words = option_map_or (λ g. Done g words []) result (GaveUp Invalid)

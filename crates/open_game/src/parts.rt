@@ -4,7 +4,8 @@ ghost use Rattle.std.specs.Prelude.{◌≡◌, ◌≤◌, ◌++◌, if◌then◌
 ghost use Rattle.serde_json.specs.Find.{as_array, get};
 ghost use Rattle.serde_json.specs.View.{items_view, view};
 ghost use Rattle.serde_json.specs.Written.{compact_text};
-ghost use Rattle.open_game.specs.Forms.{list_read, list_value, member_read, natural_read, read_each, seat_read, seat_value};
+ghost use Rattle.open_game.specs.Forms.{list_read, list_value, member_read, natural_read, seat_read, seat_value};
+ghost use Rattle.json_tree.specs.Fields.{read_each};
 
 use game_sheet::{List, NoMemory, Seat};
 use json_text::{put_comma, put_natural, put_null};

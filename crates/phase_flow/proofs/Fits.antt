@@ -14,9 +14,10 @@ use Rattle.game_sheet.specs.declared.sheet.Sheet.{Sheet}
 use Rattle.game_sheet.specs.declared.sheet.TurnRow.{TurnRow}
 use Rattle.turn_order.specs.PlayOrder.{all_seats, is_no_order, IsPlayOrder}
 use Rattle.turn_order.specs.Position.{first, next}
-use Rattle.phase_flow.specs.Rows.{order_list, own_turn, phase_row, turn_of_phase, turn_row}
+use Rattle.phase_flow.specs.Rows.{order_list, turn_of_phase, turn_row}
+use Rattle.std.specs.Prelude.{unwrap_or, option_and_then}
 
-own_fits : (sheet : Sheet) (row : PhaseRow) (o : Option TurnRow) → TurnFits sheet sheet.turn → row.turn ≡ o → PhaseFits sheet row → TurnFits sheet (own_turn sheet.turn o)
+own_fits : (sheet : Sheet) (row : PhaseRow) (o : Option TurnRow) → TurnFits sheet sheet.turn → row.turn ≡ o → PhaseFits sheet row → TurnFits sheet (unwrap_or o sheet.turn)
 own_fits sheet row None otherwise e p = otherwise
 own_fits sheet row (Some turn) otherwise e p = p.turn turn e
 
@@ -24,7 +25,7 @@ phase_turn_fits : (sheet : Sheet) (o : Option PhaseRow) → TurnFits sheet sheet
 phase_turn_fits sheet None otherwise p = otherwise
 phase_turn_fits sheet (Some row) otherwise p = own_fits sheet row row.turn otherwise refl (p row refl)
 
-at_phase_fits : (sheet : Sheet) (phase : Option ℕ) → SheetFits sheet → TurnFits sheet (turn_of_phase sheet.turn (phase_row sheet phase))
+at_phase_fits : (sheet : Sheet) (phase : Option ℕ) → SheetFits sheet → TurnFits sheet (turn_of_phase sheet.turn (option_and_then (slice_get sheet.phases) phase))
 at_phase_fits sheet None fits = fits.turn
 at_phase_fits sheet (Some phase) fits = phase_turn_fits sheet (slice_get sheet.phases phase) fits.turn (λ row e. fits.phase phase row e)
 

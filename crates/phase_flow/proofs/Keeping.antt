@@ -15,7 +15,7 @@ use Rattle.game_trait.specs.Lawful.{GivesOwn, Lawful}
 use Rattle.game_trait.specs.Queues.{AllInSheet, KeepsToSheet, QueuesInSheet}
 use Rattle.game_trait.specs.Rules.{Rules}
 use Rattle.phase_flow.specs.Action as action
-use Rattle.phase_flow.specs.Automatic.{automatic, in_front, is_full, match_ended, phase_ended as phase_says, turn_ended as turn_says, with_automatic}
+use Rattle.phase_flow.specs.Automatic.{automatic, is_full, phase_ended as phase_says, turn_ended as turn_says, with_automatic}
 use Rattle.phase_flow.specs.Flow.{after_move, begin, fresh, is_early, moved, run_event, set_up, with_count}
 use Rattle.phase_flow.specs.Reached.{Reached, reached, table_of}
 use Rattle.phase_flow.specs.Rows.{order_list, phase_after, start_phase, turn_row}
@@ -25,6 +25,7 @@ use Rattle.phase_flow.specs.Turns.{enter, in_phase, order_begun, ordered, pass_o
 use Rattle.phase_flow.specs.declared.table.Table.{Table}
 use Rattle.phase_flow.specs.declared.task.Task.{Task}
 use Rattle.turn_order.specs.Position.{first, next}
+use Rattle.std.specs.Option.{option_map_or}
 
 -- an event that ends the match ends it with an outcome that fits
 abbrev EndsWell : Event → Type 0
@@ -61,7 +62,7 @@ abbrev WellIfAny : Option Task → Type 0
 WellIfAny None = Unit {0}
 WellIfAny (Some task) = EndsWell task.event
 
-front_well : (o : Option Task) (tasks : List Task) → WellIfAny o → AllEndWell tasks → AllEndWell (in_front o tasks)
+front_well : (o : Option Task) (tasks : List Task) → WellIfAny o → AllEndWell tasks → AllEndWell (option_map_or (λ task. task ∷ tasks) o tasks)
 front_well None tasks f t = t
 front_well (Some task) tasks f t = (f, t)
 
@@ -75,7 +76,7 @@ phase_says_well None says o f = f
 phase_says_well (Some phase) true o f = tt
 phase_says_well (Some phase) false o f = f
 
-match_says_well : (outcome : Option Outcome) (o : Option Task) → ((named : Outcome) → outcome ≡ Some named → OutcomeFits named) → WellIfAny o → WellIfAny (match_ended outcome o)
+match_says_well : (outcome : Option Outcome) (o : Option Task) → ((named : Outcome) → outcome ≡ Some named → OutcomeFits named) → WellIfAny o → WellIfAny (option_map_or (λ outcome. Some (by_itself (EndGame outcome))) outcome o)
 match_says_well None o e f = f
 match_says_well (Some outcome) o e f = e outcome refl
 

@@ -22,15 +22,16 @@ use Rattle.turn_order.specs.Position.{first, next}
 use Rattle.phase_flow.specs.declared.flow_no.FlowNo.{FlowNo}
 use Rattle.phase_flow.specs.declared.table.Table.{Table}
 use Rattle.phase_flow.specs.declared.task.Task.{Task}
-use Rattle.phase_flow.specs.Automatic.{automatic, in_front, match_ended, phase_ended as phase_says, turn_ended as turn_says, is_full, with_automatic}
+use Rattle.phase_flow.specs.Automatic.{automatic, phase_ended as phase_says, turn_ended as turn_says, is_full, with_automatic}
 use Rattle.phase_flow.specs.Comes.{Settles}
-use Rattle.phase_flow.specs.Flow.{after_move, begin, fresh, is_early, moved, moves_after, run_event, set_up, with_count}
+use Rattle.phase_flow.specs.Flow.{after_move, begin, fresh, is_early, moved, run_event, set_up, with_count}
 use Rattle.phase_flow.specs.IsSound.{IsSound}
 use Rattle.phase_flow.specs.Rows.{order_list, phase_after, start_phase, turn_row}
 use Rattle.phase_flow.specs.Settle.{end_phase, end_turn, end_turn_to, next_by, over, pass_or_end, pass_to, run, settle, speaking}
 use Rattle.phase_flow.specs.Step.{At, Ends, Step, and_then, by_itself, carry_on, ended_with, hooked, spoken, spoken_by}
 use Rattle.phase_flow.specs.Turns.{enter, in_phase, order_begun, ordered, pass_on, phase_ended, phase_entered, phase_left, spec_set, turn, turn_ended, turned, with_active}
 use Rattle.phase_flow.proofs.Fits.{all_seats_serve, first_inside, next_inside, order_list_serves, place_inside, position_inside}
+use Rattle.std.specs.Option.{option_map_or}
 
 -- what the operations on maps keep
 pub record MapLaws : Type 0 where
@@ -81,7 +82,7 @@ abbrev Fits : Sheet → ℕ → Option Task → Type 0
 Fits sheet seats None = Unit {0}
 Fits sheet seats (Some task) = NamesRows sheet task.event × IsSeat seats task.speaker
 
-front_fit : (sheet : Sheet) (seats : ℕ) (o : Option Task) (tasks : List Task) → Fits sheet seats o → TasksFit sheet seats tasks → TasksFit sheet seats (in_front o tasks)
+front_fit : (sheet : Sheet) (seats : ℕ) (o : Option Task) (tasks : List Task) → Fits sheet seats o → TasksFit sheet seats tasks → TasksFit sheet seats (option_map_or (λ task. task ∷ tasks) o tasks)
 front_fit sheet seats None tasks f t = t
 front_fit sheet seats (Some task) tasks f t = (f.0, f.1, t)
 
@@ -95,7 +96,7 @@ phase_says_fits sheet seats None says o f = f
 phase_says_fits sheet seats (Some phase) true o f = (tt, tt)
 phase_says_fits sheet seats (Some phase) false o f = f
 
-match_says_fits : (sheet : Sheet) (seats : ℕ) (outcome : Option Outcome) (o : Option Task) → Fits sheet seats o → Fits sheet seats (match_ended outcome o)
+match_says_fits : (sheet : Sheet) (seats : ℕ) (outcome : Option Outcome) (o : Option Task) → Fits sheet seats o → Fits sheet seats (option_map_or (λ outcome. Some (by_itself (EndGame outcome))) outcome o)
 match_says_fits sheet seats None o f = f
 match_says_fits sheet seats (Some outcome) o f = (tt, tt)
 
@@ -357,7 +358,7 @@ module _ {G : Type 0} (rules : Rules G) (fits : SheetFits rules.sheet) (keeps : 
   unfolding begin
   begin_fits seats words least most = set_up_fits seats (rules.setup seats words) least most
 
-  moves_below : (is : Bool) (moves most : ℕ) → moves ≤ most → moves_after is moves ≤ most + 1
+  moves_below : (is : Bool) (moves most : ℕ) → moves ≤ most → (if is then moves + 1 else moves) ≤ most + 1
   moves_below true moves most h = omega arith
   moves_below false moves most h = omega arith
 

@@ -1,6 +1,6 @@
 -- How a match begins, and what one action makes of it: what it has then come to, or the rule that the action breaks. An action may draw
 -- 256 words, from the place that the match has reached; the place goes on by the words that it draws.
-use Rattle.std.specs.Prelude.{ℕ, ◌+◌, ◌-◌, ◌%◌, ◌^◌, Bool, false, not, if◌then◌else◌, is_none, nat_eq, List, length, position, slice_get, Option, Some, None, Result, Ok, Err}
+use Rattle.std.specs.Prelude.{ℕ, ◌+◌, ◌-◌, ◌%◌, ◌^◌, Bool, false, not, if◌then◌else◌, is_none, nat_eq, List, length, position, slice_get, Option, Some, Result, Ok, Err}
 use Rattle.dice_words.specs.Words.{words}
 use Rattle.game_sheet.specs.declared.act.Act.{Act}
 use Rattle.game_sheet.specs.declared.act.Act.TheVariants.{Move, Event as Asks}
@@ -17,6 +17,7 @@ use Rattle.phase_flow.specs.Flow as flow
 use Rattle.phase_flow.specs.Reached.{Reached, reached, table_of}
 use Rattle.phase_flow.specs.Step.{At, Ends, Step, rule_of}
 use Rattle.stage_map.specs.Active.{is_listed}
+use Rattle.std.specs.Option.{option_map_or}
 
 -- the words that an action may draw from a place on
 abbrev pub words_from : List ℕ → ℕ → List ℕ
@@ -36,8 +37,7 @@ unfoldable pub begin : {G : Type 0} → Rules G → ℕ → List ℕ → Result 
 begin rules seats seed = come_to seed 0 (flow.begin rules seats (words_from seed 0))
 
 abbrev pub has_no_limit : Option MoveRow → Bool
-has_no_limit None = false
-has_no_limit (Some row) = row.no_limit
+has_no_limit found = option_map_or (λ row. row.no_limit) found false
 
 -- a move counts unless its row says that it counts toward no limit
 abbrev pub counts : Sheet → ℕ → Bool

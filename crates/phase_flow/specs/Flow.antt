@@ -33,15 +33,12 @@ opening seats = record {
 abbrev pub fresh : {G : Type 0} → ℕ → G → Table G
 fresh seats g = record { g = g; ctx = opening seats; active = none }
 
--- a move counts for the turn where it is the current seat's
-abbrev pub moves_after : Bool → ℕ → ℕ
-moves_after is_current moves = if is_current then moves + 1 else moves
-
 -- a move that counts, counts for the turn and for its seat on the map
+-- a move counts for the turn where it is the current seat's
 abbrev pub with_count : {G : Type 0} → Sheet → Bool → ℕ → Table G → Table G
 with_count sheet false seat t = t
-with_count sheet true seat t =
-    with_active (count_move sheet seat t.ctx.current t.ctx.order t.active) (record t { ctx = record t.ctx { moves = moves_after (nat_eq seat t.ctx.current) t.ctx.moves } })
+with_count sheet true seat t = with_active (count_move sheet seat t.ctx.current t.ctx.order t.active)
+    (record t { ctx = record t.ctx { moves = if nat_eq seat t.ctx.current then t.ctx.moves + 1 else t.ctx.moves } })
 
 -- a turn or a stage that a player would end before its least count of moves
 abbrev pub is_early : {G : Type 0} → Sheet → ℕ → Event → Table G → Bool

@@ -1,5 +1,5 @@
 -- The rows of a sheet that are in force, and the play order that a row asks for.
-use Rattle.std.specs.Prelude.{ℕ, List, Option, Some, None, position, slice_get, option_and_then}
+use Rattle.std.specs.Prelude.{ℕ, List, Option, position, slice_get, option_and_then, unwrap_or}
 use Rattle.game_sheet.specs.declared.ctx.Ctx.{Ctx}
 use Rattle.game_sheet.specs.declared.sheet.Order.{Order}
 use Rattle.game_sheet.specs.declared.sheet.Order.TheVariants.{Custom, CustomFrom}
@@ -7,22 +7,14 @@ use Rattle.game_sheet.specs.declared.sheet.PhaseRow.{PhaseRow}
 use Rattle.game_sheet.specs.declared.sheet.Sheet.{Sheet}
 use Rattle.game_sheet.specs.declared.sheet.TurnRow.{TurnRow}
 use Rattle.turn_order.specs.PlayOrder.{all_seats, list_or_all}
-
-abbrev pub phase_row : Sheet → Option ℕ → Option PhaseRow
-phase_row sheet None = None
-phase_row sheet (Some phase) = slice_get sheet.phases phase
-
-abbrev pub own_turn : TurnRow → Option TurnRow → TurnRow
-own_turn otherwise None = otherwise
-own_turn otherwise (Some turn) = turn
+use Rattle.std.specs.Option.{option_map_or}
 
 abbrev pub turn_of_phase : TurnRow → Option PhaseRow → TurnRow
-turn_of_phase otherwise None = otherwise
-turn_of_phase otherwise (Some row) = own_turn otherwise row.turn
+turn_of_phase otherwise row = option_map_or (λ row. unwrap_or row.turn otherwise) row otherwise
 
 -- the turn row in force: the phase's own, else the sheet's
 abbrev pub turn_row : Sheet → Ctx → TurnRow
-turn_row sheet ctx = turn_of_phase sheet.turn (phase_row sheet ctx.phase)
+turn_row sheet ctx = turn_of_phase sheet.turn (option_and_then (slice_get sheet.phases) ctx.phase)
 
 -- the phase that follows a phase, if one does
 abbrev pub phase_after : Sheet → ℕ → Option ℕ

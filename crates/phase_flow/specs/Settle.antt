@@ -1,6 +1,6 @@
 -- How a table is settled. Tasks run first in, first out, and what each one does is a line for each kind of event. Before each of them the task
 -- that comes by itself may be put in front. Nothing runs once the match is over, and no action begins a sixty-fifth task.
-use Rattle.std.specs.Prelude.{ℕ, zero, suc, Bool, true, false, if◌then◌else◌, nat_eq, nat_lt, List, [], ◌∷◌, length, position, Option, Some, None}
+use Rattle.std.specs.Prelude.{ℕ, zero, suc, Bool, true, false, if◌then◌else◌, nat_eq, nat_lt, List, [], ◌∷◌, length, position, Option, Some, None, unwrap_or}
 use Rattle.game_sheet.specs.declared.act.Event.{Event}
 use Rattle.game_sheet.specs.declared.act.Event.TheVariants.{EndTurn, EndPhase, SetPhase, EndStage, SetStage, SetActive, EndGame}
 use Rattle.game_sheet.specs.declared.act.Outcome.{Outcome}
@@ -16,11 +16,11 @@ use Rattle.phase_flow.specs.Automatic.{with_automatic}
 use Rattle.phase_flow.specs.Rows.{phase_after, turn_row}
 use Rattle.phase_flow.specs.Step.{At, Ends, Step, by_itself, carry_on, ended_with}
 use Rattle.phase_flow.specs.Turns.{enter, pass_on, with_active}
+use Rattle.std.specs.Option.{option_map_or}
 
 -- the seat that a task speaks of
 abbrev pub speaking : Option ℕ → Ctx → ℕ
-speaking None ctx = ctx.current
-speaking (Some seat) ctx = seat
+speaking seat ctx = unwrap_or seat ctx.current
 
 abbrev pub over : {G : Type 0} → Outcome → Table G → Table G
 over outcome t = record t { ctx = record t.ctx { over = Some outcome } }
@@ -28,13 +28,11 @@ over outcome t = record t { ctx = record t.ctx { over = Some outcome } }
 module _ {G : Type 0} (rules : Rules G) where
   -- the turn passes to a seat of the play order, and to no other
   abbrev pub pass_to : Option ℕ → Table G → List ℕ → List Task → Step G
-  pass_to None t words tasks = At t words tasks false
-  pass_to (Some place) t words tasks = pass_on rules place t words tasks
+  pass_to place t words tasks = option_map_or (λ place. pass_on rules place t words tasks) place (At t words tasks false)
 
   -- the turn passes to the next position; without one the phase's end is put in front
   abbrev pub pass_or_end : Option ℕ → Table G → List ℕ → List Task → Step G
-  pass_or_end None t words tasks = At t words (by_itself EndPhase ∷ tasks) true
-  pass_or_end (Some place) t words tasks = pass_on rules place t words tasks
+  pass_or_end place t words tasks = option_map_or (λ place. pass_on rules place t words tasks) place (At t words (by_itself EndPhase ∷ tasks) true)
 
   abbrev pub end_turn_to : Option ℕ → Table G → List ℕ → List Task → Step G
   end_turn_to (Some seat) t words tasks = pass_to (position (nat_eq seat) t.ctx.order) t words tasks
@@ -44,8 +42,7 @@ module _ {G : Type 0} (rules : Rules G) where
   end_turn to t words tasks = if nat_lt t.ctx.moves (turn_row rules.sheet t.ctx).min_moves then At t words tasks false else end_turn_to to t words tasks
 
   abbrev pub end_phase : Option ℕ → Table G → List ℕ → List Task → Step G
-  end_phase None t words tasks = At t words tasks false
-  end_phase (Some phase) t words tasks = enter rules (phase_after rules.sheet phase) t words tasks
+  end_phase phase t words tasks = option_map_or (λ phase. enter rules (phase_after rules.sheet phase) t words tasks) phase (At t words tasks false)
 
   -- the match is over, and the hook runs; all other tasks are dropped
   abbrev pub end_game : Table G → List ℕ → Step G

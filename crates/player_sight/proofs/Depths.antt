@@ -17,9 +17,9 @@ use Rattle.game_sheet.specs.declared.sheet.Sheet.{Sheet}
 use Rattle.move_log.specs.declared.entry.Entry.{Entry}
 use Rattle.game_sheet.specs.declared.args.Arg.{Arg}
 use Rattle.sheet_json.specs.Arguments.{arguments}
-use Rattle.sheet_json.specs.Seats.{natural, natural_or_null}
+use Rattle.sheet_json.specs.Seats.{natural, natural_or_null, text_or_null}
 use Rattle.sheet_json.proofs.ArgumentLaws.{flat}
-use Rattle.player_sight.specs.Parts.{text_or_null, move_name, phase_or_null, stage_or_null}
+use Rattle.player_sight.specs.Parts.{move_name, phase_or_null, stage_or_null}
 use Rattle.player_sight.specs.EntryData.{event_aim, event_data, act_data, entry_data, log_data}
 use Rattle.player_sight.specs.CtxData.{with_row, active_data, over_data, ctx_data}
 use Rattle.player_sight.specs.SnapshotData.{Snap, snapshot_data}

@@ -15,9 +15,9 @@ use Rattle.game_sheet.specs.declared.act.Outcome.TheVariants.{Winner, Draw, Ende
 use Rattle.game_sheet.specs.declared.ctx.Ctx.{Ctx}
 use Rattle.game_sheet.specs.declared.sheet.Sheet.{Sheet}
 use Rattle.move_log.specs.declared.entry.Entry.{Entry}
-use Rattle.sheet_json.specs.Seats.{natural, natural_or_null}
+use Rattle.sheet_json.specs.Seats.{natural, natural_or_null, text_or_null}
 use Rattle.sheet_json.proofs.ArgumentLaws.{no_float_in}
-use Rattle.player_sight.specs.Parts.{text_or_null, phase_or_null, stage_or_null}
+use Rattle.player_sight.specs.Parts.{phase_or_null, stage_or_null}
 use Rattle.player_sight.specs.EntryData.{event_aim, event_data, act_data, entry_data, log_data}
 use Rattle.player_sight.specs.SnapshotData.{Snap, snapshot_data}
 use Rattle.player_sight.specs.CtxData.{with_row, rows_members, active_data, over_data, ctx_data}

@@ -8,7 +8,7 @@ use Rattle.game_sheet.specs.declared.act.Act.TheVariants.{Move, Event, Undo, Red
 use Rattle.game_sheet.specs.declared.args.Arg.{Arg}
 use Rattle.game_sheet.specs.declared.sheet.Sheet.{Sheet}
 use Rattle.move_log.specs.Outline.{args_of, entry_with, outline_of, seen, with_args}
-use Rattle.move_log.specs.Redact.{conceals, is_redacted, is_seat, redact, without_args}
+use Rattle.move_log.specs.Redact.{conceals, is_redacted, redact, without_args}
 use Rattle.move_log.specs.declared.entry.Entry.{Entry}
 use Rattle.move_log.specs.declared.outline.Seen.{Seen}
 use Rattle.player_sight.specs.EntryData.{act_data, entry_data, entry_object}

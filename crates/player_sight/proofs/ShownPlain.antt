@@ -8,10 +8,11 @@ use Rattle.game_sheet.specs.declared.args.Arg.{Arg}
 use Rattle.game_sheet.specs.declared.sheet.Sheet.{Sheet}
 use Rattle.game_trait.specs.Lawful.{Lawful}
 use Rattle.game_trait.specs.Rules.{Rules}
-use Rattle.move_log.specs.Redact.{is_redacted, is_seat, without_args, redact}
+use Rattle.move_log.specs.Redact.{is_redacted, without_args, redact}
 use Rattle.move_log.specs.declared.entry.Entry.{Entry}
 use Rattle.player_sight.specs.Plain.{ActFits, IsPlainCtx, IsPlainEntry}
 use Rattle.player_sight.specs.PlainSnapshot.{IsPlain, MayBeShown}
+use Rattle.std.specs.Option.{option_map_or}
 
 redacted_move : (sheet : Sheet) (hidden shut : Bool) (id : ℕ) (args : List Arg) → ActFits sheet hidden (Move id args) → ActFits sheet (hidden || shut) (cond shut (Move id []) (Move id args))
 redacted_move sheet true true id args h = (h.0, refl)
@@ -35,7 +36,7 @@ redacted_act sheet hidden other Redo h = left_alone sheet hidden other Redo h
 redacted_plain : (sheet : Sheet) (viewer : Option ℕ) (e : Entry) → MayBeShown sheet e → IsPlainEntry sheet (redact sheet viewer e)
 redacted_plain sheet viewer e h = record {
   seat = h.seat;
-  act = redacted_act sheet e.hidden (not (is_seat viewer e.seat)) e.act h.act;
+  act = redacted_act sheet e.hidden (not (option_map_or (λ viewer. viewer == e.seat) viewer false)) e.act h.act;
   number = h.number;
   turn = h.turn;
   phase = h.phase;

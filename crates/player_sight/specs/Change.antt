@@ -1,15 +1,15 @@
 -- What changed between two values that a player was shown, and what a value is once it has changed so.
-use Rattle.std.specs.Prelude.{ℕ, List, [], ◌∷◌, map, Bool, false, if◌then◌else◌, bytes_eq, Option, Some, None, is_some}
+use Rattle.std.specs.Prelude.{ℕ, List, [], ◌∷◌, map, Bool, false, if◌then◌else◌, bytes_eq, Option, is_some}
 use Rattle.serde_json.specs.Data.{Data, string, array, object, Items, no_items, item, Members, member, no_members, put}
 use Rattle.serde_json.specs.Find.{get}
 use Rattle.serde_json.specs.View.{items_of}
 use Rattle.serde_json.specs.Written.{compact_text}
 use Rattle.json_tree.specs.Names.{is_known}
+use Rattle.std.specs.Option.{option_map_or}
 
 -- whether a value was found, with the text of another
 abbrev pub has_text_of : Data → Option Data → Bool
-has_text_of d None = false
-has_text_of d (Some found) = bytes_eq (compact_text found) (compact_text d)
+has_text_of d found = option_map_or (λ found. bytes_eq (compact_text found) (compact_text d)) found false
 
 -- the members that an old value lacks or has with another text
 abbrev pub changed_members : Data → Members → Members

@@ -39,8 +39,7 @@ event_data sheet e = object
     (member (codes "to") (event_aim sheet e) no_members)))
 
 abbrev pub move_data : Data → Data → Data
-move_data name args =
-    object (member (codes "args") args (member (codes "kind") (string (codes "move")) (member (codes "move") name no_members)))
+move_data name args = object (member (codes "args") args (member (codes "kind") (string (codes "move")) (member (codes "move") name no_members)))
 
 abbrev pub act_data : Sheet → Bool → Act → Data
 act_data sheet hidden (Move id args) = move_data (move_name sheet id) (if hidden then null else array (arguments args))

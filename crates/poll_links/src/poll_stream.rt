@@ -45,7 +45,7 @@ impl<C: Clock + Drop> PollStream<C> {
         }
     }
 
-    /// When a read has to be tried though nothing came, so that silence is noticed: at most a quarter of the limit and a second too late.
+    /// When a read has to be tried though nothing came, so that silence is noticed: at most a quarter of the limit and two seconds too late.
     pub fn looks(&self) -> Looks {
         Looks {
             first: self.silence.map(|limit| limit.saturating_add(1)),

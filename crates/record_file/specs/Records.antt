@@ -1,5 +1,5 @@
 -- Records one after another in a file, each behind a gate.
-use Rattle.std.specs.Prelude.{◌≡◌, ◌≢◌, ◌⊎◌, ◌≤◌, ℕ, List, [], ◌∷◌, ◌++◌, length}
+use Rattle.std.specs.Prelude.{◌≡◌, ◌≢◌, ◌⊎◌, ◌≤◌, ℕ, List, [], ◌∷◌, ◌++◌, length, flat_map}
 use Rattle.std.specs.Int.{to_le_bytes, w32}
 use Rattle.board_links.specs.Faults.{HasRisen}
 use Rattle.board_links.specs.declared.sink.Put.{Put}
@@ -16,8 +16,7 @@ framed payload = record_bytes payload ++ 0 ∷ []
 
 -- records one after another, each behind an open gate
 abbrev pub open_records : List (List ℕ) → List ℕ
-open_records [] = []
-open_records (payload ∷ records) = 1 ∷ (record_bytes payload ++ open_records records)
+open_records records = flat_map (λ payload. 1 ∷ record_bytes payload) records
 
 -- several records behind the first one's gate, and with a closed gate behind them
 abbrev pub behind : List ℕ → List (List ℕ) → List ℕ

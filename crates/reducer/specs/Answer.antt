@@ -1,7 +1,7 @@
 -- What a further action is answered where a match stands: the rule that it breaks, or none where it is accepted. An undo is asked of the
 -- last done action, within the turn that it was made in, by its own seat, and of a move that the game gives back as it stands now;
 -- a redo is asked of the first undone action, by its own seat; and a move or an event is what one action comes to.
-use Rattle.std.specs.Prelude.{ℕ, Bool, false, nat_eq, if◌then◌else◌, List, [], ◌∷◌, Option, Some, None, Result, Ok, Err}
+use Rattle.std.specs.Prelude.{ℕ, Bool, false, nat_eq, if◌then◌else◌, List, [], ◌∷◌, Option, Some, None, Result}
 use Rattle.game_sheet.specs.declared.act.Act.{Act}
 use Rattle.game_sheet.specs.declared.act.Act.TheVariants.{Move, Undo, Redo}
 use Rattle.game_sheet.specs.declared.refusal.GameRule.{GameRule}
@@ -12,11 +12,11 @@ use Rattle.phase_flow.specs.Reached.{Reached}
 use Rattle.reducer.specs.Accepted.{Accepted}
 use Rattle.reducer.specs.Folded.{folded}
 use Rattle.reducer.specs.Standing.{Standing}
+use Rattle.std.specs.Result.{result_err}
 
 -- the rule that refuses, if one does
 abbrev pub refusal : {G : Type 0} → Result (Reached G) GameRule → Option GameRule
-refusal (Ok after) = None
-refusal (Err rule) = Some rule
+refusal result = result_err result
 
 -- no event is taken back, and a move where the game says so of the present state
 abbrev pub is_undoable : {G : Type 0} → Rules G → Reached G → Act → Bool
@@ -25,8 +25,7 @@ is_undoable rules now other = false
 
 -- a seat asks that the last action be undone, which was made in a turn of this number
 abbrev pub undo_broken : {G : Type 0} → Rules G → Reached G → ℕ → Accepted → ℕ → Option GameRule
-undo_broken rules now turn last seat =
-    if nat_eq turn now.ctx.turn
+undo_broken rules now turn last seat = if nat_eq turn now.ctx.turn
     then (if nat_eq last.seat seat then (if is_undoable rules now last.act then None else Some NotUndoable) else Some NotYours)
     else Some NothingToUndo
 

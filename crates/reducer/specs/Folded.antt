@@ -1,15 +1,15 @@
 -- What done actions come to, one after the other, the latest first in the list.
-use Rattle.std.specs.Prelude.{List, [], ◌∷◌, Result, Ok, Err}
+use Rattle.std.specs.Prelude.{List, [], ◌∷◌, Result}
 use Rattle.game_sheet.specs.declared.refusal.GameRule.{GameRule}
 use Rattle.game_trait.specs.Rules.{Rules}
 use Rattle.phase_flow.specs.Action.{once}
 use Rattle.phase_flow.specs.Reached.{Reached}
 use Rattle.reducer.specs.Accepted.{Accepted}
+use Rattle.std.specs.Result.{result_unwrap_or}
 
 -- an action that is refused leaves it
 abbrev pub unless_refused : {G : Type 0} → Reached G → Result (Reached G) GameRule → Reached G
-unless_refused before (Ok after) = after
-unless_refused before (Err rule) = before
+unless_refused before result = result_unwrap_or result before
 
 abbrev pub folded : {G : Type 0} → Rules G → Reached G → List Accepted → Reached G
 folded rules first [] = first

@@ -18,7 +18,7 @@ use Rattle.wire_json.specs.declared.asked.Asked.{Asked}
 use Rattle.wire_json.specs.declared.reason.Reason.{Reason}
 use Rattle.wire_json.specs.declared.reason.Reason.TheVariants as reason
 use Rattle.wire_json.specs.declared.submission.Submission.{Submission}
-use Rattle.wire_json.specs.Resolve.{act_of}
+use Rattle.wire_json.specs.Resolve.{act_of, ignores_number}
 use Rattle.room_history.specs.Course.{IsOpen}
 use Rattle.wire_json.specs.declared.protocol.Protocol.{Protocol}
 use Rattle.room_history.specs.Does.{Room, room_after, room_after_want, reply_to, with_new_match, with_match, with_cleared, with_left_seat, with_removed_if, with_each, with_session, with_fate, with_one, after_leaving, after_submission}
@@ -26,9 +26,9 @@ use Rattle.room_history.specs.Match.{Match, number_of, table_of}
 use Rattle.room_history.specs.Piece.{State, Open, Ended, Closed}
 use Rattle.room_history.specs.Reply.{Fate, Unheard, Turned, Goes, created_match, fate, fate_by, fate_in, last_serial, looked_match, named_match, new_match, reply_by, reseated_match, seats_fit, submit_reply, with_roster, attached_match}
 use Rattle.room_history.specs.Room.{room_of, reply, latest_seat, seat_in}
-use Rattle.room_history.specs.Rule.{first_broken, has_key, most_actions, public, is_undo_or_redo, is_alone, has_act, ignores_number, seat_rules, viewer_rules}
+use Rattle.room_history.specs.Rule.{first_broken, has_key, most_actions, public, is_undo_or_redo, is_alone, has_act, seat_rules}
 use Rattle.room_history.specs.Session.{Session, session_state, latest_state}
-use Rattle.room_history.specs.Verdict.{else_reason, first_reason, game_reason, is_named, match_accepting, public_reason}
+use Rattle.room_history.specs.Verdict.{first_reason, game_reason, is_named, match_accepting, public_reason}
 use Rattle.stage_map.specs.Moves.{may}
 use Rattle.room_history.specs.declared.call.RoomCall.{RoomCall}
 use Rattle.room_history.specs.declared.call.RoomCall.TheVariants.{Create, Join, Rename, Leave, Look, Attach, Submit, Take, Detach, Clear}
@@ -37,9 +37,10 @@ use Rattle.room_history.specs.declared.reply.RoomReply.TheVariants as answer
 use Rattle.room_history.proofs.Keeps.{Listed, kept as kept_room}
 use Rattle.room_history.proofs.Seating.{Seated, Sits, seated}
 use Rattle.room_changes.specs.ChangesOf.{act_by, change_asked, change_made, changes_of, is_accepted}
-use Rattle.room_changes.specs.Kept.{Kept, acted_by, claim, kept, kept_from, kept_with, none_made, submission, unless_refused, with_created, with_left, with_none, with_reseated}
+use Rattle.room_changes.specs.Kept.{Kept, acted_by, claim, kept, kept_from, kept_with, submission, with_created, with_left, with_none, with_reseated, standing, serials}
 use Rattle.room_changes.specs.declared.change.Change.{Change}
 use Rattle.room_changes.specs.declared.change.Change.TheVariants as change
+use Rattle.std.specs.Option.{option_map_or, option_or}
 
 no_both : false ≡ true → ⊥
 no_both h = cc
@@ -136,7 +137,7 @@ unfolding public
 rules_weaker sheet ctx number seat same fits a at =
     let old = seat_rules sheet ctx number seat a at in
     let new = seat_rules sheet ctx number seat a number in
-    broken_weaker (not same) false reason.NoMatch (viewer_rules sheet ctx number (Some seat) fits a at) (viewer_rules sheet ctx number (Some seat) true a number) (λ e. refl)
+    broken_weaker (not same) false reason.NoMatch (option_map_or (λ seat. (not fits, Unauthorized) ∷ seat_rules sheet ctx number seat a at) (Some seat) ((true, Unauthorized) ∷ [])) (option_map_or (λ seat. (not true, Unauthorized) ∷ seat_rules sheet ctx number seat a number) (Some seat) ((true, Unauthorized) ∷ [])) (λ e. refl)
     (broken_weaker (not fits) false reason.Unauthorized old new (λ e. refl)
     (broken_weaker (is_some ctx.over) (is_some ctx.over) reason.GameOver (drop 1 old) (drop 1 new) (λ e. e)
     (broken_weaker (number == most_actions) (number == most_actions) reason.MatchFull (drop 2 old) (drop 2 new) (λ e. e)
@@ -162,15 +163,15 @@ pub record Allowed (public game : Option Reason) : Type 0 where
   pub by_rules : public ≡ None
   pub by_game : game ≡ None
 
-allowed : (public game : Option Reason) → else_reason public game ≡ None → Allowed public game
+allowed : (public game : Option Reason) → option_or public game ≡ None → Allowed public game
 allowed None game e = record { by_rules = refl; by_game = e }
 allowed (Some reason) game e = absurd (differ e)
   where
     differ : Some reason ≡ None → ⊥
     differ h = cc
 
-both_allow : (public game : Option Reason) → public ≡ None → game ≡ None → else_reason public game ≡ None
-both_allow public game e f = ap (λ p. else_reason p game) e ∙ f
+both_allow : (public game : Option Reason) → public ≡ None → game ≡ None → option_or public game ≡ None
+both_allow public game e f = ap (λ p. option_or p game) e ∙ f
 
 named_so : (room serial : ℕ) → is_named room serial (record { room = room; serial = serial }) ≡ true
 named_so room serial = by (room == room) (serial == serial) (grind (arith, nat_tests)) (grind (arith, nat_tests))
@@ -250,7 +251,7 @@ module _ {X G : Type 0} (rules : X → Rules G) (room : ℕ) where
       → option_map (with_standing serials) (acted_by rules room m seat s.asked o) ≡ Some (with_standing serials (match_accepting rules m (Some (seat, key)) s))
   player_step serials m seat key s None t e = absurd (no_both t)
   player_step serials m seat key s (Some player) t e =
-      ap (λ (r : Option Reason). option_map (with_standing serials) (unless_refused r (match_accepting rules m (claim seat player) (submission room m player s.asked)))) (again m seat key player s e)
+      ap (λ (r : Option Reason). option_map (with_standing serials) (option_map_or (λ reason. None) r (Some (match_accepting rules m (claim seat player) (submission room m player s.asked))))) (again m seat key player s e)
 
   verdict_step : (serials : ℕ) (m : Match X G) (viewer : Viewer) (s : Submission) → Sits m.roster viewer → (o : Option Reason) → first_reason rules room m viewer s ≡ o
       → FateMakes (record { serials = serials; standing = Some m }) (fate_by rules room m viewer s o) (act_by (Some (seat_of viewer)) s.asked)
@@ -337,6 +338,6 @@ module _ {X G : Type 0} (rules : X → Rules G) (room : ℕ) where
   unfolding reply
   makes [] = refl
   makes (e ∷ h) =
-      kept_more (changes_of rules room h) (change_made (is_accepted (reply rules room h e)) (change_asked (latest_seat ((room_of rules room h).sessions e.pass)) e.call)) none_made
+      kept_more (changes_of rules room h) (change_made (is_accepted (reply rules room h e)) (change_asked (latest_seat ((room_of rules room h).sessions e.pass)) e.call)) (record { serials = 0; standing = None })
       ∙ ap (option_and_then (λ n. kept_from rules room n (change_made (is_accepted (reply rules room h e)) (change_asked (latest_seat ((room_of rules room h).sessions e.pass)) e.call)))) (makes h)
       ∙ entry_step e.starved (room_of rules room h) e.pass e.call ((kept_room rules room h).all e.pass) ((seated rules room h).all e.pass)

@@ -14,14 +14,11 @@ use Rattle.room_history.specs.Verdict.{first_reason, match_accepting}
 use Rattle.room_history.specs.declared.reply.RoomReply.{RoomReply}
 use Rattle.room_changes.specs.declared.change.Change.{Change}
 use Rattle.room_changes.specs.declared.change.Change.TheVariants as change
+use Rattle.std.specs.Option.{option_map_or}
 
 pub record Kept (X G : Type 0) : Type 0 where
   pub serials : ℕ
   pub standing : Option (Match X G)
-
--- before any change
-abbrev pub none_made : {X G : Type 0} → Kept X G
-none_made = record { serials = 0; standing = None }
 
 abbrev pub with_created : {X G : Type 0} → Result (Match X G) RoomReply → Option (Kept X G)
 with_created made = option_map (λ m. record { serials = m.serial; standing = Some m }) (result_ok made)
@@ -40,10 +37,6 @@ with_none serials made = option_map (λ m. record { serials = serials; standing 
 abbrev pub claim : ℕ → Player → Viewer
 claim seat player = Some (seat, player.key)
 
-abbrev pub unless_refused : {A R : Type 0} → Option R → A → Option A
-unless_refused None x = Some x
-unless_refused (Some reason) x = None
-
 -- an action that a player of the match submits as things are
 abbrev pub submission : {X G : Type 0} → ℕ → Match X G → Player → Asked → Submission
 submission room m player asked = record { name = record { room = room; serial = m.serial }; key = player.key; number = number_of m; ticket = 0; asked = asked }
@@ -51,12 +44,11 @@ submission room m player asked = record { name = record { room = room; serial = 
 module _ {X G : Type 0} (rules : X → Rules G) (room : ℕ) where
   abbrev pub acted_by : Match X G → ℕ → Asked → Option Player → Option (Match X G)
   acted_by m seat asked None = None
-  acted_by m seat asked (Some player) =
-      unless_refused (first_reason rules room m (claim seat player) (submission room m player asked)) (match_accepting rules m (claim seat player) (submission room m player asked))
+  acted_by m seat asked (Some player) = option_map_or (λ reason. None) (first_reason rules room m (claim seat player) (submission room m player asked))
+      (Some (match_accepting rules m (claim seat player) (submission room m player asked)))
 
   abbrev pub acted : Option (Match X G) → ℕ → Asked → Option (Match X G)
-  acted None seat asked = None
-  acted (Some m) seat asked = acted_by m seat asked (player_at m.roster seat)
+  acted standing seat asked = option_and_then (λ m. acted_by m seat asked (player_at m.roster seat)) standing
 
   -- what one more change makes; none where the room doesn't accept it
   abbrev pub kept_with : Kept X G → Change X → Option (Kept X G)
@@ -73,4 +65,4 @@ module _ {X G : Type 0} (rules : X → Rules G) (room : ℕ) where
 
   -- what changes make, the oldest first; none where one of them isn't accepted
   abbrev pub kept : List (Change X) → Option (Kept X G)
-  kept changes = kept_from none_made changes
+  kept changes = kept_from (record { serials = 0; standing = None }) changes

@@ -15,12 +15,11 @@ use Rattle.wire_json.specs.declared.server.ServerMsg.{ServerMsg}
 use Rattle.wire_json.specs.declared.server.ServerMsg.TheVariants.{No, Ok as Yes}
 use Rattle.room_history.specs.Outbox.{outbox_in, outbox_of, with_piece_in, with_pieces_in}
 use Rattle.room_history.specs.Piece.{Closed, End, Ended, Line, Mark, Open, Piece, State, state_of}
-use Rattle.room_history.specs.Reply.{answer_unless}
 use Rattle.room_history.specs.Session.{Session, after_detach, after_take, is_detached, is_looking, number_in, session_state, stream_of, with_item}
 use Rattle.room_history.specs.Showing.{showings, snapshot_of_number, update_message}
 use Rattle.room_history.specs.Shown.{snapshot}
 use Rattle.room_history.specs.Stream.{cut, public_reason_on, stream, verdict_pieces}
-use Rattle.room_history.specs.Verdict.{else_reason, public_reason}
+use Rattle.room_history.specs.Verdict.{public_reason}
 use Rattle.game_sheet.specs.Viewer.{seat_of}
 use Rattle.wire_json.specs.declared.submission.Submission.{Submission}
 use Rattle.room_history.proofs.Growing.{shown_new}
@@ -29,6 +28,8 @@ use Rattle.room_history.proofs.Keeps.{Fits, Head}
 use Rattle.room_history.proofs.Isolation.{public_found}
 use Rattle.room_history.proofs.Outboxes.{kept_cut}
 use Rattle.room_history.proofs.Sessions.{Good, pieces_of, with_snap, plus_item, item_adds, snap_pieces, accepted_pieces, says_in, told_next, next_told}
+use Rattle.std.specs.Option.{option_or, option_map_or}
+use Rattle.room_history.specs.Reply.{answer_by}
 
 kept_all : (more ps : List Piece) → outbox_in (state_of (cut (more ++ ps))) (cut (more ++ ps)) ≡ with_pieces_in more (outbox_in (state_of (cut ps)) (cut ps))
 kept_all [] ps = refl
@@ -155,8 +156,8 @@ module _ {X G : Type 0} (rules : X → Rules G) (room : ℕ) where
       by (Some r) = refl
 
   -- it is refused: the session's own outbox gains the line that says why, and no other outbox anything
-  pub refused_kept : (m : Match X G) (c : Session) → Good c → Fits rules room m c → (sub : Submission) (r : Reason) (p g : Option Reason) → public_reason rules room m c.viewer sub ≡ p → else_reason p g ≡ Some r
-      → outbox_of (with_item (Submitted (number_in c.sight) sub (answer_unless p g)) c) ≡ with_piece_in (Line (No (number_of m) r sub.ticket)) (outbox_of c)
+  pub refused_kept : (m : Match X G) (c : Session) → Good c → Fits rules room m c → (sub : Submission) (r : Reason) (p g : Option Reason) → public_reason rules room m c.viewer sub ≡ p → option_or p g ≡ Some r
+      → outbox_of (with_item (Submitted (number_in c.sight) sub (option_map_or (λ reason. Unasked) p (answer_by g))) c) ≡ with_piece_in (Line (No (number_of m) r sub.ticket)) (outbox_of c)
   refused_kept m c g f sub r (Some q) o pe e =
       did_kept c g sub Unasked refl
       ∙ ap (λ x. with_pieces_in (verdict_pieces (number_in c.sight) sub.ticket x Unasked) (outbox_of c)) (public_found rules room m c f sub ∙ pe)

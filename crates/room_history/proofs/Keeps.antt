@@ -15,11 +15,11 @@ use Rattle.room_history.specs.Does.{Room, after_action, after_leaving, after_sub
 use Rattle.room_history.specs.Item.{Accepted, Detached, GameAnswer, Left, Refused, Starved, Submitted, Unasked}
 use Rattle.room_history.specs.Match.{Match}
 use Rattle.room_history.specs.Piece.{Closed, Ended, Open, State, state_of}
-use Rattle.room_history.specs.Reply.{Fate, Goes, Turned, Unheard, answer_unless, attached_match, created_match, fate, fate_by, fate_in, game_answer, lets_in, named_match, open_match, reseated_match}
+use Rattle.room_history.specs.Reply.{Fate, Goes, Turned, Unheard, attached_match, created_match, fate, fate_by, fate_in, game_answer, lets_in, named_match, open_match, reseated_match, answer_by}
 use Rattle.room_history.specs.Room.{room_of}
 use Rattle.room_history.specs.Session.{Session, after_detach, after_take, is_detached, is_looking, latest_state, number_in, session_state, stream_of, with_item, with_latest}
 use Rattle.room_history.specs.Shown.{snapshot, snapshots_of}
-use Rattle.room_history.specs.Verdict.{else_reason, first_reason, game_reason, match_accepting, public_reason}
+use Rattle.room_history.specs.Verdict.{first_reason, game_reason, match_accepting, public_reason}
 use Rattle.game_sheet.specs.Viewer.{Viewer, seat_of}
 use Rattle.room_history.specs.declared.call.RoomCall.{RoomCall}
 use Rattle.room_history.specs.declared.call.RoomCall.TheVariants.{Create, Join, Rename, Leave, Look, Attach, Submit, Take, Detach, Clear}
@@ -30,6 +30,7 @@ use Rattle.room_history.proofs.Cutting.{grows_same}
 use Rattle.room_history.proofs.Growth.{accept_grows}
 use Rattle.room_history.proofs.Growth.{grown}
 use Rattle.room_history.proofs.Sessions.{Good, Onward, stays, plus_item, with_snap, submitted_onward, detached_onward, left_onward, taken_onward, shown_onward, accepted_onward}
+use Rattle.std.specs.Option.{option_or, option_map_or}
 
 no_both : false ≡ true → ⊥
 no_both h = cc
@@ -308,8 +309,8 @@ module _ {X G : Type 0} (rules : X → Rules G) (room : ℕ) where
       (λ h. record { name = f.name; sheet = f.sheet; before = c.sight; top = refl; many = suc f.many; all = ap (λ l. snapshot rules (grown m a) (seat_of c.viewer) ∷ l) f.all }))
 
   own_live : (m : Match X G) (c : Session) (before : List Session) (sub : Submission) → Head (Some m) c before → session_state c ≡ Open → (p g : Option Reason) → public_reason rules room m c.viewer sub ≡ p → game_reason rules m c.viewer sub ≡ g
-      → Leads (stands_after (fate_by rules room m c.viewer sub (else_reason p g)) (Some m)) (c ∷ before)
-      (list_after (fate_by rules room m c.viewer sub (else_reason p g)) (with_item (Submitted (number_in c.sight) sub (answer_unless p g)) c ∷ before))
+      → Leads (stands_after (fate_by rules room m c.viewer sub (option_or p g)) (Some m)) (c ∷ before)
+      (list_after (fate_by rules room m c.viewer sub (option_or p g)) (with_item (Submitted (number_in c.sight) sub (option_map_or (λ reason. Unasked) p (answer_by g))) c ∷ before))
   own_live m c before sub k e (Some r) g pe ge = quiet_head (Some m) c before k sub Unasked (submitted_onward c k.good sub Unasked refl)
   own_live m c before sub k e None (Some r) pe ge = quiet_head (Some m) c before k sub (Refused r) (submitted_onward c k.good sub (Refused r) refl)
   own_live m c before sub k e None None pe ge =

@@ -8,10 +8,10 @@ use Rattle.room_history.specs.Alike.{AreAlike}
 use Rattle.room_history.specs.Judgment.{present_snapshot, verdict_by, verdict_in}
 use Rattle.room_history.specs.Match.{Match, number_of}
 use Rattle.room_history.specs.Piece.{Closed, Ended, Open, State}
-use Rattle.room_history.specs.Reply.{answer_unless, fate_by, fate_in, game_answer, submit_reply}
+use Rattle.room_history.specs.Reply.{fate_by, fate_in, game_answer, submit_reply, answer_by}
 use Rattle.room_history.specs.Session.{Session, number_in, session_state, take_reply}
 use Rattle.room_history.specs.Stream.{public_reason_on}
-use Rattle.room_history.specs.Verdict.{else_reason, game_reason, match_accepting, public_reason}
+use Rattle.room_history.specs.Verdict.{game_reason, match_accepting, public_reason}
 use Rattle.game_sheet.specs.Viewer.{Viewer}
 use Rattle.room_history.specs.declared.reply.RoomReply.TheVariants as reply
 use Rattle.wire_json.specs.declared.submission.Submission.{Submission}
@@ -20,13 +20,15 @@ use Rattle.room_history.proofs.Growth.{grown}
 use Rattle.room_history.proofs.Keeps.{Fits, Head}
 use Rattle.room_history.proofs.Isolation.{public_found, same_streams}
 use Rattle.room_history.specs.Course.{IsOpen}
+use Rattle.std.specs.Option.{option_or, option_map_or}
+use Rattle.room_history.specs.Item.{Unasked}
 
 no_both : false ≡ true → ⊥
 no_both h = cc
 
 module _ {X G : Type 0} (rules : X → Rules G) (room : ℕ) where
   said_by : (m : Match X G) (viewer : Viewer) (sub : Submission) (p g : Option Reason) → public_reason rules room m viewer sub ≡ p → game_reason rules m viewer sub ≡ g
-      → submit_reply (fate_by rules room m viewer sub (else_reason p g)) ≡ verdict_by (number_of m) p (answer_unless p g)
+      → submit_reply (fate_by rules room m viewer sub (option_or p g)) ≡ verdict_by (number_of m) p (option_map_or (λ reason. Unasked) p (answer_by g))
   said_by m viewer sub (Some r) g pe ge = refl
   said_by m viewer sub None (Some r) pe ge = refl
   said_by m viewer sub None None pe ge =

@@ -9,8 +9,8 @@ use Rattle.wire_json.specs.Resolve.{act_of}
 use Rattle.wire_json.specs.declared.asked.Asked.{Asked}
 use Rattle.wire_json.specs.declared.reason.Reason.{Reason}
 use Rattle.wire_json.specs.declared.reason.Reason.TheVariants.{NoMatch, Unauthorized}
-use Rattle.room_history.specs.Rule.{first_broken, has_act, most_actions, public, seat_rules, viewer_rules}
-use Rattle.room_history.specs.Verdict.{else_reason}
+use Rattle.room_history.specs.Rule.{first_broken, has_act, most_actions, public, seat_rules}
+use Rattle.std.specs.Option.{option_or, option_map_or}
 
 -- what a submission that breaks no public rule is: a seat's that may act, and of an action that the seat has
 pub record IsAdmitted (sheet : Sheet) (ctx : Ctx) (number : ℕ) (viewer : Option ℕ) (a : Asked) : Type 0 where
@@ -61,10 +61,10 @@ spectator_refused h = true≢false h.0
 pub public_admits : (sheet : Sheet) (ctx : Ctx) (number : ℕ) (same : Bool) (viewer : Option ℕ) (fits : Bool) (a : Asked) (at : ℕ) → public sheet ctx number same viewer fits a at ≡ None → IsAdmitted sheet ctx number viewer a
 unfolding public
 public_admits sheet ctx number same None fits a at h =
-    absurd (spectator_refused ((none_holds ((not same, NoMatch) ∷ viewer_rules sheet ctx number None fits a at) h).1))
+    absurd (spectator_refused ((none_holds ((not same, NoMatch) ∷ option_map_or (λ seat. (not fits, Unauthorized) ∷ seat_rules sheet ctx number seat a at) None ((true, Unauthorized) ∷ [])) h).1))
 public_admits sheet ctx number same (Some seat) fits a at h =
-    seat_admitted sheet ctx number seat a at ((none_holds ((not same, NoMatch) ∷ viewer_rules sheet ctx number (Some seat) fits a at) h).1.1)
+    seat_admitted sheet ctx number seat a at ((none_holds ((not same, NoMatch) ∷ option_map_or (λ seat. (not fits, Unauthorized) ∷ seat_rules sheet ctx number seat a at) (Some seat) ((true, Unauthorized) ∷ [])) h).1.1)
 
-pub or_none : (p g : Option Reason) → else_reason p g ≡ None → (p ≡ None) × (g ≡ None)
+pub or_none : (p g : Option Reason) → option_or p g ≡ None → (p ≡ None) × (g ≡ None)
 or_none None g h = (refl, h)
 or_none (Some r) g h = absurd (apart r h)

@@ -11,9 +11,9 @@ use Rattle.room_history.specs.Match.{Match, number_of}
 use Rattle.wire_json.specs.declared.server.ServerMsg.TheVariants.{No, Ok as Yes}
 use Rattle.room_history.specs.Outbox.{Outbox, attachment_of, outbox_of, outbox_with, with_outbox, with_piece_in}
 use Rattle.room_history.specs.Piece.{Closed, Ended, Line, Open, Piece, State}
-use Rattle.room_history.specs.Reply.{Fate, Goes, Turned, Unheard, answer_unless, fate, fate_by, fate_in, game_answer}
+use Rattle.room_history.specs.Reply.{Fate, Goes, Turned, Unheard, fate, fate_by, fate_in, game_answer, answer_by}
 use Rattle.room_history.specs.Session.{Session, is_detached, is_looking, number_in, session_state, with_item, with_latest}
-use Rattle.room_history.specs.Verdict.{else_reason, game_reason, match_accepting, public_reason}
+use Rattle.room_history.specs.Verdict.{game_reason, match_accepting, public_reason}
 use Rattle.room_history.specs.Shown.{snapshot}
 use Rattle.game_sheet.specs.Viewer.{seat_of}
 use Rattle.wire_json.specs.declared.submission.Submission.{Submission}
@@ -22,6 +22,7 @@ use Rattle.room_history.proofs.Growth.{grown}
 use Rattle.room_history.proofs.Holding.{news_kept, accepted_kept, refused_kept, unheard_kept}
 use Rattle.room_history.proofs.Keeps.{Head, Fits, Listed, FateFrom, fate_from, list_after}
 use Rattle.room_history.proofs.Sessions.{Good, plus_item, with_snap}
+use Rattle.std.specs.Option.{option_or, option_map_or}
 
 pub kept_face : (s t : Session) → SameView s t → (o : Option Outbox) → option_map (with_outbox t) o ≡ option_map (with_outbox s) o
 kept_face s t f o = rw (f.viewer, f.protocol) refl
@@ -75,10 +76,10 @@ module _ {X G : Type 0} (rules : X → Rules G) (room : ℕ) where
       after = outbox_of (after_action rules room (grown m a) (with_item (Submitted (number_in c.sight) sub Accepted) c))
 
   -- its own refused action
-  turned_kept : (m : Match X G) (c : Session) (before : List Session) → Good c → Fits rules room m c → (sub : Submission) (r : Reason) (p g : Option Reason) → public_reason rules room m c.viewer sub ≡ p → else_reason p g ≡ Some r
-      → attachment_of (with_item (Submitted (number_in c.sight) sub (answer_unless p g)) c ∷ before) ≡ attachment_with (Line (No (number_of m) r sub.ticket)) (attachment_of (c ∷ before))
+  turned_kept : (m : Match X G) (c : Session) (before : List Session) → Good c → Fits rules room m c → (sub : Submission) (r : Reason) (p g : Option Reason) → public_reason rules room m c.viewer sub ≡ p → option_or p g ≡ Some r
+      → attachment_of (with_item (Submitted (number_in c.sight) sub (option_map_or (λ reason. Unasked) p (answer_by g))) c ∷ before) ≡ attachment_with (Line (No (number_of m) r sub.ticket)) (attachment_of (c ∷ before))
   turned_kept m c before g f sub r p q pe e =
-      kept_face c (with_item (Submitted (number_in c.sight) sub (answer_unless p q)) c) (did_faces c (Submitted (number_in c.sight) sub (answer_unless p q))) (outbox_of (with_item (Submitted (number_in c.sight) sub (answer_unless p q)) c))
+      kept_face c (with_item (Submitted (number_in c.sight) sub (option_map_or (λ reason. Unasked) p (answer_by q))) c) (did_faces c (Submitted (number_in c.sight) sub (option_map_or (λ reason. Unasked) p (answer_by q)))) (outbox_of (with_item (Submitted (number_in c.sight) sub (option_map_or (λ reason. Unasked) p (answer_by q))) c))
       ∙ ap (option_map (with_outbox c)) (refused_kept rules room m c g f sub r p q pe e)
       ∙ gained c (Line (No (number_of m) r sub.ticket)) (outbox_of c)
 
@@ -88,8 +89,8 @@ module _ {X G : Type 0} (rules : X → Rules G) (room : ℕ) where
       ∙ ap (option_map (with_outbox c)) (unheard_kept rules room c g sub h)
 
   own_live : (m : Match X G) (c : Session) (before : List Session) → Good c → Fits rules room m c → is_looking c.own ≡ true → (sub : Submission) → (p g : Option Reason) → public_reason rules room m c.viewer sub ≡ p → game_reason rules m c.viewer sub ≡ g
-      → attachment_of (list_after rules room (fate_by rules room m c.viewer sub (else_reason p g)) (with_item (Submitted (number_in c.sight) sub (answer_unless p g)) c ∷ before))
-      ≡ attachment_after_submission rules (Some m) (fate_by rules room m c.viewer sub (else_reason p g)) true sub.ticket (attachment_of (c ∷ before))
+      → attachment_of (list_after rules room (fate_by rules room m c.viewer sub (option_or p g)) (with_item (Submitted (number_in c.sight) sub (option_map_or (λ reason. Unasked) p (answer_by g))) c ∷ before))
+      ≡ attachment_after_submission rules (Some m) (fate_by rules room m c.viewer sub (option_or p g)) true sub.ticket (attachment_of (c ∷ before))
   own_live m c before g f l sub (Some r) q pe ge = turned_kept m c before g f sub r (Some r) q pe refl
   own_live m c before g f l sub None (Some r) pe ge = turned_kept m c before g f sub r None (Some r) pe refl
   own_live m c before g f l sub None None pe ge =

@@ -24,9 +24,6 @@ pub record Room (X G : Type 0) : Type 0 where
   -- of each pass, the latest first
   pub sessions : ℕ → List Session
 
-abbrev pub empty_room : {X G : Type 0} → Room X G
-empty_room = record { serials = 0; standing = None; removed = []; sessions = λ pass. [] }
-
 -- the latest session of every pass, and of one pass, changes
 abbrev pub with_each : {X G : Type 0} → (Session → Session) → Room X G → Room X G
 with_each change r = record r { sessions = λ q. with_latest change (r.sessions q) }
@@ -57,8 +54,7 @@ with_match r (Ok m) = record r { standing = Some m }
 with_match r (Err why) = r
 
 abbrev pub with_removed_if : {X G : Type 0} → Bool → Match X G → Room X G → Room X G
-with_removed_if true m r = record r { standing = None; removed = m ∷ r.removed }
-with_removed_if false m r = record r { standing = Some m }
+with_removed_if removes m r = if removes then record r { standing = None; removed = m ∷ r.removed } else record r { standing = Some m }
 
 -- the match is removed once nobody sits at it
 abbrev pub with_left_seat : {X G : Type 0} → ℕ → Room X G → Result (Match X G) RoomReply → Room X G

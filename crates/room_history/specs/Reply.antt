@@ -21,6 +21,8 @@ use Rattle.game_sheet.specs.Viewer.{Viewer}
 use Rattle.room_history.specs.declared.reply.RoomReply.{RoomReply}
 use Rattle.room_history.specs.declared.reply.RoomReply.TheVariants as reply
 use Rattle.wire_json.specs.declared.submission.Submission.{Submission}
+use Rattle.std.specs.Option.{option_map_or}
+use Rattle.std.specs.Result.{result_map_both}
 
 -- the greatest serial
 abbrev pub last_serial : ℕ
@@ -43,14 +45,12 @@ module _ {X G : Type 0} (rules : X → Rules G) where
   -- the match that a Create makes
   abbrev pub created_match : ℕ → Option (Match X G) → X → ℕ → List ℕ → Result (Match X G) RoomReply
   created_match serials (Some m) game seats seed = Err reply.Busy
-  created_match serials None game seats seed =
-      if serials == last_serial then Err reply.Busy
+  created_match serials None game seats seed = if serials == last_serial then Err reply.Busy
       else (if seats_fit (rules game).sheet seats then new_match (serials + 1) game seats seed (begin (rules game) seats seed) else Err reply.BadSeats)
 
 -- the match that is named, if it stands
 abbrev pub named_match : {X G : Type 0} → Option (Match X G) → ℕ → Result (Match X G) RoomReply
-named_match None serial = Err reply.NoMatch
-named_match (Some m) serial = if m.serial == serial then Ok m else Err reply.NoMatch
+named_match standing serial = option_map_or (λ m. if m.serial == serial then Ok m else Err reply.NoMatch) standing (Err reply.NoMatch)
 
 -- the match that a Look shows: the one that is named, or whichever stands
 abbrev pub looked_match : {X G : Type 0} → Option (Match X G) → Option ℕ → Result (Match X G) RoomReply
@@ -65,8 +65,7 @@ roster_reply rule.BadName = reply.BadName
 roster_reply rule.Unauthorized = reply.Unauthorized
 
 abbrev pub with_roster : {X G : Type 0} → Match X G → Result Seats RosterNo → Result (Match X G) RoomReply
-with_roster m (Ok seats) = Ok (record m { roster = seats })
-with_roster m (Err why) = Err (roster_reply why)
+with_roster m result = result_map_both (λ seats. record m { roster = seats }) roster_reply result
 
 -- the match that is named, with other players at its seats, as a Join, a Rename and a Leave make it
 abbrev pub reseated_match : {X G : Type 0} → Result (Match X G) RoomReply → (Seats → Result Seats RosterNo) → Result (Match X G) RoomReply
@@ -75,8 +74,7 @@ reseated_match (Err why) change = Err why
 
 -- whether a match lets a viewer look: a player shows the key of the seat, a spectator needs none
 abbrev pub lets_in : Seats → Viewer → Bool
-lets_in roster None = true
-lets_in roster (Some claim) = key_fits roster claim.0 claim.1
+lets_in roster viewer = option_map_or (λ claim. key_fits roster claim.0 claim.1) viewer true
 
 abbrev pub open_match : {X G : Type 0} → Viewer → Result (Match X G) RoomReply → Result (Match X G) RoomReply
 open_match viewer (Ok m) = if lets_in m.roster viewer then Ok m else Err reply.Unauthorized
@@ -99,18 +97,11 @@ submit_reply (Turned n reason) = reply.Verdict (verdict.No n reason)
 submit_reply (Goes m) = reply.Verdict (verdict.Ok (number_of m))
 
 abbrev pub answer_by : Option Reason → GameAnswer
-answer_by None = Accepted
-answer_by (Some reason) = Refused reason
-
--- the game is asked where no public rule is broken
-abbrev pub answer_unless : Option Reason → Option Reason → GameAnswer
-answer_unless None reason = answer_by reason
-answer_unless (Some public) reason = Unasked
+answer_by broken = option_map_or Refused broken Accepted
 
 module _ {X G : Type 0} (rules : X → Rules G) (room : ℕ) where
   abbrev pub fate_by : Match X G → Viewer → Submission → Option Reason → Fate X G
-  fate_by m viewer s None = Goes (match_accepting rules m viewer s)
-  fate_by m viewer s (Some reason) = Turned (number_of m) reason
+  fate_by m viewer s broken = option_map_or (Turned (number_of m)) broken (Goes (match_accepting rules m viewer s))
 
   -- a session that goes on is heard by the match that stands
   abbrev pub fate_in : Option (Match X G) → State → Viewer → Submission → Fate X G
@@ -121,9 +112,9 @@ module _ {X G : Type 0} (rules : X → Rules G) (room : ℕ) where
   fate standing [] s = Unheard
   fate standing (c ∷ before) s = fate_in standing (session_state c) c.viewer s
 
-  -- the game's answer to a session's submission
+  -- the game's answer to a session's submission; it is asked where no public rule is broken
   abbrev pub game_answer : Option (Match X G) → State → Viewer → Submission → GameAnswer
-  game_answer (Some m) Open viewer s = answer_unless (public_reason rules room m viewer s) (game_reason rules m viewer s)
+  game_answer (Some m) Open viewer s = option_map_or (λ reason. Unasked) (public_reason rules room m viewer s) (answer_by (game_reason rules m viewer s))
   game_answer standing state viewer s = Unasked
 
   -- what everybody may see of a match

@@ -1,9 +1,9 @@
 -- The history of a room is the list of its entries, the latest first. It makes the room what it is: its matches, and the sessions of its
 -- passes, which stay after they have ended.
-use Rattle.std.specs.Prelude.{ℕ, ◌==◌, List, [], ◌∷◌, if◌then◌else◌, length, Option, Some, None, option_map}
+use Rattle.std.specs.Prelude.{ℕ, ◌==◌, List, [], ◌∷◌, if◌then◌else◌, length, Option, Some, None, option_map, find}
 use Rattle.game_trait.specs.Rules.{Rules}
 use Rattle.room_object.specs.Entry.{Entry}
-use Rattle.room_history.specs.Does.{Room, empty_room, room_after, room_after_want, reply_to}
+use Rattle.room_history.specs.Does.{Room, room_after, room_after_want, reply_to, sessions, serials, removed, standing}
 use Rattle.room_history.specs.Match.{Match, number_of}
 use Rattle.room_history.specs.Piece.{State, Open}
 use Rattle.room_history.specs.Session.{Session, session_state}
@@ -11,15 +11,14 @@ use Rattle.game_sheet.specs.Viewer.{Viewer, seat_of}
 use Rattle.room_history.specs.declared.call.RoomCall.{RoomCall}
 use Rattle.room_history.specs.declared.reply.RoomReply.{RoomReply}
 use Rattle.room_history.specs.declared.reply.RoomReply.TheVariants.{NoMemory}
+use Rattle.std.specs.Option.{option_map_or}
 
 abbrev pub match_in : {X G : Type 0} → ℕ → List (Match X G) → Option (Match X G)
-match_in serial [] = None
-match_in serial (m ∷ matches) = if m.serial == serial then Some m else match_in serial matches
+match_in serial matches = find (λ m. m.serial == serial) matches
 
 -- the matches that were removed, and the one that stands
 abbrev pub all_matches : {X G : Type 0} → Option (Match X G) → List (Match X G) → List (Match X G)
-all_matches None removed = removed
-all_matches (Some m) removed = m ∷ removed
+all_matches standing removed = option_map_or (λ m. m ∷ removed) standing removed
 
 -- the seat that a pass looks from, or none for a spectator, while its latest session goes on
 abbrev pub seat_in : State → Viewer → Option (Option ℕ)
@@ -44,7 +43,7 @@ module _ {X G : Type 0} (rules : X → Rules G) (room : ℕ) where
   step e r = if e.starved then room_after_want rules room r e.pass e.call else room_after rules room r e.pass e.call
 
   abbrev pub room_of : List (Entry (RoomCall X)) → Room X G
-  room_of [] = empty_room
+  room_of [] = record { serials = 0; standing = None; removed = []; sessions = λ pass. [] }
   room_of (e ∷ h) = step e (room_of h)
 
   -- the reply to an entry after a history

@@ -1,6 +1,6 @@
 -- The public rules of an action, which rest on the sheet, the context, the state number, the seat and the line alone, in the
 -- order in which they are tested.
-use Rattle.std.specs.Prelude.{ℕ, ◌==◌, Bool, true, false, not, ◌&&◌, if◌then◌else◌, is_some, Option, Some, None, List, [], ◌∷◌, slice_get, bytes_eq}
+use Rattle.std.specs.Prelude.{ℕ, ◌==◌, Bool, true, false, not, ◌&&◌, is_some, Option, Some, None, List, [], ◌∷◌, bytes_eq}
 use Rattle.std.specs.List.{list_any}
 use Rattle.game_sheet.specs.declared.act.Act.{Act}
 use Rattle.game_sheet.specs.declared.act.Act.TheVariants.{Move, Event, Undo, Redo}
@@ -8,19 +8,19 @@ use Rattle.game_sheet.specs.declared.act.EventKind.{EventKind}
 use Rattle.game_sheet.specs.declared.act.EventKind.TheVariants.{EndTurn, EndPhase, SetPhase, EndStage, SetStage, EndGame}
 use Rattle.game_sheet.specs.declared.ctx.Ctx.{Ctx}
 use Rattle.game_sheet.specs.declared.sheet.Sheet.{Sheet}
-use Rattle.game_sheet.specs.declared.sheet.MoveRow.{MoveRow}
 use Rattle.wire_json.specs.declared.asked.Asked.{Asked}
 use Rattle.wire_json.specs.declared.asked.Asked.TheVariants as asked
 use Rattle.wire_json.specs.declared.reason.Reason.{Reason}
 use Rattle.wire_json.specs.declared.reason.Reason.TheVariants.{NoMatch, Unauthorized, GameOver, MatchFull, CannotUndoNow, NotActive, UnknownMove, WrongNumber}
-use Rattle.wire_json.specs.Resolve.{act_of}
+use Rattle.wire_json.specs.Resolve.{act_of, ignores_number}
 use Rattle.stage_map.specs.Moves.{may, moves}
 use Rattle.game_sheet.specs.Viewer.{Viewer}
+use Rattle.std.specs.Option.{option_map_or}
+use Rattle.std.specs.Map.{lookup}
 
 -- whether a key is that of the viewer's seat; a spectator has none
 abbrev pub has_key : Viewer → List ℕ → Bool
-has_key None key = false
-has_key (Some claim) key = bytes_eq claim.1 key
+has_key viewer key = option_map_or (λ claim. bytes_eq claim.1 key) viewer false
 
 -- the greatest state number
 abbrev pub most_actions : ℕ
@@ -28,8 +28,7 @@ most_actions = 4096
 
 -- the reason of the first rule that is broken
 abbrev pub first_broken : List (Bool × Reason) → Option Reason
-first_broken [] = None
-first_broken (rule ∷ rules) = if rule.0 then Some rule.1 else first_broken rules
+first_broken rules = lookup (λ broken. broken) rules
 
 abbrev pub is_undo_or_redo : Asked → Bool
 is_undo_or_redo asked.Undo = true
@@ -41,12 +40,8 @@ abbrev pub is_alone_in : List (ℕ × Option ℕ) → ℕ → Bool
 is_alone_in (row ∷ []) seat = row.0 == seat
 is_alone_in rows seat = false
 
-abbrev pub is_alone_on : Option (List (ℕ × Option ℕ)) → ℕ → ℕ → Bool
-is_alone_on None current seat = seat == current
-is_alone_on (Some rows) current seat = is_alone_in rows seat
-
 abbrev pub is_alone : Ctx → ℕ → Bool
-is_alone ctx seat = is_alone_on ctx.active ctx.current seat
+is_alone ctx seat = option_map_or (λ rows. is_alone_in rows seat) ctx.active (seat == ctx.current)
 
 abbrev pub is_kind : EventKind → EventKind → Bool
 is_kind EndTurn EndTurn = true
@@ -70,19 +65,9 @@ has_act sheet ctx seat a (Some (Event event)) = is_allowed sheet a
 has_act sheet ctx seat a (Some Undo) = true
 has_act sheet ctx seat a (Some Redo) = true
 
-abbrev pub row_ignores : Option MoveRow → Bool
-row_ignores None = false
-row_ignores (Some row) = row.ignore_stale
-
--- whether the action is taken on any state number
-abbrev pub ignores_number : Sheet → Option Act → Bool
-ignores_number sheet (Some (Move id args)) = row_ignores (slice_get sheet.moves id)
-ignores_number sheet other = false
-
 -- the rules that only a seat's session can meet
 abbrev pub seat_rules : Sheet → Ctx → ℕ → ℕ → Asked → ℕ → List (Bool × Reason)
-seat_rules sheet ctx number seat a at =
-    (is_some ctx.over, GameOver)
+seat_rules sheet ctx number seat a at = (is_some ctx.over, GameOver)
     ∷ (number == most_actions, MatchFull)
     ∷ (is_undo_or_redo a && not (is_alone ctx seat), CannotUndoNow)
     ∷ (not (may ctx seat), NotActive)
@@ -90,11 +75,8 @@ seat_rules sheet ctx number seat a at =
     ∷ (not (at == number) && not (ignores_number sheet (act_of sheet a)), WrongNumber)
     ∷ []
 
-abbrev pub viewer_rules : Sheet → Ctx → ℕ → Option ℕ → Bool → Asked → ℕ → List (Bool × Reason)
-viewer_rules sheet ctx number None fits a at = (true, Unauthorized) ∷ []
-viewer_rules sheet ctx number (Some seat) fits a at = (not fits, Unauthorized) ∷ seat_rules sheet ctx number seat a at
-
 -- the first public rule that an action breaks: `same` says that the line names the match that stands, `fits` that its key is the
 -- seat's, and `at` is the line's number
 unfoldable pub public : Sheet → Ctx → ℕ → Bool → Option ℕ → Bool → Asked → ℕ → Option Reason
-public sheet ctx number same viewer fits a at = first_broken ((not same, NoMatch) ∷ viewer_rules sheet ctx number viewer fits a at)
+public sheet ctx number same viewer fits a at = first_broken ((not same, NoMatch) ∷
+    option_map_or (λ seat. (not fits, Unauthorized) ∷ seat_rules sheet ctx number seat a at) viewer ((true, Unauthorized) ∷ []))

@@ -14,6 +14,7 @@ use Rattle.room_history.specs.Stream.{stream}
 use Rattle.game_sheet.specs.Viewer.{Viewer}
 use Rattle.room_history.specs.declared.reply.RoomReply.{RoomReply}
 use Rattle.room_history.specs.declared.reply.RoomReply.TheVariants as reply
+use Rattle.std.specs.Option.{option_map_or}
 
 pub record Session : Type 0 where
   pub name : Name
@@ -56,8 +57,7 @@ abbrev pub with_item : Item → Session → Session
 with_item item s = if is_detached s.own then s else record s { own = item ∷ s.own }
 
 abbrev pub bye_lines : Option Bye → List (List ℕ)
-bye_lines None = []
-bye_lines (Some why) = text (Farewell why) ∷ []
+bye_lines ended = option_map_or (λ why. text (Farewell why) ∷ []) ended []
 
 -- what a Take hands out of a stream in a state: the lines that wait, and at an end the bye line
 abbrev pub lines_handed_out : State → List Piece → List (List ℕ)

@@ -1,6 +1,6 @@
 -- The stream of a session, made of the match's name, the sheet, who looks with which key, the protocol, what that viewer was shown and
 -- what the session did, and of nothing else. Lists have the latest first.
-use Rattle.std.specs.Prelude.{ℕ, ◌+◌, ◌==◌, List, [], ◌∷◌, ◌++◌, Bool, true, false, ◌&&◌, nat_lt, Option, Some, None}
+use Rattle.std.specs.Prelude.{ℕ, ◌+◌, ◌==◌, List, [], ◌∷◌, ◌++◌, Bool, ◌&&◌, nat_lt, Option, Some, None, if◌then◌else◌, map}
 use Rattle.game_sheet.specs.MatchName.{Name}
 use Rattle.game_sheet.specs.declared.act.Bye.TheVariants as bye
 use Rattle.game_sheet.specs.declared.sheet.Sheet.{Sheet}
@@ -17,8 +17,7 @@ use Rattle.game_sheet.specs.Viewer.{Viewer, seat_of}
 use Rattle.wire_json.specs.declared.submission.Submission.{Submission}
 
 abbrev pub lines_of_showings : List Showing → List Piece
-lines_of_showings [] = []
-lines_of_showings (t ∷ shown) = Line t.message ∷ lines_of_showings shown
+lines_of_showings shown = map (λ t. Line t.message) shown
 
 module _ (name : Name) (sheet : Sheet) (viewer : Viewer) where
   abbrev pub is_same : Name → Bool
@@ -61,8 +60,7 @@ most_waiting = 4194304
 
 -- a line that would wait beyond the limit is left out, and ends the stream
 abbrev pub line_or_end : Bool → ServerMsg → List Piece → List Piece
-line_or_end true message pieces = End bye.Lagging ∷ pieces
-line_or_end false message pieces = Line message ∷ pieces
+line_or_end is_full message pieces = if is_full then End bye.Lagging ∷ pieces else Line message ∷ pieces
 
 -- after an end there are marks alone
 abbrev pub with_piece : State → Piece → List Piece → List Piece

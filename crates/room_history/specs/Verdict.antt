@@ -13,6 +13,7 @@ use Rattle.wire_json.specs.declared.submission.Submission.{Submission}
 use Rattle.room_history.specs.Match.{Match, table_of, number_of}
 use Rattle.room_history.specs.Rule.{public, has_key}
 use Rattle.game_sheet.specs.Viewer.{Viewer, seat_of}
+use Rattle.std.specs.Option.{option_or}
 
 abbrev pub reason_of : GameRule → Reason
 reason_of rule.NothingToUndo = NothingToUndo
@@ -27,10 +28,6 @@ reason_of rule.TooManyEvents = TooManyEvents
 -- whether the line names the match of this room with this serial
 abbrev pub is_named : ℕ → ℕ → Name → Bool
 is_named room serial name = (name.room == room) && (name.serial == serial)
-
-abbrev pub else_reason : Option Reason → Option Reason → Option Reason
-else_reason None later = later
-else_reason (Some reason) later = Some reason
 
 module _ {X G : Type 0} (rules : X → Rules G) where
   -- the public rule that a viewer's submission breaks; the key is to be that of the viewer's seat
@@ -49,7 +46,7 @@ module _ {X G : Type 0} (rules : X → Rules G) where
 
   -- the first rule that a submission breaks
   abbrev pub first_reason : ℕ → Match X G → Viewer → Submission → Option Reason
-  first_reason room m viewer s = else_reason (public_reason room m viewer s) (game_reason m viewer s)
+  first_reason room m viewer s = option_or (public_reason room m viewer s) (game_reason m viewer s)
 
   abbrev pub with_act : Match X G → Option ℕ → Option Act → Match X G
   with_act m None act = m

@@ -30,7 +30,7 @@ use Rattle.wire_json.specs.declared.reason.Reason.{Reason}
 use Rattle.wire_json.specs.declared.submission.Submission.{Submission}
 use Rattle.game_trait.specs.Rules.{Rules}
 use Rattle.room_changes.specs.ChangesOf.{act_by, change_made, changes_of, is_accepted}
-use Rattle.room_changes.specs.Kept.{Kept, acted_by, kept, kept_with, submission, unless_refused}
+use Rattle.room_changes.specs.Kept.{Kept, acted_by, kept, kept_with, submission}
 use Rattle.room_changes.proofs.Making.{makes}
 use Rattle.room_changes.specs.declared.change.Change.{Change}
 use Rattle.room_changes.specs.declared.change.Change.TheVariants as change
@@ -154,7 +154,7 @@ module _ (room : ℕ) (h : Entries room) (pass : ℕ) where
           ∙ ap (λ (state : State). submit_reply (fate_in any_rules room (standing any_rules room h) state viewer s)) is_open
           ∙ ap (λ (st : Option (Match GameKind AnyG)). submit_reply (fate_in any_rules room st Open viewer s)) stands
 
-refuses : {X G : Type 0} (rules : X → Rules G) (room : ℕ) (m : Match X G) (viewer : Viewer) (s : Submission) (why : Option Reason) → is_accepted (submit_reply (fate_by rules room m viewer s why)) ≡ false → (after : Match X G) → unless_refused why after ≡ None
+refuses : {X G : Type 0} (rules : X → Rules G) (room : ℕ) (m : Match X G) (viewer : Viewer) (s : Submission) (why : Option Reason) → is_accepted (submit_reply (fate_by rules room m viewer s why)) ≡ false → (after : Match X G) → option_map_or (λ reason. None) why (Some after) ≡ None
 refuses rules room m _ s None e after = true_false e
 refuses rules room m _ s (Some why) e after = refl
 
@@ -169,7 +169,7 @@ act_refused room h m seat key player asked s stands sits is same e = by key is s
         → is_accepted (submit_reply (fate_by any_rules room m (Some (seat, k)) s (first_reason any_rules room m (Some (seat, k)) s))) ≡ false → kept_with any_rules room (kept_of room h) (change.Act seat asked) ≡ None
     by k is same e =
         let own : submission room m player asked ≡ s = ap (λ (z : List ℕ). record { name = record { room = room; serial = m.serial }; key = z; number = number_of m; ticket = 0; asked = asked }) is ∙ sym same in
-        let judged : unless_refused (first_reason any_rules room m (Some (seat, player.key)) (submission room m player asked)) (match_accepting any_rules m (Some (seat, player.key)) (submission room m player asked)) ≡ None =
+        let judged : option_map_or (λ reason. None) (first_reason any_rules room m (Some (seat, player.key)) (submission room m player asked)) (Some (match_accepting any_rules m (Some (seat, player.key)) (submission room m player asked))) ≡ None =
         refuses any_rules room m (Some (seat, player.key)) (submission room m player asked) (first_reason any_rules room m (Some (seat, player.key)) (submission room m player asked))
         (subst (λ (z : List ℕ). is_accepted (submit_reply (fate_by any_rules room m (Some (seat, z)) (submission room m player asked) (first_reason any_rules room m (Some (seat, z)) (submission room m player asked)))) ≡ false) (sym is)
         (subst (λ (t : Submission). is_accepted (submit_reply (fate_by any_rules room m (Some (seat, k)) t (first_reason any_rules room m (Some (seat, k)) t))) ≡ false) (sym own) e))

@@ -21,16 +21,17 @@ use Rattle.room_history.specs.Reply.{created_match, named_match, reply_by, resea
 use Rattle.room_history.specs.declared.reply.RoomReply.TheVariants as answer
 use Rattle.seat_roster.specs.Roster.{join, rename, leave}
 use Rattle.room_changes.specs.ChangesOf.{change_asked, change_made, changes_of, is_accepted}
-use Rattle.room_changes.specs.Kept.{Kept, kept, kept_from, kept_with, none_made}
+use Rattle.room_changes.specs.Kept.{Kept, kept, kept_from, kept_with}
 use Rattle.room_changes.specs.declared.change.Change.{Change}
 use Rattle.room_changes.specs.declared.change.Change.TheVariants as change
 use Rattle.room_changes.proofs.Making.{kept_more, makes}
 use Rattle.change_text.specs.Payload.{payload}
-use Rattle.change_text.specs.Reading.{Found, change_in, change_of_line, change_read, if_text_of}
-use Rattle.room_journal.specs.Kept.{are_accepted, changes_read, may_follow, room_records, texts, with_change}
+use Rattle.change_text.specs.Reading.{Found, change_in, change_of_line, change_read}
+use Rattle.room_journal.specs.Kept.{changes_read, may_follow, room_records, texts}
 use Rattle.room_journal.specs.Coming.{Calls, Does, Fits, HasCome, StandsIn}
 use Rattle.room_journal.specs.declared.room_book.RoomBook.{RoomBook}
 use Rattle.room_journal.proofs.Steps.{cleared_refused, created_refused, fits_step, keys_after, left_refused, reseated_refused}
+use Rattle.std.specs.Option.{option_map_or}
 
 -- ---- payloads
 
@@ -38,7 +39,7 @@ text_if : (b : Bool) (text : List ℕ) (c d : Change GameKind) → bytes_eq (pay
 text_if true text c d is e = let same : d ≡ c = cc in subst (λ (x : Change GameKind). payload any_rules x ≡ text) same ((bytes_eq-Decides (payload any_rules d) text).0 is)
 text_if false text c d is e = absurd (cc)
 
-text_found : (text : List ℕ) (found : Found) (c : Change GameKind) → if_text_of text found ≡ Some c → payload any_rules c ≡ text
+text_found : (text : List ℕ) (found : Found) (c : Change GameKind) → option_and_then (λ c. if bytes_eq (payload any_rules c) text then Some c else None) found ≡ Some c → payload any_rules c ≡ text
 text_found text None c e = absurd (cc)
 text_found text (Some d) c e = text_if (bytes_eq (payload any_rules d) text) text c d refl e
 
@@ -51,24 +52,24 @@ pub text_is : (text : List ℕ) (c : Change GameKind) → change_read text ≡ S
 unfolding change_read
 text_is text c e = text_line text (text_read text) c e
 
-with_more : (o : Option (Change GameKind)) (a b : Option (List (Change GameKind))) (c : Change GameKind) → b ≡ option_map (λ cs. cs ++ c ∷ []) a → with_change o b ≡ option_map (λ cs. cs ++ c ∷ []) (with_change o a)
+with_more : (o : Option (Change GameKind)) (a b : Option (List (Change GameKind))) (c : Change GameKind) → b ≡ option_map (λ cs. cs ++ c ∷ []) a → option_and_then (λ c. option_map (λ cs. c ∷ cs) b) o ≡ option_map (λ cs. cs ++ c ∷ []) (option_and_then (λ c. option_map (λ cs. c ∷ cs) a) o)
 with_more None a b c e = refl
 with_more (Some d) None b c e = ap (option_map (λ cs. d ∷ cs)) e
 with_more (Some d) (Some cs) b c e = ap (option_map (λ cs. d ∷ cs)) e
 
 read_one : (p : List ℕ) (c : Change GameKind) → change_read p ≡ Some c → changes_read (p ∷ []) ≡ Some (c ∷ [])
-read_one p c e = ap (λ (o : Option (Change GameKind)). with_change o (Some [])) e
+read_one p c e = ap (λ (o : Option (Change GameKind)). option_and_then (λ c. option_map (λ cs. c ∷ cs) (Some [])) o) e
 
 read_more : (records : List (List ℕ)) (p : List ℕ) (c : Change GameKind) → change_read p ≡ Some c → changes_read (records ++ p ∷ []) ≡ option_map (λ cs. cs ++ c ∷ []) (changes_read records)
 read_more [] p c e = read_one p c e
 read_more (r ∷ records) p c e = with_more (change_read r) (changes_read records) (changes_read (records ++ p ∷ [])) c (read_more records p c e)
 
-with_none : (o : Option (Change GameKind)) (a : Option (List (Change GameKind))) → a ≡ None → with_change o a ≡ None
+with_none : (o : Option (Change GameKind)) (a : Option (List (Change GameKind))) → a ≡ None → option_and_then (λ c. option_map (λ cs. c ∷ cs) a) o ≡ None
 with_none None a e = refl
 with_none (Some d) a e = ap (option_map (λ cs. d ∷ cs)) e
 
 read_none : (records : List (List ℕ)) (p : List ℕ) → change_read p ≡ None → changes_read (records ++ p ∷ []) ≡ None
-read_none [] p e = ap (λ (o : Option (Change GameKind)). with_change o (Some [])) e
+read_none [] p e = ap (λ (o : Option (Change GameKind)). option_and_then (λ c. option_map (λ cs. c ∷ cs) (Some [])) o) e
 read_none (r ∷ records) p e = with_none (change_read r) (changes_read (records ++ p ∷ [])) (read_none records p e)
 
 module _ (room : ℕ) where
@@ -85,7 +86,7 @@ module _ (room : ℕ) where
   -- one change more
   pub kept_next : (h : Entries) (c : Change GameKind) → kept any_rules room (changes_of any_rules room h ++ c ∷ []) ≡ kept_with any_rules room (kept_of h) c
   kept_next h c =
-      kept_more any_rules room (changes_of any_rules room h) (c ∷ []) none_made
+      kept_more any_rules room (changes_of any_rules room h) (c ∷ []) (record { serials = 0; standing = None })
       ∙ ap (option_and_then (λ n. kept_from any_rules room n (c ∷ []))) (makes any_rules room h)
       ∙ last (kept_with any_rules room (kept_of h) c)
 
@@ -174,8 +175,8 @@ module _ (room : ℕ) where
 
   -- ---- a record
 
-  follows_by : (o : Option (List (Change GameKind))) (cs : List (Change GameKind)) (b : Bool) → o ≡ Some cs → is_some (kept any_rules room cs) ≡ b → are_accepted room o ≡ b
-  follows_by o cs b e k = ap (are_accepted room) e ∙ k
+  follows_by : (o : Option (List (Change GameKind))) (cs : List (Change GameKind)) (b : Bool) → o ≡ Some cs → is_some (kept any_rules room cs) ≡ b → option_map_or (λ changes. is_some (kept any_rules room changes)) o false ≡ b
+  follows_by o cs b e k = ap (λ o. option_map_or (λ changes. is_some (kept any_rules room changes)) o false) e ∙ k
 
   told_more : (h : Entries) (p : List ℕ) (c : Change GameKind) → change_read p ≡ Some c → changes_read (room_records room h) ≡ Some (changes_of any_rules room h) → changes_read (room_records room h ++ p ∷ []) ≡ Some (changes_of any_rules room h ++ c ∷ [])
   told_more h p c e told = read_more (room_records room h) p c e ∙ ap (option_map (λ cs. cs ++ c ∷ [])) told
@@ -186,7 +187,7 @@ module _ (room : ℕ) where
       ∙ ap (λ (t : List ℕ). room_records room h ++ t ∷ []) (text_is p c e)
 
   pub not_read : (h : Entries) (p : List ℕ) → change_read p ≡ None → may_follow room (room_records room h) p ≡ false
-  not_read h p e = ap (are_accepted room) (read_none (room_records room h) p e)
+  not_read h p e = ap (λ o. option_map_or (λ changes. is_some (kept any_rules room changes)) o false) (read_none (room_records room h) p e)
 
   pub is_refused : (h : Entries) (keys : List (Option (List ℕ))) (p : List ℕ) (c : Change GameKind) → change_read p ≡ Some c → HasCome room keys h → kept any_rules room (changes_of any_rules room h ++ c ∷ []) ≡ None → may_follow room (room_records room h) p ≡ false
   is_refused h keys p c e come none = follows_by _ _ false (told_more h p c e come.told) (ap (λ (k : Option (Kept GameKind AnyG)). is_some k) none)

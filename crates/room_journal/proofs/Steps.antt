@@ -20,10 +20,11 @@ use Rattle.room_history.specs.Verdict.{first_reason, match_accepting, with_act}
 use Rattle.room_history.specs.declared.reply.RoomReply.{RoomReply}
 use Rattle.room_history.specs.declared.reply.RoomReply.TheVariants as answer
 use Rattle.room_changes.specs.ChangesOf.{is_accepted}
-use Rattle.room_changes.specs.Kept.{Kept, acted_by, claim, kept_with, submission, unless_refused, with_created, with_left, with_none, with_reseated}
+use Rattle.room_changes.specs.Kept.{Kept, acted_by, claim, kept_with, submission, with_created, with_left, with_none, with_reseated}
 use Rattle.room_changes.specs.declared.change.Change.{Change}
 use Rattle.room_changes.specs.declared.change.Change.TheVariants as change
 use Rattle.room_journal.specs.Coming.{Fits, FitsMatch, key_at}
+use Rattle.std.specs.Option.{option_map_or}
 
 some_is : {A : Type 0} (a b : A) → Some a ≡ Some b → a ≡ b
 some_is a b e = cc
@@ -155,7 +156,7 @@ module _ {X G : Type 0} (rules : X → Rules G) (room : ℕ) where
   act_fits keys serials m seat None fits = fits
   act_fits keys serials m seat (Some act) fits = record { latest = fits.latest; some = fits.some; keys_are = fits.keys_are }
 
-  taken_fits : (keys : List (Option (List ℕ))) (serials : ℕ) (why : Option Reason) (m : Match X G) (next : Kept X G) → option_map (goes serials) (unless_refused why m) ≡ Some next → FitsMatch keys serials m → FitsNext keys next
+  taken_fits : (keys : List (Option (List ℕ))) (serials : ℕ) (why : Option Reason) (m : Match X G) (next : Kept X G) → option_map (goes serials) (option_map_or (λ reason. None) why (Some m)) ≡ Some next → FitsMatch keys serials m → FitsNext keys next
   taken_fits keys serials None m next e fits = subst (FitsNext keys) (some_is _ next e) fits
   taken_fits keys serials (Some why) m next e fits = none_some next e
 

@@ -1,5 +1,5 @@
 -- What of a room is kept: a record for each accepted change, and which calls a record can name.
-use Rattle.std.specs.Prelude.{◌≡◌, ℕ, List, [], ◌∷◌, ◌++◌, map, Bool, false, is_some, Option, Some, None, option_map}
+use Rattle.std.specs.Prelude.{◌≡◌, ℕ, List, [], ◌∷◌, ◌++◌, map, Bool, false, is_some, Option, Some, option_map, option_and_then}
 use Rattle.any_game.specs.AnyRules.{any_rules, named}
 use Rattle.any_game.specs.GameKind.{GameKind}
 use Rattle.room_object.specs.Entry.{Entry}
@@ -12,6 +12,7 @@ use Rattle.room_changes.specs.Kept.{kept}
 use Rattle.room_changes.specs.declared.change.Change.{Change}
 use Rattle.change_text.specs.Payload.{payload}
 use Rattle.change_text.specs.Reading.{change_read}
+use Rattle.std.specs.Option.{option_map_or}
 
 -- the payloads of changes
 abbrev pub texts : List (Change GameKind) → List (List ℕ)
@@ -30,18 +31,10 @@ IsInForm (Submit s) = IsAskable s.asked
 IsInForm other = Unit {0}
 
 -- the changes that records are the texts of; none where one of them is the text of no change
-abbrev pub with_change : Option (Change GameKind) → Option (List (Change GameKind)) → Option (List (Change GameKind))
-with_change None changes = None
-with_change (Some c) changes = option_map (λ cs. c ∷ cs) changes
-
 abbrev pub changes_read : List (List ℕ) → Option (List (Change GameKind))
 changes_read [] = Some []
-changes_read (first ∷ records) = with_change (change_read first) (changes_read records)
-
-abbrev pub are_accepted : ℕ → Option (List (Change GameKind)) → Bool
-are_accepted room None = false
-are_accepted room (Some changes) = is_some (kept any_rules room changes)
+changes_read (first ∷ records) = option_and_then (λ c. option_map (λ cs. c ∷ cs) (changes_read records)) (change_read first)
 
 -- a payload is in form, and the room accepts its change after those of the records
 abbrev pub may_follow : ℕ → List (List ℕ) → List ℕ → Bool
-may_follow room records next = are_accepted room (changes_read (records ++ next ∷ []))
+may_follow room records next = option_map_or (λ changes. is_some (kept any_rules room changes)) (changes_read (records ++ next ∷ [])) false

@@ -24,7 +24,9 @@ use Rattle.hall_history.specs.Hall.{Hall, after_line, core_of, hall_by, request}
 use Rattle.hall_history.specs.Mark.{Luck, Lucky, Mark, Served, Unread, Starved, ask_rooms, luck_after, runs_out, runs_out_there, takes_memory, told_by, unheard}
 use Rattle.hall_history.specs.Rooms.{Rooms, reply_in, with_entry}
 use Rattle.hall_history.specs.Script.{Step, Nothing, Seeds, Opens, Says, Takes, Detaches, answered_text, does, first_mark, runs_script}
-use Rattle.script_steps.specs.Pieces.{AllServed, Print, answer_pieces, pieces_from, pieces_of, says_again}
+use Rattle.script_steps.specs.Pieces.{Print, pieces_from, pieces_of, says_again, Answered}
+use Rattle.std.specs.Option.{option_map_or}
+use Rattle.std.specs.List.{AllByRecursion}
 
 -- a reply is heard as it is, or as want of memory
 heard_or : (b : Bool) (told : RoomReply) → ((if b then unheard told else told) ≡ told) ⊎ ((if b then unheard told else told) ≡ reply.NoMemory)
@@ -144,11 +146,11 @@ module _ {X G : Type 0} (named : List ℕ → Option X) (rules : X → Rules G) 
   not_again : (b : Bool) → b ≡ true → b ≡ false → ⊥
   not_again b e f = cc
 
-  answered_again : (pass : ℕ) (said : Option Answer) → is_again said ≡ true → AllServed (answer_pieces pass said) → ⊥
+  answered_again : (pass : ℕ) (said : Option Answer) → is_again said ≡ true → AllByRecursion (λ print. says_again print ≡ false) (option_map_or (λ said. Answered pass said ∷ []) said []) → ⊥
   answered_again pass None e served = cc
   answered_again pass (Some a) e served = not_again (is_again (Some a)) e served.0
 
-  step_served : (mark : Mark) (step : Step) (h : Hall X) → AllServed (pieces_of named rules tape mark step h) → does named rules tape mark step h ≡ does named rules tape Served step h
+  step_served : (mark : Mark) (step : Step) (h : Hall X) → AllByRecursion (λ print. says_again print ≡ false) (pieces_of named rules tape mark step h) → does named rules tape mark step h ≡ does named rules tape Served step h
   step_served mark Nothing h served = refl
   step_served mark (Seeds seed) h served = refl
   step_served mark (Opens game seats) h served = refl
@@ -160,12 +162,12 @@ module _ {X G : Type 0} (named : List ℕ → Option X) (rules : X → Rules G) 
   step_served mark (Takes pass) h served = refl
   step_served mark (Detaches pass) h served = refl
 
-  first_part : (xs ys : List Print) → AllServed (xs ++ ys) → AllServed xs × AllServed ys
+  first_part : (xs ys : List Print) → AllByRecursion (λ print. says_again print ≡ false) (xs ++ ys) → AllByRecursion (λ print. says_again print ≡ false) xs × AllByRecursion (λ print. says_again print ≡ false) ys
   first_part [] ys served = (tt, served)
   first_part (x ∷ xs) ys served = let rest = first_part xs ys served.1 in ((served.0, rest.0), rest.1)
 
   -- the run is as if each line was served
-  pub all_served : (marks : List Mark) (steps : List Step) (h : Hall X) → AllServed (pieces_from named rules tape marks steps h) → runs_script named rules tape marks steps h ≡ runs_script named rules tape [] steps h
+  pub all_served : (marks : List Mark) (steps : List Step) (h : Hall X) → AllByRecursion (λ print. says_again print ≡ false) (pieces_from named rules tape marks steps h) → runs_script named rules tape marks steps h ≡ runs_script named rules tape [] steps h
   all_served marks [] h served = refl
   all_served marks (step ∷ steps) h served =
       let parts = first_part (pieces_of named rules tape (first_mark marks) step h) (pieces_from named rules tape (drop 1 marks) steps (does named rules tape (first_mark marks) step h).0) served in

@@ -31,8 +31,9 @@ use Rattle.hall_history.specs.Script.{Step, Nothing, Seeds, Opens, Says, Takes, 
 use Rattle.hall_history.specs.Told.{bytes_in, handed_by, handed_out}
 use Rattle.hall_history.proofs.Clauses.{all_handed}
 use Rattle.hall_history.proofs.Rooming.{same_number}
-use Rattle.script_steps.specs.Pieces.{Print, Word, Answered, Told, answer_pieces, attachings, freed_pieces, handed_pieces, pieces_from, pieces_of, print_text, told_by, told_to, unattached_pieces}
+use Rattle.script_steps.specs.Pieces.{Print, Word, Answered, Told, attachings, freed_pieces, handed_pieces, pieces_from, pieces_of, print_text, told_by, told_to, unattached_pieces}
 use Rattle.script_steps.proofs.StepLaws.{all_true, lines_in, waiting_are_lines}
+use Rattle.std.specs.Option.{option_map_or}
 
 -- ---- the text
 
@@ -40,7 +41,7 @@ told_text : (pass room count : ℕ) (ls : List (List ℕ)) → flat_map print_te
 told_text pass room count [] = refl
 told_text pass room count (l ∷ ls) = ap (λ t. to_session pass l ++ t) (told_text pass room count ls)
 
-answer_text : (pass : ℕ) (said : Option Answer) → flat_map print_text (answer_pieces pass said) ≡ answered_text pass said
+answer_text : (pass : ℕ) (said : Option Answer) → flat_map print_text (option_map_or (λ said. Answered pass said ∷ []) said []) ≡ answered_text pass said
 answer_text pass None = refl
 answer_text pass (Some said) = append-nil (to_session pass (line_of said))
 
@@ -143,7 +144,7 @@ module _ (pass room j : ℕ) where
       either_none false = refl
   told_handed p r count told = told_all p r count (lines (bytes_handed_out told)) ((p == pass) && ((r == room) && (count == j + 1))) refl
 
-  told_answer : (p : ℕ) (said : Option Answer) → told_to pass room j (answer_pieces p said) ≡ []
+  told_answer : (p : ℕ) (said : Option Answer) → told_to pass room j (option_map_or (λ said. Answered p said ∷ []) said []) ≡ []
   told_answer p None = refl
   told_answer p (Some said) = refl
 

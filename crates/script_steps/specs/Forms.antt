@@ -5,6 +5,7 @@ use Rattle.std.specs.Str.Lossy.{utf8_valid_len}
 use Rattle.any_game.specs.Names.{may_open}
 use Rattle.wire_json.specs.KeyText.{lower_hex}
 use Rattle.hall_history.specs.Script.{Step, Nothing, Seeds, Opens, Says, Takes, Detaches}
+use Rattle.std.specs.Option.{option_map_or}
 
 abbrev pub digit : ℕ → Option ℕ
 digit b = if nat_le 48 b && nat_le b 57 then Some (b - 48) else None
@@ -46,11 +47,8 @@ text_of word = if utf8_valid_len word == length word then Some word else None
 abbrev pub opens : List ℕ → ℕ → Option Step
 opens name seats = if may_open name seats then Some (Opens name seats) else None
 
-abbrev pub opening_by : List ℕ × List ℕ → Option Step
-opening_by p = option_and_then (λ name. option_and_then (opens name) (seats_of p.1)) (text_of p.0)
-
 abbrev pub opening : List ℕ → Option Step
-opening rest = option_and_then opening_by (parts rest)
+opening rest = option_and_then (λ p. option_and_then (λ name. option_and_then (opens name) (seats_of p.1)) (text_of p.0)) (parts rest)
 
 -- a line of a session
 abbrev pub saying : List ℕ → List ℕ → Option Step
@@ -60,19 +58,16 @@ saying (b ∷ word) line = if b == 115 then option_map (λ pass. Says pass line)
 -- a word alone
 abbrev pub alone : List ℕ → Option Step
 alone [] = Some Nothing
-alone (b ∷ word) =
-    if b == 116 then option_map Takes (pass_of word) else
+alone (b ∷ word) = if b == 116 then option_map Takes (pass_of word) else
     (if b == 120 then option_map Detaches (pass_of word) else None)
 
 -- a word that others follow
 abbrev pub leads : List ℕ → List ℕ → Option Step
-leads word rest =
-    if bytes_eq word (codes "open") then opening rest else
+leads word rest = if bytes_eq word (codes "open") then opening rest else
     (if bytes_eq word (codes "seed") then option_map Seeds (lower_hex 32 rest) else saying word rest)
 
 abbrev pub by_words : List ℕ → Option (List ℕ × List ℕ) → Option Step
-by_words line None = alone line
-by_words line (Some p) = leads p.0 p.1
+by_words line words = option_map_or (λ p. leads p.0 p.1) words (alone line)
 
 abbrev pub asked : List ℕ → Option Step
 asked [] = Some Nothing

@@ -1,6 +1,6 @@
 -- What the lines of a script print, piece by piece, and what of it is told to a session: the lines that its Takes hand out. A session is named
 -- by its pass, its room and by which of the pass's attachings there began it, from 0.
-use Rattle.std.specs.Prelude.{◌≡◌, ℕ, ◌+◌, ◌==◌, Bool, false, ◌&&◌, if◌then◌else◌, List, [], ◌∷◌, ◌++◌, length, map, drop, Option, Some, None}
+use Rattle.std.specs.Prelude.{ℕ, ◌+◌, ◌==◌, Bool, false, ◌&&◌, if◌then◌else◌, List, [], ◌∷◌, ◌++◌, length, map, drop, Option, Some, None}
 use Rattle.std.specs.List.{flat_map}
 use Rattle.game_sheet.specs.Lines.{lines}
 use Rattle.game_trait.specs.Rules.{Rules}
@@ -20,6 +20,7 @@ use Rattle.hall_history.specs.Mark.{Mark}
 use Rattle.hall_history.specs.Opening.{after_open, opened_text}
 use Rattle.hall_history.specs.Rooms.{history_of}
 use Rattle.hall_history.specs.Script.{Step, Nothing, Seeds, Opens, Says, Takes, Detaches, does, first_mark, to_session}
+use Rattle.std.specs.Option.{option_map_or}
 
 pub data Print : Type 0 where
   -- which match was opened, or that all rooms are full
@@ -48,15 +49,7 @@ abbrev pub says_again : Print → Bool
 says_again (Answered pass said) = is_again (Some said)
 says_again other = false
 
-abbrev pub AllServed : List Print → Type 0
-AllServed [] = Unit {0}
-AllServed (print ∷ prints) = (says_again print ≡ false) × AllServed prints
-
 -- ---- what each step prints
-
-abbrev pub answer_pieces : ℕ → Option Answer → List Print
-answer_pieces pass None = []
-answer_pieces pass (Some said) = Answered pass said ∷ []
 
 abbrev pub unattached_pieces : ℕ → List Print
 unattached_pieces pass = Answered pass (answer.Refused refusal.NotAttached) ∷ []
@@ -72,14 +65,13 @@ module _ {X G : Type 0} (named : List ℕ → Option X) (rules : X → Rules G) 
   attachings h room pass = length ((room_of rules room (history_of h.rooms room)).sessions pass)
 
   abbrev pub freed_pieces : Hall X → ℕ → Option ℕ → Option RoomReply → List Print
-  freed_pieces h pass None told = unattached_pieces pass
-  freed_pieces h pass (Some room) told = handed_pieces pass room (attachings h room pass) told
+  freed_pieces h pass at told = option_map_or (λ room. handed_pieces pass room (attachings h room pass) told) at (unattached_pieces pass)
 
   abbrev pub pieces_of : Mark → Step → Hall X → List Print
   pieces_of mark Nothing h = []
   pieces_of mark (Seeds seed) h = []
   pieces_of mark (Opens game seats) h = Word (opened_text (after_open named rules tape h game seats).1) ∷ []
-  pieces_of mark (Says pass line) h = answer_pieces pass (after_line named rules tape mark h pass line).1
+  pieces_of mark (Says pass line) h = option_map_or (λ said. Answered pass said ∷ []) (after_line named rules tape mark h pass line).1 []
   pieces_of mark (Takes pass) h = freed_pieces h pass (h.at pass) (frees rules h pass Take).1
   pieces_of mark (Detaches pass) h = freed_pieces h pass (h.at pass) (frees rules h pass Detach).1
 

@@ -28,12 +28,10 @@ abbrev pub if_name : List ℕ → Seats → Result Seats RosterNo
 if_name name after = if is_name name then Ok after else Err BadName
 
 abbrev pub join : Seats → ℕ → List ℕ → List ℕ → Result Seats RosterNo
-join seats seat name key =
-    if_free (slice_get seats seat) (if_name name (slice_set seats seat (Some (record { name = name; key = key }))))
+join seats seat name key = if_free (slice_get seats seat) (if_name name (slice_set seats seat (Some (record { name = name; key = key }))))
 
 abbrev pub rename : Seats → ℕ → List ℕ → List ℕ → Result Seats RosterNo
-rename seats seat key name =
-    if_key_of (player_at seats seat) key (λ player. if_name name (slice_set seats seat (Some (record player { name = name }))))
+rename seats seat key name = if_key_of (player_at seats seat) key (λ player. if_name name (slice_set seats seat (Some (record player { name = name }))))
 
 abbrev pub leave : Seats → ℕ → List ℕ → Result Seats RosterNo
 leave seats seat key = if_key_of (player_at seats seat) key (λ player. Ok (slice_set seats seat None))

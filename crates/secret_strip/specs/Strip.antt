@@ -2,11 +2,11 @@
 use Rattle.std.specs.Prelude.{◌≡◌, ℕ, ◌==◌, Bool, false, if◌then◌else◌, Option, Some, None, List, length, map, slice_get}
 use Rattle.std.specs.List.{enumerate_from}
 use Rattle.secret_strip.specs.declared.split.Split.{Split}
+use Rattle.std.specs.Option.{option_map_or}
 
 -- whether a viewer has this seat; a spectator has none
 abbrev pub has_seat : Option ℕ → ℕ → Bool
-has_seat None seat = false
-has_seat (Some own) seat = own == seat
+has_seat own seat = option_map_or (λ own. own == seat) own false
 
 -- the entry of a seat as a viewer sees it
 abbrev pub seen : {P : Type 0} → Option ℕ → ℕ × Option P → Option P

@@ -14,7 +14,7 @@ use Rattle.json_tree.specs.Writable.{IsWritable, ItemsAreWritable}
 use Rattle.game_sheet.specs.Short.{is_plain}
 use Rattle.game_sheet.specs.declared.args.Arg.{Arg}
 use Rattle.game_sheet.specs.declared.args.Arg.TheVariants.{Whole, Text}
-use Rattle.sheet_json.specs.Arguments.{argument, arguments, is_argument, AreArguments, if_argument, whole_from, argument_in, arguments_from, arguments_in}
+use Rattle.sheet_json.specs.Arguments.{argument, arguments, is_argument, AreArguments, if_argument, argument_in, arguments_from, arguments_in}
 
 -- ---- options
 
@@ -43,7 +43,7 @@ Is d a = (d ≡ argument a) × (is_argument a ≡ true)
 same : (x a : Arg) → if_argument x ≡ Some a → Is (argument x) a
 same x a e = let is = chosen (is_argument x) x a e in (ap argument is.1, subst (λ y. is_argument y ≡ true) is.1 is.0)
 
-kept : (b : Bool) (n : ℕ) (a : Arg) → whole_from (cond b (Some (pos n)) None) ≡ Some a → Is (number (unsigned n)) a
+kept : (b : Bool) (n : ℕ) (a : Arg) → option_and_then (λ z. if_argument (Whole z)) (cond b (Some (pos n)) None) ≡ Some a → Is (number (unsigned n)) a
 kept true n a e = same (Whole (pos n)) a e
 kept false n a e = absurd (cc)
 

@@ -4,11 +4,12 @@ use Rattle.std.proofs.lemmas.Bool.{le-leb, leb-true}
 use Rattle.std.specs.Prelude.{nat_le, Result}
 use Rattle.serde_json.specs.Data.{Num, unsigned, negative, float, Data, null, boolean, number, string, array, object}
 use Rattle.serde_json.specs.Find.{as_u64}
-use Rattle.json_tree.specs.Fields.{whole_number, number_in, natural_up_to, natural_in}
+use Rattle.json_tree.specs.Fields.{whole_number, number_in, natural_in}
 use Rattle.json_tree.specs.Steps.{◌>>=◌}
 use Rattle.json_tree.specs.declared.fields.FieldFault.{FieldFault}
 use Rattle.json_tree.specs.declared.fields.FieldFault.TheVariants.{OutOfRange}
 use Rattle.sheet_json.specs.Seats.{natural, is_null_in, or_null}
+use Rattle.std.specs.Option.{option_map_or}
 
 pub bound : {A B E : Type 0} (r : Result A E) (next : A → Result B E) (y : B) → (r >>= next) ≡ Ok y → (x : A) × (r ≡ Ok x) × (next x ≡ Ok y)
 bound (Ok x) next y e = (x, refl, e)
@@ -34,7 +35,7 @@ number_is (Some (string s)) n e = absurd (cc)
 number_is (Some (array ds)) n e = absurd (cc)
 number_is (Some (object ms)) n e = absurd (cc)
 
-natural_at : (most : ℕ) (m : Num) (n : ℕ) → natural_up_to most (as_u64 m) ≡ Ok n → (m ≡ unsigned n) × (n ≤ most)
+natural_at : (most : ℕ) (m : Num) (n : ℕ) → option_map_or (λ n. if nat_le n most then Ok n else Err OutOfRange) (as_u64 m) (Err OutOfRange) ≡ Ok n → (m ≡ unsigned n) × (n ≤ most)
 natural_at most (unsigned m) n e =
     let within = tested (nat_le m most) m n OutOfRange e in
     (ap unsigned within.1, subst (λ x. x ≤ most) within.1 (leb-true m most within.0))

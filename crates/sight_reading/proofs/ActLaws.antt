@@ -30,13 +30,14 @@ use Rattle.sheet_json.proofs.ArgumentLaws.{arguments_are, arguments_again}
 use Rattle.sheet_json.proofs.EventLaws.{kind_is}
 use Rattle.sheet_json.proofs.SeatLaws as seats
 use Rattle.sheet_json.proofs.SeatLaws.{null_is, Holds, or_null_is}
-use Rattle.sight_reading.specs.EntryReading.{args_from, move_with, shown, move_in, seat_or_null, aimless, alone_in, event_of, event_by, event_in, deed_by, deed_in}
+use Rattle.sight_reading.specs.EntryReading.{args_from, move_with, shown, move_in, aimless, alone_in, event_of, event_by, event_in, deed_by, deed_in}
 use Rattle.player_sight.specs.Parts.{move_name, phase_name}
 use Rattle.player_sight.specs.Plain.{EventFits, ActFits}
 use Rattle.sight_reading.specs.Reading.{text_at}
 use Rattle.sight_reading.specs.declared.entry_read.Deed.{Deed}
 use Rattle.sight_reading.proofs.NumberLaws.{good}
 use Rattle.sight_reading.proofs.PartLaws.{step, chained, mapped, past, tested, text_is, name_is, name_again}
+use Rattle.std.specs.Result.{result_ok}
 
 -- ---- arguments
 
@@ -167,9 +168,9 @@ unaimed sheet name o x e word aim fits is =
     let null_there = tested (is_null_in o) x e is in
     subst (IsEvent sheet name o) null_there.1 (record { word = word; aim = null_is o null_there.0 ∙ ap (λ d. Some d) (sym aim); fits = fits })
 
-turned : (sheet : Sheet) (name : List ℕ) (o : Option Data) (e : event.Event) → name ≡ event_text asks.EndTurn → option_map EndTurn (seat_or_null o) ≡ Some e → IsEvent sheet name o e
+turned : (sheet : Sheet) (name : List ℕ) (o : Option Data) (e : event.Event) → name ≡ event_text asks.EndTurn → option_map EndTurn (result_ok (or_null (natural_in 255) o)) ≡ Some e → IsEvent sheet name o e
 turned sheet name o e word is =
-    let to = mapped EndTurn (seat_or_null o) e is in
+    let to = mapped EndTurn (result_ok (or_null (natural_in 255) o)) e is in
     let at = seat_is o to.0 (or_null_is (natural_in 255) o to.0 (good (or_null (natural_in 255) o) to.0 to.1)) in
     subst (IsEvent sheet name o) to.2 (record { word = word; aim = at.0; fits = at.1 })
 

@@ -16,10 +16,11 @@ use Rattle.game_sheet.specs.SheetNames.{stage_of}
 use Rattle.game_sheet.specs.declared.sheet.Sheet.{Sheet}
 use Rattle.json_tree.proofs.Canonicals.{order}
 use Rattle.json_tree.proofs.Rows.{name_is}
-use Rattle.sight_reading.specs.CtxReading.{Rows, stage_or_malformed, seat_stage, before_rows, rows_among, as_many}
+use Rattle.sight_reading.specs.CtxReading.{Rows, seat_stage, before_rows, rows_among, as_many}
 use Rattle.sight_reading.specs.Reading.{id_or_null}
 use Rattle.sight_reading.specs.declared.ctx_read.SeatStage.{SeatStage}
 use Rattle.sight_reading.specs.declared.ctx_read.SeatStage.TheVariants.{Absent, Malformed, Active}
+use Rattle.std.specs.Option.{option_map_or}
 
 pub decimals_apart : (a b : ℕ) → a ≤ 255 → b ≤ 255 → (a ≡ b → ⊥) → decimal a ≡ decimal b → ⊥
 decimals_apart a b p q apart e =
@@ -131,7 +132,7 @@ absent_is : (sheet : Sheet) (o : Option Data) → seat_stage sheet o ≡ Absent 
 absent_is sheet None e = refl
 absent_is sheet (Some d) e = wrong (id_or_null (stage_of sheet) d) e
   where
-    wrong : (o : Option (Option ℕ)) → stage_or_malformed o ≡ Absent → Some d ≡ None
+    wrong : (o : Option (Option ℕ)) → option_map_or Active o Malformed ≡ Absent → Some d ≡ None
     wrong None e = absurd (cc (e))
     wrong (Some stage) e = absurd (cc (e))
 

@@ -1,7 +1,7 @@
 -- A context that may stand in a plain snapshot reads back from its value.
 use Rattle.std.proofs.Common.{◌≡◌, ℕ, ◌≤◌, List, [], ◌∷◌, Bool, true, false, cond, Option, Some, None, Ok, codes, refl, sym, ap, ◌∙◌, subst}
 use Rattle.std.specs.List.{AllByRecursion}
-use Rattle.std.specs.Prelude.{option_and_then}
+use Rattle.std.specs.Prelude.{option_and_then, unwrap_or}
 use Rattle.std.specs.Result.{result_ok}
 use Rattle.serde_json.specs.Data.{Data, null, boolean, number, string, array, object, Items, Members, no_members, member}
 use Rattle.serde_json.specs.Find.{get_member, as_bool}
@@ -15,7 +15,7 @@ use Rattle.game_sheet.specs.declared.act.Outcome.TheVariants.{Winner, Draw, Ende
 use Rattle.game_sheet.specs.declared.ctx.Ctx.{Ctx}
 use Rattle.game_sheet.specs.declared.sheet.Sheet.{Sheet}
 use Rattle.player_sight.specs.CtxData.{active_data, outcome_data, over_data, ctx_data}
-use Rattle.sight_reading.specs.CtxReading.{active_from, active_in, over_from, over_in, is_true, is_flag, outcome_by, outcome_in, winner_in, order_in, phase_in, counts_in, ctx_names, ctx_from, ctx_in}
+use Rattle.sight_reading.specs.CtxReading.{active_from, active_in, over_from, over_in, is_flag, outcome_in, winner_in, order_in, phase_in, counts_in, ctx_names, ctx_from, ctx_in}
 use Rattle.sheet_json.specs.Seats.{natural}
 use Rattle.player_sight.specs.Parts.{naturals, phase_or_null}
 use Rattle.player_sight.specs.Plain.{OverFits, IsPlainCtx}
@@ -26,6 +26,7 @@ use Rattle.sight_reading.proofs.NumberLaws.{good, natural_is, natural_again}
 use Rattle.sight_reading.proofs.PartLaws.{step, chained, mapped, past, naturals_is, naturals_again}
 use Rattle.sight_reading.proofs.RowLaws.{active_again}
 use Rattle.sight_reading.proofs.RowsAre.{active_is}
+use Rattle.std.specs.Option.{option_map_or}
 
 over_again : (over : Option Outcome) → OverFits over → over_from (over_data over) ≡ Some over
 unfolding outcome_in winner_in
@@ -58,7 +59,7 @@ winner_is ms seat c e =
     let at = natural_is 255 (get_member (codes "winner") ms) seat known.1 in
     (row_is (codes "winner" ∷ []) ms (member (codes "winner") (natural seat) no_members) c (tt, tt) known.0 refl (at.0, tt), at.1)
 
-true_is : (o : Option Data) → is_true (option_and_then as_bool o) ≡ true → o ≡ Some (boolean true)
+true_is : (o : Option Data) → unwrap_or (option_and_then as_bool o) false ≡ true → o ≡ Some (boolean true)
 true_is None e = absurd (cc)
 true_is (Some null) e = absurd (cc)
 true_is (Some (boolean true)) e = refl
@@ -86,7 +87,7 @@ chosen true b ms outcome h k e = let is : Draw ≡ outcome = cc (e) in subst (Is
 chosen false true ms outcome h k e = let is : Ended ≡ outcome = cc (e) in subst (IsOver ms) is (k refl)
 chosen false false ms outcome h k e = absurd (cc (e))
 
-outcome_by_is : (ms : Members) (o : Option ℕ) (outcome : Outcome) → MembersAreCanonical ms → winner_in (object ms) ≡ o → outcome_by o (object ms) ≡ Some outcome → IsOver ms outcome
+outcome_by_is : (ms : Members) (o : Option ℕ) (outcome : Outcome) → MembersAreCanonical ms → winner_in (object ms) ≡ o → option_map_or (λ seat. Some (Winner seat)) o (if is_flag (codes "draw") (object ms) then Some Draw else if is_flag (codes "ended") (object ms) then Some Ended else None) ≡ Some outcome → IsOver ms outcome
 outcome_by_is ms (Some seat) outcome c w e =
     let is : Winner seat ≡ outcome = cc (e) in
     let won = winner_is ms seat c w in
@@ -104,7 +105,7 @@ over_is (number n) over c e = absurd (cc)
 over_is (string s) over c e = absurd (cc)
 over_is (array ds) over c e = absurd (cc)
 over_is (object ms) over c e =
-    let outcome = mapped (λ x. Some x) (outcome_by (winner_in (object ms)) (object ms)) over e in
+    let outcome = mapped (λ x. Some x) (option_map_or (λ seat. Some (Winner seat)) (winner_in (object ms)) (if is_flag (codes "draw") (object ms) then Some Draw else if is_flag (codes "ended") (object ms) then Some Ended else None)) over e in
     let is = outcome_by_is ms (winner_in (object ms)) outcome.0 c refl outcome.1 in
     subst (λ x. (object ms ≡ over_data x) × OverFits x) outcome.2 is
 

@@ -12,8 +12,7 @@ use Rattle.serde_json.specs.View.{items_of}
 use Rattle.game_sheet.specs.SheetFits.{NamesFit}
 use Rattle.json_tree.specs.Fields.{text_in}
 use Rattle.game_sheet.specs.SheetNames.{place_of}
-use Rattle.sheet_json.specs.Seats.{natural}
-use Rattle.player_sight.specs.Parts.{text_or_null}
+use Rattle.sheet_json.specs.Seats.{natural, text_or_null}
 use Rattle.player_sight.specs.Plain.{IsIn}
 use Rattle.sight_reading.proofs.NumberLaws.{good, natural_is, natural_again}
 use Rattle.sight_reading.specs.Reading.{◌>>=◌, natural_at, text_at, naturals_from, id_or_null}

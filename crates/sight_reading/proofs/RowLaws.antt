@@ -12,12 +12,13 @@ use Rattle.game_sheet.specs.SheetFits.{SheetFits}
 use Rattle.game_sheet.specs.declared.sheet.Sheet.{Sheet}
 use Rattle.game_sheet.specs.declared.sheet.StageRow.{StageRow}
 use Rattle.player_sight.specs.CtxData.{with_row, rows_members, active_data}
-use Rattle.sight_reading.specs.CtxReading.{Rows, stage_or_malformed, seat_stage, before_rows, rows_among, as_many, active_from}
-use Rattle.sight_reading.specs.declared.ctx_read.SeatStage.TheVariants.{Active}
+use Rattle.sight_reading.specs.CtxReading.{Rows, seat_stage, before_rows, rows_among, as_many, active_from}
+use Rattle.sight_reading.specs.declared.ctx_read.SeatStage.TheVariants.{Active, Malformed}
 use Rattle.sight_reading.proofs.ActiveRows.{decimals_apart}
 use Rattle.player_sight.specs.Parts.{stage_or_null}
 use Rattle.player_sight.specs.Plain.{IsIn, RowsFit, ActiveFits}
 use Rattle.sight_reading.proofs.PartLaws.{id_again}
+use Rattle.std.specs.Option.{option_map_or}
 
 -- the stage of a seat, where it has a row
 abbrev row_of : ℕ → Rows → Option (Option ℕ)
@@ -37,7 +38,7 @@ Shows sheet ms low rows = (seat : ℕ) → low ≤ seat → seat ≤ 255 → get
 
 stage_again : (sheet : Sheet) (o : Option ℕ) → SheetFits sheet → IsIn (length sheet.stages) o → seat_stage sheet (Some (stage_or_null sheet o)) ≡ Active o
 stage_again sheet None fit h = refl
-stage_again sheet (Some id) fit h = ap stage_or_malformed (id_again (λ (row : StageRow). row.name) sheet.stages (Some id) fit.stage_names h)
+stage_again sheet (Some id) fit h = ap (λ o. option_map_or Active o Malformed) (id_again (λ (row : StageRow). row.name) sheet.stages (Some id) fit.stage_names h)
 
 abbrev Scans : Sheet → Members → ℕ → Type 0
 Scans sheet ms n = (rows : Rows) (seat : ℕ) → RowsFit sheet seat rows → seat + n ≡ 256 → Shows sheet ms seat rows → rows_among sheet (object ms) seat n ≡ Some rows

@@ -15,13 +15,16 @@ use Rattle.json_tree.proofs.Rows.{name_is, ordered}
 use Rattle.game_sheet.specs.declared.sheet.Sheet.{Sheet}
 use Rattle.game_sheet.specs.declared.sheet.StageRow.{StageRow}
 use Rattle.player_sight.specs.CtxData.{with_row, rows_members, active_data}
-use Rattle.sight_reading.specs.CtxReading.{Rows, stage_or_malformed, seat_stage, before_rows, rows_among, as_many, active_from}
-use Rattle.player_sight.specs.Parts.{text_or_null, stage_or_null}
+use Rattle.sight_reading.specs.CtxReading.{Rows, seat_stage, before_rows, rows_among, as_many, active_from}
+use Rattle.player_sight.specs.Parts.{stage_or_null}
 use Rattle.player_sight.specs.Plain.{IsIn, RowsFit, ActiveFits}
 use Rattle.game_sheet.specs.SheetNames.{stage_of}
 use Rattle.sight_reading.specs.Reading.{id_or_null}
 use Rattle.sight_reading.proofs.PartLaws.{name_or_null, mapped, id_is}
 use Rattle.sight_reading.proofs.RowLaws.{counted}
+use Rattle.std.specs.Option.{option_map_or}
+use Rattle.sight_reading.specs.declared.ctx_read.SeatStage.TheVariants.{Active, Malformed}
+use Rattle.sheet_json.specs.Seats.{text_or_null}
 
 -- ---- what the seats give
 
@@ -45,7 +48,7 @@ abbrev Found : Sheet → Members → ℕ → Rows → Type 0
 Found sheet ms seat rows = RowsFit sheet seat rows × AreMembers sheet ms rows
 
 at_stage : (sheet : Sheet) (ms : Members) (seat : ℕ) (rows : Rows) (d : Data) (o : Option (Option ℕ)) (rest : Option Rows) → seat ≤ 255 → get_member (decimal seat) ms ≡ Some d → id_or_null (stage_of sheet) d ≡ o
-    → ((rs : Rows) → rest ≡ Some rs → Found sheet ms (seat + 1) rs) → before_rows seat (stage_or_malformed o) rest ≡ Some rows → Found sheet ms seat rows
+    → ((rs : Rows) → rest ≡ Some rs → Found sheet ms (seat + 1) rs) → before_rows seat (option_map_or Active o Malformed) rest ≡ Some rows → Found sheet ms seat rows
 at_stage sheet ms seat rows d None rest high is stage later e = absurd (cc (e))
 at_stage sheet ms seat rows d (Some at) rest high is stage later e =
     let more = mapped (λ rs. (seat, at) ∷ rs) rest rows e in

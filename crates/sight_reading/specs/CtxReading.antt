@@ -1,5 +1,5 @@
 -- How the value of a context is read back: each member in its form and no other, its phase and stages on the sheet.
-use Rattle.std.specs.Prelude.{ℕ, List, [], ◌∷◌, length, ◌+◌, ◌==◌, zero, suc, Bool, false, codes, decimal, if◌then◌else◌, Option, Some, None, option_map, option_and_then, is_some}
+use Rattle.std.specs.Prelude.{ℕ, List, [], ◌∷◌, length, ◌+◌, ◌==◌, zero, suc, Bool, false, codes, decimal, if◌then◌else◌, Option, Some, None, option_map, option_and_then, is_some, unwrap_or}
 use Rattle.std.specs.Result.{result_ok}
 use Rattle.serde_json.specs.Data.{Data}
 use Rattle.serde_json.specs.Events.{members_len}
@@ -15,18 +15,14 @@ use Rattle.sight_reading.specs.Reading.{◌>>=◌, natural_at, of_members, unles
 use Rattle.sight_reading.specs.declared.ctx_read.Counts.{Counts}
 use Rattle.sight_reading.specs.declared.ctx_read.SeatStage.{SeatStage}
 use Rattle.sight_reading.specs.declared.ctx_read.SeatStage.TheVariants.{Absent, Malformed, Active}
+use Rattle.std.specs.Option.{option_map_or}
 
 abbrev pub Rows : Type 0
 Rows = List (ℕ × Option ℕ)
 
 -- what an object of active players says of a seat
-abbrev pub stage_or_malformed : Option (Option ℕ) → SeatStage
-stage_or_malformed None = Malformed
-stage_or_malformed (Some stage) = Active stage
-
 abbrev pub seat_stage : Sheet → Option Data → SeatStage
-seat_stage sheet None = Absent
-seat_stage sheet (Some d) = stage_or_malformed (id_or_null (stage_of sheet) d)
+seat_stage sheet found = option_map_or (λ d. option_map_or Active (id_or_null (stage_of sheet) d) Malformed) found Absent
 
 -- a seat's row, where it has one, before those of later seats
 abbrev pub before_rows : ℕ → SeatStage → Option Rows → Option Rows
@@ -41,8 +37,7 @@ rows_among sheet d seat (suc n) = before_rows seat (seat_stage sheet (get (decim
 
 -- the rows, where there is one for each of as many members
 abbrev pub as_many : ℕ → Option Rows → Option Rows
-as_many count None = None
-as_many count (Some rows) = if length rows == count then Some rows else None
+as_many count rows = option_and_then (λ rows. if length rows == count then Some rows else None) rows
 
 -- null, or the rows of all seats of an object that names nothing else
 abbrev pub active_from : Sheet → Data → Option (Option Rows)
@@ -54,20 +49,13 @@ active_in sheet found = option_and_then (active_from sheet) found
 unfoldable pub winner_in : Data → Option ℕ
 winner_in d = of_members (codes "winner" ∷ []) d (natural_at 255 (get (codes "winner") d))
 
-abbrev pub is_true : Option Bool → Bool
-is_true None = false
-is_true (Some b) = b
-
 -- the object has this member alone, and it is true
 abbrev pub is_flag : List ℕ → Data → Bool
-is_flag name d = if extra_in (name ∷ []) d then false else is_true (option_and_then as_bool (get name d))
-
-abbrev pub outcome_by : Option ℕ → Data → Option Outcome
-outcome_by (Some seat) d = Some (Winner seat)
-outcome_by None d = if is_flag (codes "draw") d then Some Draw else if is_flag (codes "ended") d then Some Ended else None
+is_flag name d = if extra_in (name ∷ []) d then false else unwrap_or (option_and_then as_bool (get name d)) false
 
 unfoldable pub outcome_in : Data → Option Outcome
-outcome_in d = outcome_by (winner_in d) d
+outcome_in d = option_map_or (λ seat. Some (Winner seat)) (winner_in d)
+    (if is_flag (codes "draw") d then Some Draw else if is_flag (codes "ended") d then Some Ended else None)
 
 abbrev pub over_from : Data → Option (Option Outcome)
 over_from d = if is_some (as_null d) then Some None else if is_some (as_object d) then option_map Some (outcome_in d) else None

@@ -41,16 +41,13 @@ unfoldable pub move_in : Sheet → Data → Option Deed
 move_in sheet d = of_members (codes "args" ∷ codes "kind" ∷ codes "move" ∷ []) d
     (args_in (get (codes "args") d) >>= λ args. option_and_then (move_of sheet) (text_at (get (codes "move") d)) >>= λ id. Some (move_with id args))
 
-abbrev pub seat_or_null : Option Data → Option (Option ℕ)
-seat_or_null found = result_ok (or_null (natural_in 255) found)
-
 -- an event that is aimed at nothing
 abbrev pub aimless : event.Event → Option Data → Option event.Event
 aimless e found = if is_null_in found then Some e else None
 
 -- an event of a kind, with what it is aimed at
 abbrev pub event_of : Sheet → EventKind → Option Data → Option event.Event
-event_of sheet asks.EndTurn found = option_map EndTurn (seat_or_null found)
+event_of sheet asks.EndTurn found = option_map EndTurn (result_ok (or_null (natural_in 255) found))
 event_of sheet asks.EndPhase found = aimless EndPhase found
 event_of sheet asks.SetPhase found = option_map SetPhase (option_and_then (phase_of sheet) (text_at found))
 event_of sheet asks.EndStage found = aimless EndStage found

@@ -1,9 +1,9 @@
 -- How the parts of the values are read back; nothing is read where a value is in no form of its part.
-use Rattle.std.specs.Prelude.{ℕ, List, [], ◌∷◌, if◌then◌else◌, Option, Some, None, option_map, option_and_then, is_some}
+use Rattle.std.specs.Prelude.{ℕ, List, if◌then◌else◌, Option, Some, None, option_map, option_and_then, is_some}
 use Rattle.std.specs.Result.{result_ok}
-use Rattle.serde_json.specs.Data.{Data, Items, no_items, item}
+use Rattle.serde_json.specs.Data.{Data, Items}
 use Rattle.serde_json.specs.Find.{as_null, as_str}
-use Rattle.json_tree.specs.Fields.{text_in, natural_in}
+use Rattle.json_tree.specs.Fields.{text_in, natural_in, read_each}
 use Rattle.json_tree.specs.Names.{extra_in}
 
 infixl 10 ◌>>=◌
@@ -18,8 +18,7 @@ abbrev pub text_at : Option Data → Option (List ℕ)
 text_at found = result_ok (text_in found)
 
 abbrev pub naturals_from : Items → Option (List ℕ)
-naturals_from no_items = Some []
-naturals_from (item d ds) = option_and_then (λ n. option_map (λ ns. n ∷ ns) (naturals_from ds)) (natural_at 255 (Some d))
+naturals_from ds = read_each (λ d. natural_at 255 (Some d)) ds
 
 -- null, or what is read in any other value
 abbrev pub unless_null : {A : Type 0} → Data → Option A → Option (Option A)

@@ -1,9 +1,9 @@
 -- How the value of a snapshot is read back: each member in its form and no other, the state of the game by the game's own reading.
-use Rattle.std.specs.Prelude.{ℕ, List, [], ◌∷◌, codes, Option, Some, option_map, option_and_then}
+use Rattle.std.specs.Prelude.{ℕ, List, [], ◌∷◌, codes, Option, Some, option_and_then}
 use Rattle.std.specs.Result.{result_ok}
-use Rattle.serde_json.specs.Data.{Data, Items, no_items, item}
+use Rattle.serde_json.specs.Data.{Data, Items}
 use Rattle.serde_json.specs.Find.{get}
-use Rattle.json_tree.specs.Fields.{list_in}
+use Rattle.json_tree.specs.Fields.{list_in, read_each}
 use Rattle.game_sheet.specs.declared.ctx.Ctx.{Ctx}
 use Rattle.game_sheet.specs.declared.sheet.Sheet.{Sheet}
 use Rattle.game_trait.specs.Rules.{Rules}
@@ -14,8 +14,7 @@ use Rattle.sight_reading.specs.Reading.{◌>>=◌, natural_at, of_members}
 use Rattle.player_sight.specs.declared.shown.Snapshot.{Snapshot}
 
 abbrev pub entries_from : Sheet → Items → Option (List Entry)
-entries_from sheet no_items = Some []
-entries_from sheet (item d ds) = option_and_then (λ e. option_map (λ es. e ∷ es) (entries_from sheet ds)) (entry_in sheet d)
+entries_from sheet ds = read_each (entry_in sheet) ds
 
 abbrev pub log_in : Sheet → Option Data → Option (List Entry)
 log_in sheet found = option_and_then (entries_from sheet) (result_ok (list_in found))

@@ -12,8 +12,9 @@ use Rattle.stage_map.specs.IsSound.{IsSound, Rise, RowFits, Stands, StandsOrNull
 use Rattle.stage_map.proofs.MapsFit.{PlaceFits, SpecFits}
 use Rattle.stage_map.specs.Rows.{each_at, entries_of, others, placed, put, put_all, spec_rows, unlimited, without}
 use Rattle.stage_map.specs.Set.{kept_on, made, returned, set, set_by, set_within, settle, settled_by, stack_after, unfollowed_by}
-use Rattle.stage_map.specs.Stages.{count_move, count_row, counted, end_row, end_stage, is_reached, rows_after, set_stage, stage_after, stage_left, stage_set_by}
+use Rattle.stage_map.specs.Stages.{count_move, count_row, counted, end_stage, is_reached, rows_after, set_stage, stage_after, stage_left}
 use Rattle.stage_map.proofs.Rising.{all_append, all_filter, all_put, all_weaker, all_without, put_stands, rise_put, rise_without}
+use Rattle.std.specs.Option.{option_map_or}
 
 abbrev pub InMatch : ℕ → List ℕ → Type 0
 InMatch seats order = AllByRecursion (λ seat. seat < seats) order
@@ -150,7 +151,7 @@ module _ (specs stages seats most : ℕ) where
   unlimited_fits : (seat stage : ℕ) → seat < seats → stage < stages → RowFits stages seats most (unlimited seat stage)
   unlimited_fits seat stage h k = record { seat = h; stage = λ s e. (let same : stage ≡ s = cc in subst (λ t. t < stages) same k); count = omega arith }
 
-  stage_set_sound : (rows : Option (List Row)) (seat stage : ℕ) (m : Map) → seat < seats → stage < stages → StandsOrNull specs stages seats most rows m → Kepts m.stack → IsSound specs stages seats most (stage_set_by rows seat stage m)
+  stage_set_sound : (rows : Option (List Row)) (seat stage : ℕ) (m : Map) → seat < seats → stage < stages → StandsOrNull specs stages seats most rows m → Kepts m.stack → IsSound specs stages seats most (option_map_or (λ listed. record m { rows = Some (put (unlimited seat stage) listed) }) rows (record { rows = Some (unlimited seat stage ∷ []); next = None; stack = [] }))
   stage_set_sound None seat stage m h k s a =
       record { present = record { not_empty = omega arith; rise = (tt, tt); fit = (unlimited_fits seat stage h k, tt); follower = λ spec e. cc }; earlier = tt }
   stage_set_sound (Some listed) seat stage m h k s a =
@@ -197,7 +198,7 @@ module _ (specs stages seats most : ℕ) where
   either_sound true m n s t = s
   either_sound false m n s t = t
 
-  end_row_sound : (sheet : Sheet) (row : Option Row) (current : ℕ) (order : List ℕ) (m : Map) → SpecsFit sheet → StagesFit sheet → current < seats → InMatch seats order → ((r : Row) → row ≡ Some r → r.seat < seats) → IsSound specs stages seats most m → IsSound specs stages seats most (end_row sheet row current order m)
+  end_row_sound : (sheet : Sheet) (row : Option Row) (current : ℕ) (order : List ℕ) (m : Map) → SpecsFit sheet → StagesFit sheet → current < seats → InMatch seats order → ((r : Row) → row ≡ Some r → r.seat < seats) → IsSound specs stages seats most m → IsSound specs stages seats most (option_map_or (λ row. if nat_lt row.count row.least then m else stage_left sheet row current order m) row m)
   end_row_sound sheet None current order m f g h o k s = s
   end_row_sound sheet (Some row) current order m f g h o k s = either_sound (nat_lt row.count row.least) m (stage_left sheet row current order m) s (left_sound sheet row current order m f g h o (k row refl) (nearly m s))
 

@@ -3,6 +3,7 @@
 use Rattle.std.specs.Prelude.{◌==◌, ℕ, Bool, false, Option, None, Some, List, [], nat_lt, map, find, is_some, option_map, option_and_then}
 use Rattle.stage_map.specs.declared.rows.Row.{Row}
 use Rattle.stage_map.specs.declared.active.Kept.{Kept}
+use Rattle.std.specs.Option.{option_map_or}
 
 pub record Map : Type 0 where
   -- none where the map is null
@@ -33,13 +34,9 @@ row_on m seat = option_and_then (row_of seat) m.rows
 abbrev pub is_listed : Map → ℕ → Bool
 is_listed m seat = is_some (row_on m seat)
 
-abbrev pub has_few : Option Row → Bool
-has_few None = false
-has_few (Some row) = nat_lt row.count row.least
-
 -- a seat that is listed and has made fewer moves than its least
 abbrev pub is_below : Map → ℕ → Bool
-is_below m seat = has_few (row_on m seat)
+is_below m seat = option_map_or (λ row. nat_lt row.count row.least) (row_on m seat) false
 
 abbrev pub row_count : Option Row → ℕ
 row_count None = 0

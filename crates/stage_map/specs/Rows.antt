@@ -1,10 +1,11 @@
 -- How rows change: a row comes in or replaces its seat's, and a seat leaves. Rows stay in rising order of seats.
 -- A spec puts first the current seat, then the others of the play order, then all of it, then the seats that it names;
 -- a later row replaces an earlier one of the same seat.
-use Rattle.std.specs.Prelude.{◌==◌, ℕ, Option, None, Some, List, [], ◌∷◌, ◌++◌, nat_lt, not, filter, map}
+use Rattle.std.specs.Prelude.{◌==◌, ℕ, Option, None, Some, List, [], ◌∷◌, ◌++◌, nat_lt, not, filter, map, fold}
 use Rattle.game_sheet.specs.declared.sheet.Place.{Place}
 use Rattle.game_sheet.specs.declared.sheet.SpecRow.{SpecRow}
 use Rattle.stage_map.specs.declared.rows.Row.{Row}
+use Rattle.std.specs.Option.{option_map_or}
 
 abbrev pub below : ℕ → List Row → List Row
 below seat listed = filter (λ (row : Row). nat_lt row.seat seat) listed
@@ -29,13 +30,11 @@ abbrev pub placed : SpecRow → Place → ℕ → Row
 placed spec place seat = record { seat = seat; stage = place.stage; count = 0; least = spec.min_moves; most = spec.max_moves }
 
 abbrev pub put_all : SpecRow → List (ℕ × Place) → List Row → List Row
-put_all spec [] listed = listed
-put_all spec (entry ∷ entries) listed = put_all spec entries (put (placed spec entry.1 entry.0) listed)
+put_all spec entries listed = fold (λ listed entry. put (placed spec entry.1 entry.0) listed) listed entries
 
 -- seats that are put at one place, where the spec has one
 abbrev pub each_at : Option Place → List ℕ → List (ℕ × Place)
-each_at None seats = []
-each_at (Some place) seats = map (λ seat. (seat, place)) seats
+each_at place seats = option_map_or (λ place. map (λ seat. (seat, place)) seats) place []
 
 abbrev pub others : ℕ → List ℕ → List ℕ
 others current order = filter (λ seat. not (seat == current)) order

@@ -1,13 +1,14 @@
 -- Setting a spec makes a new map of its rows with its follower. With `revert` the earlier map is kept on the stack, where
 -- it has rows; without it the stack is emptied. A map that is empty is settled at once: its follower is set, and so on;
 -- without a follower the top of the stack returns, else the map is null.
-use Rattle.std.specs.Prelude.{ℕ, zero, suc, Bool, true, false, Option, None, Some, List, [], ◌∷◌, length, slice_get}
+use Rattle.std.specs.Prelude.{ℕ, zero, suc, Bool, Option, None, Some, List, [], ◌∷◌, length, slice_get, if◌then◌else◌}
 use Rattle.game_sheet.specs.declared.sheet.Sheet.{Sheet}
 use Rattle.game_sheet.specs.declared.sheet.SpecRow.{SpecRow}
 use Rattle.stage_map.specs.declared.rows.Row.{Row}
 use Rattle.stage_map.specs.declared.active.Kept.{Kept}
 use Rattle.stage_map.specs.Active.{Map, none}
 use Rattle.stage_map.specs.Rows.{spec_rows}
+use Rattle.std.specs.Option.{option_map_or}
 
 -- the stack with this map on it; only a map with rows is kept
 abbrev pub kept_on : Option (List Row) → Option ℕ → List Kept → List Kept
@@ -15,8 +16,7 @@ kept_on (Some (row ∷ listed)) next stack = record { rows = row ∷ listed; nex
 kept_on listed next stack = stack
 
 abbrev pub stack_after : Bool → Map → List Kept
-stack_after true m = kept_on m.rows m.next m.stack
-stack_after false m = []
+stack_after keeps m = if keeps then kept_on m.rows m.next m.stack else []
 
 -- the map of a spec, which may be empty
 abbrev pub made : SpecRow → ℕ → List ℕ → Map → Map
@@ -45,8 +45,7 @@ settled follow m = settled_by follow m.rows m.next m
 
 -- a spec that the sheet doesn't have follows no map
 abbrev pub set_by : (ℕ → Map → Map) → Option SpecRow → ℕ → List ℕ → Map → Map
-set_by follow None current order m = unfollowed m
-set_by follow (Some spec) current order m = settled follow (made spec current order m)
+set_by follow spec current order m = option_map_or (λ spec. settled follow (made spec current order m)) spec (unfollowed m)
 
 -- a spec and at most so many that follow it; a sheet's followers rise, so the number of its specs is enough
 unfoldable pub set_within : ℕ → Sheet → ℕ → List ℕ → ℕ → Map → Map

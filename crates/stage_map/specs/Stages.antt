@@ -9,35 +9,27 @@ use Rattle.stage_map.specs.declared.ended.Ended.TheVariants.{Done, NotListed, Be
 use Rattle.stage_map.specs.Active.{Map, row_on}
 use Rattle.stage_map.specs.Rows.{put, without, unlimited}
 use Rattle.stage_map.specs.Set.{settle}
+use Rattle.std.specs.Option.{option_map_or}
 
 -- a stage is set: a null map becomes one with that seat alone
-abbrev pub stage_set_by : Option (List Row) → ℕ → ℕ → Map → Map
-stage_set_by None seat stage m = record { rows = Some (unlimited seat stage ∷ []); next = None; stack = [] }
-stage_set_by (Some listed) seat stage m = record m { rows = Some (put (unlimited seat stage) listed) }
-
 abbrev pub set_stage : ℕ → ℕ → Map → Map
-set_stage seat stage m = stage_set_by m.rows seat stage m
+set_stage seat stage m = option_map_or (λ listed. record m { rows = Some (put (unlimited seat stage) listed) }) m.rows
+    (record { rows = Some (unlimited seat stage ∷ []); next = None; stack = [] })
 
 -- the stage after a seat's stage; a seat without a stage has none
 abbrev pub stage_after : Sheet → Option ℕ → Option ℕ
-stage_after sheet None = None
-stage_after sheet (Some stage) = option_and_then (λ (row : StageRow). row.next) (slice_get sheet.stages stage)
+stage_after sheet stage = option_and_then (λ stage. option_and_then (λ (row : StageRow). row.next) (slice_get sheet.stages stage)) stage
 
 abbrev pub rows_after : Option ℕ → ℕ → List Row → List Row
-rows_after None seat listed = without seat listed
-rows_after (Some next) seat listed = put (unlimited seat next) listed
+rows_after next seat listed = option_map_or (λ next. put (unlimited seat next) listed) next (without seat listed)
 
 -- the stage of the seat of this row ends
 abbrev pub stage_left : Sheet → Row → ℕ → List ℕ → Map → Map
 stage_left sheet row current order m = settle sheet current order (record m { rows = option_map (rows_after (stage_after sheet row.stage) row.seat) m.rows })
 
-abbrev pub end_row : Sheet → Option Row → ℕ → List ℕ → Map → Map
-end_row sheet None current order m = m
-end_row sheet (Some row) current order m = if nat_lt row.count row.least then m else stage_left sheet row current order m
-
 -- the map after an endStage of a seat: nothing is done where it isn't listed or its count is below its least
 abbrev pub end_stage : Sheet → ℕ → ℕ → List ℕ → Map → Map
-end_stage sheet seat current order m = end_row sheet (row_on m seat) current order m
+end_stage sheet seat current order m = option_map_or (λ row. if nat_lt row.count row.least then m else stage_left sheet row current order m) (row_on m seat) m
 
 abbrev pub row_end : Option Row → Ended
 row_end None = NotListed
@@ -48,8 +40,7 @@ abbrev pub ending : Map → ℕ → Ended
 ending m seat = row_end (row_on m seat)
 
 abbrev pub is_reached : Option ℕ → ℕ → Bool
-is_reached None count = false
-is_reached (Some most) count = nat_le most count
+is_reached limit count = option_map_or (λ most. nat_le most count) limit false
 
 abbrev pub counted : Row → Row
 counted row = record row { count = row.count + 1 }

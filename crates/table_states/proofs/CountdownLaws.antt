@@ -16,7 +16,7 @@ use Rattle.open_game.specs.Arguments.{only_natural}
 use Rattle.open_game.specs.Forms.{greatest, is_seat}
 use Rattle.open_game.specs.OpenRules.{OpenLaws, made}
 use Rattle.open_game.proofs.Moves.{drawing_keeps, drawing_own, either_keeps, either_own, made_keeps, made_own, some_says}
-use Rattle.table_states.specs.Countdown.{countdown, countdown_end, countdown_move, heap_offers, less, take, takes, wild}
+use Rattle.table_states.specs.Countdown.{countdown, countdown_move, heap_offers, less, take, takes, wild}
 use Rattle.table_states.specs.StateForms.{heap_form}
 use Rattle.table_states.specs.declared.heap.Heap.{Heap}
 

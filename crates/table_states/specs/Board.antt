@@ -18,8 +18,7 @@ click b seat place = if nat_lt seat 2 then take_cell (slice_get b.cells place) (
 
 -- rows, columns and diagonals
 abbrev pub lines : List (List ℕ)
-lines =
-    (0 ∷ 1 ∷ 2 ∷ []) ∷ (3 ∷ 4 ∷ 5 ∷ []) ∷ (6 ∷ 7 ∷ 8 ∷ [])
+lines = (0 ∷ 1 ∷ 2 ∷ []) ∷ (3 ∷ 4 ∷ 5 ∷ []) ∷ (6 ∷ 7 ∷ 8 ∷ [])
     ∷ (0 ∷ 3 ∷ 6 ∷ []) ∷ (1 ∷ 4 ∷ 7 ∷ []) ∷ (2 ∷ 5 ∷ 8 ∷ [])
     ∷ (0 ∷ 4 ∷ 8 ∷ []) ∷ (2 ∷ 4 ∷ 6 ∷ [])
     ∷ []

@@ -2,7 +2,6 @@
 use Rattle.std.specs.Prelude.{ℕ, ◌-◌, min, nat_eq, nat_le, nat_lt, true, ◌&&◌, if◌then◌else◌, pos, List, [], ◌∷◌, ◌++◌, codes, option_map, option_and_then, Option, Some, None}
 use Rattle.dice_words.specs.Dice.{die}
 use Rattle.game_sheet.specs.declared.act.EventKind.TheVariants.{EndTurn}
-use Rattle.game_sheet.specs.declared.act.Outcome.{Outcome}
 use Rattle.game_sheet.specs.declared.act.Outcome.TheVariants.{Winner}
 use Rattle.game_sheet.specs.declared.args.Arg.{Arg}
 use Rattle.game_sheet.specs.declared.args.Arg.TheVariants.{Whole}
@@ -31,9 +30,6 @@ abbrev pub countdown_move : Heap → ℕ → ℕ → List Arg → List ℕ → D
 countdown_move h seat id args words =
     if nat_lt seat 4 then (if nat_eq id 0 then made (option_and_then (take h seat) (only_natural args)) words else wild h seat args words) else GaveUp Invalid
 
-abbrev pub countdown_end : Heap → Option Outcome
-countdown_end h = if nat_eq h.left 0 then option_map Winner h.last else None
-
 -- a take of each of these counts that the heap has
 abbrev pub takes : Heap → List ℕ → List (ℕ × List Arg)
 takes h [] = []
@@ -49,7 +45,7 @@ countdown = record {
   sheet = turns_sheet (codes "countdown") 2 4 (codes "take" ∷ codes "wild" ∷ []) (0 ∷ 1 ∷ []) (Some 2) (EndTurn ∷ []);
   opening = λ seats. full_heap;
   play = countdown_move;
-  end_if = countdown_end;
+  end_if = λ h. if nat_eq h.left 0 then option_map Winner h.last else None;
   may_undo = true;
   offers = λ h seat. heap_offers h;
 }

@@ -3,13 +3,13 @@ use Rattle.std.specs.Prelude.{ℕ, ◌+◌, ◌^◌, nat_eq, nat_le, nat_lt, fal
 use Rattle.dice_words.specs.Dice.{die}
 use Rattle.game_sheet.specs.declared.act.Event.{Event}
 use Rattle.game_sheet.specs.declared.act.Event.TheVariants.{EndTurn}
-use Rattle.game_sheet.specs.declared.act.Outcome.{Outcome}
 use Rattle.game_sheet.specs.declared.act.Outcome.TheVariants.{Winner}
 use Rattle.game_sheet.specs.declared.args.Arg.{Arg}
 use Rattle.game_trait.specs.Deed.{Barred, Deed, Done, GaveUp, Invalid, Lacks, Spent, drawing}
 use Rattle.open_game.specs.OpenRules.{OpenRules}
 use Rattle.open_game.specs.Sheets.{turns_sheet}
 use Rattle.table_states.specs.Points.{Points}
+use Rattle.std.specs.Option.{option_map_or}
 
 abbrev pub no_points : ℕ → Points
 no_points seats = record { pot = 0; totals = replicate seats 0 }
@@ -28,8 +28,7 @@ ended face = if nat_eq face 1 then EndTurn None ∷ [] else []
 
 -- points that are made, if they are, with words left and events queued
 abbrev pub scored : (ℕ → Points) → Option ℕ → List ℕ → List Event → Deed Points Barred
-scored points None words queued = GaveUp Invalid
-scored points (Some n) words queued = Done (points n) words queued
+scored points sum words queued = option_map_or (λ n. Done (points n) words queued) sum (GaveUp Invalid)
 
 abbrev pub rolled : Points → ℕ → List ℕ → Deed Points Barred
 rolled p face words = scored (λ pot. record p { pot = pot }) (pot_after p.pot face) words (ended face)
@@ -48,16 +47,7 @@ abbrev pub total_of : Points → ℕ → Option ℕ
 total_of p seat = if nat_lt seat 4 then slice_get p.totals seat else None
 
 abbrev pub move_with : Points → ℕ → ℕ → List Arg → List ℕ → Option ℕ → Deed Points Barred
-move_with p seat id args words None = GaveUp Invalid
-move_with p seat id args words (Some total) = if nat_eq id 0 then roll p args words else hold p seat total args words
-
--- the least seat with a total of 20 or more wins
-abbrev pub pig_end : Points → Option Outcome
-pig_end p = option_map Winner (position (λ total. nat_le 20 total) p.totals)
-
--- a roll, and a hold where there is something to hold
-abbrev pub points_offers : Points → List (ℕ × List Arg)
-points_offers p = if nat_eq p.pot 0 then (0, []) ∷ [] else (0, []) ∷ (1, []) ∷ []
+move_with p seat id args words total = option_map_or (λ total. if nat_eq id 0 then roll p args words else hold p seat total args words) total (GaveUp Invalid)
 
 -- turns of one move or more
 abbrev pub pig : OpenRules Points
@@ -65,7 +55,9 @@ pig = record {
   sheet = turns_sheet (codes "pig") 2 4 (codes "roll" ∷ codes "hold" ∷ []) (0 ∷ 1 ∷ []) None [];
   opening = no_points;
   play = λ p seat id args words. move_with p seat id args words (total_of p seat);
-  end_if = pig_end;
+  -- the least seat with a total of 20 or more wins
+  end_if = λ p. option_map Winner (position (λ total. nat_le 20 total) p.totals);
   may_undo = false;
-  offers = λ p seat. points_offers p;
+  -- a roll, and a hold where there is something to hold
+  offers = λ p seat. if nat_eq p.pot 0 then (0, []) ∷ [] else (0, []) ∷ (1, []) ∷ [];
 }

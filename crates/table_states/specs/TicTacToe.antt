@@ -7,11 +7,11 @@ use Rattle.open_game.specs.OpenRules.{OpenRules, made}
 use Rattle.open_game.specs.Sheets.{turns_sheet}
 use Rattle.table_states.specs.Board.{click, empty, free_clicks, is_full, winner}
 use Rattle.table_states.specs.declared.board.Board.{Board}
+use Rattle.std.specs.Option.{option_map_or}
 
 -- the least seat with a line wins, and a full board without a line is a draw
 abbrev pub outcome : Option ℕ → Bool → Option Outcome
-outcome (Some winner) full = Some (Winner winner)
-outcome None full = if full then Some Draw else None
+outcome winner full = option_map_or (λ winner. Some (Winner winner)) winner (if full then Some Draw else None)
 
 -- turns of exactly one move
 abbrev pub tic_tac_toe : OpenRules Board

@@ -1,4 +1,4 @@
--- The place of the play order at which a phase begins, and the place that comes next, a line for each order.
+-- The place of the play order at which a phase begins, and the place that comes next, by the order's kind.
 use Rattle.std.specs.Prelude.{ℕ, ◌+◌, ◌%◌, ◌==◌, Bool, Option, None, Some, if◌then◌else◌}
 use Rattle.game_sheet.specs.declared.sheet.Order.{Order}
 use Rattle.game_sheet.specs.declared.sheet.Order.TheVariants.{Default, Continue, Once}

@@ -12,7 +12,7 @@ use Rattle.game_sheet.specs.declared.act.Bye.TheVariants.{Left, Lagging}
 use Rattle.wire_json.specs.ByeText.{bye_text, bye_from}
 use Rattle.sheet_json.specs.Seats.{IsWithin, natural_or_null, or_null}
 use Rattle.sheet_json.proofs.SeatLaws.{bound, natural_is, natural_again, Holds, or_null_is}
-use Rattle.wire_json.specs.RefusalText.{member_text, member_table, member_from, refusal_text, refusal_field, refusal_table, refusal_from, unpointed, with_field}
+use Rattle.wire_json.specs.RefusalText.{member_text, member_table, member_from, refusal_text, refusal_field, refusal_table, refusal_from, with_field}
 use Rattle.wire_json.specs.ServerText.{field_or_null, server_members}
 use Rattle.wire_json.specs.ServerReading.{ServerFits, member_in, refusal_in, why_in, again_in, refused_in, bye_in}
 use Rattle.wire_json.specs.Refusals as fault
@@ -24,6 +24,7 @@ use Rattle.wire_json.specs.declared.server.ServerMsg.{ServerMsg}
 use Rattle.wire_json.specs.declared.server.ServerMsg.TheVariants as to_client
 use Rattle.wire_json.proofs.FieldLaws.{step, past, formed, text_is}
 use Rattle.wire_json.proofs.Tables.{table_is}
+use Rattle.std.specs.Option.{option_map_or}
 
 abbrev good : ServerMsg → Result ServerMsg fault.Refusal
 good x = Ok x
@@ -75,7 +76,7 @@ record IsPointed (r : Refusal) (f : Option Member) (x : Refusal) : Type 0 where
   word : refusal_text r ≡ refusal_text x
   field : f ≡ refusal_field x
 
-unpointed_is : (r : Refusal) (f : Option Member) (x : Refusal) → refusal_field r ≡ None → unpointed r f ≡ Some x → IsPointed r f x
+unpointed_is : (r : Refusal) (f : Option Member) (x : Refusal) → refusal_field r ≡ None → option_map_or (λ field. None) f (Some r) ≡ Some x → IsPointed r f x
 unpointed_is r None x h e = let same : r ≡ x = cc in subst (IsPointed r None) same (record { word = refl; field = sym h })
 unpointed_is r (Some m) x h e = absurd (cc)
 

@@ -3,7 +3,7 @@ use Rattle.std.proofs.Common.{◌≡◌, ◌≤◌, ◌==◌, ℕ, List, [], ◌
 use Rattle.std.proofs.lemmas.Bool.{eqb-true}
 use Rattle.std.proofs.lemmas.Slice.Eq.{bytes_eq-Decides}
 use Rattle.std.specs.Prelude.{Result}
-use Rattle.serde_json.specs.Data.{Data, string, object, Members}
+use Rattle.serde_json.specs.Data.{Data, string, object, Members, null}
 use Rattle.serde_json.specs.Find.{get_member}
 use Rattle.hex.specs.Hex.{encode_lower}
 use Rattle.json_tree.specs.Canonical.{MembersAreCanonical}
@@ -21,8 +21,8 @@ use Rattle.sheet_json.specs.Seats.{natural, natural_or_null, or_null}
 use Rattle.sheet_json.proofs.SeatLaws.{bound, natural_is, natural_again, Holds, or_null_is}
 use Rattle.wire_json.specs.KeyText.{IsKey}
 use Rattle.wire_json.specs.MatchText.{match_text, IsName}
-use Rattle.wire_json.specs.ClientText.{key_or_null, protocol_number, client_members, said_members, ViewerFits, ClientFits, IsForm}
-use Rattle.wire_json.specs.ClientReading.{key_in, both_or_neither, viewer_of, claim_in, protocol_from, protocol_in, place_in, player_in, count_in, stamp_in, sync_in, client_act_in, takeover_in, games_in, matches_in, look_in, create_in, join_in, rename_in, leave_in, lobby_as, client_as, client_in, client_read}
+use Rattle.wire_json.specs.ClientText.{protocol_number, client_members, said_members, ViewerFits, ClientFits, IsForm}
+use Rattle.wire_json.specs.ClientReading.{key_in, both_or_neither, viewer_of, claim_in, protocol_in, place_in, player_in, count_in, stamp_in, sync_in, client_act_in, takeover_in, games_in, matches_in, look_in, create_in, join_in, rename_in, leave_in, lobby_as, client_as, client_in, client_read}
 use Rattle.wire_json.specs.Refusals.{Refusal, ExtraField, UnknownMessage, of_line}
 use Rattle.wire_json.specs.declared.asked.Asked.{Asked}
 use Rattle.wire_json.specs.declared.client.ClientMsg.{ClientMsg}
@@ -32,6 +32,7 @@ use Rattle.wire_json.specs.declared.protocol.Protocol.TheVariants.{One, Two}
 use Rattle.wire_json.specs.declared.submission.Submission.{Submission}
 use Rattle.wire_json.proofs.FieldLaws.{step, past, formed, text_is, short_text_is, short_text_again, match_member_is, match_member_again, key_member_is, key_member_again, seat_key_is}
 use Rattle.wire_json.proofs.ActLaws.{act_is, act_again}
+use Rattle.std.specs.Option.{option_map_or}
 
 abbrev good : {A : Type 0} → A → Result A Refusal
 good x = Ok x
@@ -222,7 +223,7 @@ takeover_again name seat h = rw (match_member_again name h.0, natural_again 255 
 
 -- the members `key` and `seat` are those of the viewer
 abbrev AreViewer : Option Data → Option Data → Viewer → Type 0
-AreViewer key seat viewer = (key ≡ Some (key_or_null viewer)) × (seat ≡ Some (natural_or_null (seat_of viewer))) × ViewerFits viewer
+AreViewer key seat viewer = (key ≡ Some (option_map_or (λ claim. string (encode_lower claim.1)) viewer null)) × (seat ≡ Some (natural_or_null (seat_of viewer))) × ViewerFits viewer
 
 viewer_is : (k s : Option Data) (key : Option (List ℕ)) (seat : Option ℕ) → Holds key_in k key → Holds (natural_in 255) s seat → both_or_neither key seat ≡ true → AreViewer k s (viewer_of key seat)
 viewer_is k s None None h i b = (h, i, tt)
@@ -244,7 +245,7 @@ protocol_is None protocol e = let same : One ≡ protocol = cc in inl (refl, sam
 protocol_is (Some d) protocol e =
     let n = bound (natural_in 2 (Some d)) _ protocol e in
     let is = natural_is 2 (Some d) n.0 n.1 in
-    inr (is.0 ∙ ap (λ x. Some (natural x)) (numbered (n.0 == 1) (n.0 == 2) n.0 protocol refl refl (formed (protocol_from n.0) protocol n.2)))
+    inr (is.0 ∙ ap (λ x. Some (natural x)) (numbered (n.0 == 1) (n.0 == 2) n.0 protocol refl refl (formed (if n.0 == 1 then Some One else if n.0 == 2 then Some Two else None) protocol n.2)))
 
 sync_names : List (List ℕ)
 sync_names = codes "key" ∷ codes "match" ∷ codes "protocol" ∷ codes "seat" ∷ codes "type" ∷ []
@@ -252,7 +253,7 @@ sync_names = codes "key" ∷ codes "match" ∷ codes "protocol" ∷ codes "seat"
 abbrev SyncRow : Members → Name → Viewer → Protocol → Type 0
 SyncRow ms name viewer protocol = (ms ≡ client_members (Sync name viewer protocol)) ⊎ (ms ≡ said_members (Sync name viewer protocol))
 
-sync_row : (ms : Members) (name : Name) (viewer : Viewer) (protocol : Protocol) → MembersAreCanonical ms → has_extra sync_names ms ≡ false → get_member (codes "key") ms ≡ Some (key_or_null viewer)
+sync_row : (ms : Members) (name : Name) (viewer : Viewer) (protocol : Protocol) → MembersAreCanonical ms → has_extra sync_names ms ≡ false → get_member (codes "key") ms ≡ Some (option_map_or (λ claim. string (encode_lower claim.1)) viewer null)
     → HasText ms (codes "match") (match_text name) → Says (get_member (codes "protocol") ms) protocol → get_member (codes "seat") ms ≡ Some (natural_or_null (seat_of viewer)) → HasText ms (codes "type") (codes "sync")
     → SyncRow ms name viewer protocol
 unfolding sync_names

@@ -10,11 +10,11 @@ use Rattle.json_tree.specs.Fields.{list_in, natural_in}
 use Rattle.json_tree.specs.Names.{has_extra}
 use Rattle.json_tree.specs.declared.fields.FieldFault.TheVariants.{OutOfRange}
 use Rattle.json_tree.proofs.Rows.{row_is, canonical_member}
-use Rattle.sheet_json.specs.Seats.{or_null}
+use Rattle.sheet_json.specs.Seats.{or_null, text_or_null}
 use Rattle.sheet_json.proofs.SeatLaws.{bound, natural_is, natural_again, Holds, or_null_is}
 use Rattle.wire_json.specs.Acts.{in_form, text_within, word_in}
 use Rattle.wire_json.specs.RowReading.{boolean_in, player_in, players_from, players_in, row_from, rows_from, row_in, rows_in}
-use Rattle.wire_json.specs.RowText.{Player, text_or_null, player_members, player_data, players_data, row_members, row_data, rows_data, IsGameName, IsShortName, IsPlayer, IsRow}
+use Rattle.wire_json.specs.RowText.{Player, player_members, player_data, players_data, row_members, row_data, rows_data, IsGameName, IsShortName, IsPlayer, IsRow}
 use Rattle.wire_json.specs.ServerReading.{names_from, names_in}
 use Rattle.wire_json.specs.ServerText.{names_data}
 use Rattle.wire_json.specs.declared.match_row.MatchRow.{MatchRow}

@@ -3,9 +3,10 @@ use Rattle.std.proofs.Common.{◌≤◌, IsUtf8, refl, arith}
 use Rattle.json_tree.specs.Writable.{IsWritable, ItemsAreWritable}
 use Rattle.json_tree.proofs.WritableRows.{fixed}
 use Rattle.wire_json.specs.MatchText.{IsName}
-use Rattle.wire_json.specs.RowText.{Player, text_or_null, player_members, player_data, players_data, row_members, row_data}
+use Rattle.wire_json.specs.RowText.{Player, player_members, player_data, players_data, row_members, row_data}
 use Rattle.wire_json.specs.declared.match_row.MatchRow.{MatchRow}
 use Rattle.wire_json.proofs.Texts.{match_utf8}
+use Rattle.sheet_json.specs.Seats.{text_or_null}
 
 pub player_writable : (player : Player) → IsWritable (text_or_null player.1) → player.0 ≤ 255 → IsWritable (player_data player)
 player_writable player name seat = fixed (player_members player) refl (name, (omega arith, tt))

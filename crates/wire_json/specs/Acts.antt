@@ -18,6 +18,7 @@ use Rattle.wire_json.specs.declared.asked.Asked.{Asked}
 use Rattle.wire_json.specs.declared.asked.Asked.TheVariants.{Move, Event, Undo, Redo}
 use Rattle.wire_json.specs.declared.asked.AskedTo.{AskedTo}
 use Rattle.wire_json.specs.declared.asked.AskedTo.TheVariants.{Nothing, Seat, Name}
+use Rattle.std.specs.Option.{option_map_or}
 
 -- a text of lo to hi bytes
 abbrev pub text_within : ℕ → ℕ → Option Data → Result (List ℕ) FieldFault
@@ -27,8 +28,7 @@ abbrev pub word_in : Option Data → Option (List ℕ)
 word_in found = result_ok (text_within 1 32 found)
 
 unfoldable pub move_in : Data → Option Asked
-move_in d =
-    if extra_in (codes "args" ∷ codes "kind" ∷ codes "move" ∷ []) d then None
+move_in d = if extra_in (codes "args" ∷ codes "kind" ∷ codes "move" ∷ []) d then None
     else option_and_then (λ args. option_map (λ name. Move name args) (word_in (get (codes "move") d))) (option_and_then arguments_in (result_ok (list_in (get (codes "args") d))))
 
 abbrev pub nothing_in : Option Data → Option AskedTo
@@ -45,8 +45,7 @@ aim_in SetStage found = option_map Name (word_in found)
 aim_in other found = nothing_in found
 
 unfoldable pub event_in : Data → Option Asked
-event_in d =
-    if extra_in (codes "event" ∷ codes "kind" ∷ codes "to" ∷ []) d then None
+event_in d = if extra_in (codes "event" ∷ codes "kind" ∷ codes "to" ∷ []) d then None
     else option_and_then (λ kind. option_map (λ to. Event kind to) (aim_in kind (get (codes "to") d))) (option_and_then kind_from (result_ok (text_in (get (codes "event") d))))
 
 -- undo and redo have nothing but their kind
@@ -65,15 +64,13 @@ asked_in d = asked_as (result_ok (text_in (get (codes "kind") d))) d
 
 -- a value of the right kind that is in no form is out of range
 abbrev pub in_form : {A : Type 0} → Option A → Result A FieldFault
-in_form None = Err OutOfRange
-in_form (Some x) = Ok x
+in_form formed = option_map_or Ok formed (Err OutOfRange)
 
 abbrev pub is_object : Data → Bool
 is_object d = is_some (as_object d)
 
 abbrev pub object_member_in : Option Data → Result Data FieldFault
-object_member_in None = Err Missing
-object_member_in (Some d) = if is_object d then Ok d else Err WrongKind
+object_member_in found = option_map_or (λ d. if is_object d then Ok d else Err WrongKind) found (Err Missing)
 
 abbrev pub act_in : Option Data → Result Asked FieldFault
 act_in found = object_member_in found >>= λ d. in_form (asked_in d)

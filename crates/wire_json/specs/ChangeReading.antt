@@ -19,13 +19,11 @@ is_texts other = false
 
 -- the value, where the test holds
 abbrev pub if_holds : (Data → Bool) → Option Data → Option Data
-if_holds test None = None
-if_holds test (Some d) = if test d then Some d else None
+if_holds test found = option_and_then (λ d. if test d then Some d else None) found
 
 -- the names that are gone, and the members that are put
 unfoldable pub parts_of : Data → Option (Data × Data)
-parts_of g =
-    if extra_in (codes "gone" ∷ codes "put" ∷ []) g then None
+parts_of g = if extra_in (codes "gone" ∷ codes "put" ∷ []) g then None
     else option_and_then (λ gone. option_map (λ put. (gone, put)) (if_holds is_object (get (codes "put") g))) (if_holds is_texts (get (codes "gone") g))
 
 abbrev pub parts_in : Option Data → Result (Data × Data) FieldFault

@@ -45,12 +45,9 @@ viewer_of (Some key) (Some seat) = Some (seat, key)
 viewer_of key seat = None
 
 -- protocol 1 may be left unsaid
-abbrev pub protocol_from : ℕ → Option Protocol
-protocol_from n = if n == 1 then Some One else if n == 2 then Some Two else None
-
 abbrev pub protocol_in : Option Data → Result Protocol FieldFault
 protocol_in None = Ok One
-protocol_in (Some d) = natural_in 2 (Some d) >>= λ n. in_form (protocol_from n)
+protocol_in (Some d) = natural_in 2 (Some d) >>= λ n. in_form (if n == 1 then Some One else if n == 2 then Some Two else None)
 
 -- ---- members that several messages have
 

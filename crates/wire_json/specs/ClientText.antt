@@ -1,6 +1,6 @@
 -- The lines from clients: which object each message is, and when a line is a form of it.
 use Rattle.std.specs.Prelude.{◌≤◌, ℕ, List, length, IsUtf8, ◌++◌, ◌⊎◌, Option, Some, None, codes}
-use Rattle.serde_json.specs.Data.{Data, null, string, object, Members, no_members, member}
+use Rattle.serde_json.specs.Data.{null, string, object, Members, no_members, member}
 use Rattle.serde_json.specs.Written.{compact_text}
 use Rattle.hex.specs.Hex.{encode_lower}
 use Rattle.json_tree.specs.Lines.{IsLineOf, newline}
@@ -14,6 +14,7 @@ use Rattle.wire_json.specs.declared.client.ClientMsg.{ClientMsg}
 use Rattle.wire_json.specs.declared.client.ClientMsg.TheVariants.{Games, Matches, Look, Create, Join, Rename, Leave, Sync, Act, Takeover}
 use Rattle.wire_json.specs.declared.protocol.Protocol.{Protocol}
 use Rattle.wire_json.specs.declared.protocol.Protocol.TheVariants.{One, Two}
+use Rattle.std.specs.Option.{option_map_or}
 
 abbrev pub of_type : List ℕ → Members
 of_type kind = member (codes "type") (string kind) no_members
@@ -33,11 +34,6 @@ place_members name seat kind = member (codes "match") (string (match_text name))
 abbrev pub player_members : Name → List ℕ → ℕ → List ℕ → Members
 player_members name player seat kind = member (codes "match") (string (match_text name)) (from_player player seat kind)
 
--- a spectator has neither key nor seat
-abbrev pub key_or_null : Viewer → Data
-key_or_null None = null
-key_or_null (Some claim) = string (encode_lower claim.1)
-
 abbrev pub from_viewer : Option ℕ → Members
 from_viewer seat = member (codes "seat") (natural_or_null seat) (of_type (codes "sync"))
 
@@ -53,8 +49,9 @@ abbrev pub after_match : Protocol → Option ℕ → Members
 after_match One seat = from_viewer seat
 after_match Two seat = from_protocol Two seat
 
+-- a spectator has neither key nor seat
 abbrev pub sync_members : Name → Viewer → Members → Members
-sync_members name viewer rest = member (codes "key") (key_or_null viewer) (member (codes "match") (string (match_text name)) rest)
+sync_members name viewer rest = member (codes "key") (option_map_or (λ claim. string (encode_lower claim.1)) viewer null) (member (codes "match") (string (match_text name)) rest)
 
 abbrev pub from_number : ℕ → ℕ → Members
 from_number at ticket = member (codes "number") (natural at) (member (codes "ticket") (natural ticket) (of_type (codes "act")))

@@ -9,6 +9,7 @@ use Rattle.wire_json.specs.declared.refusal.Refusal.{Refusal}
 use Rattle.wire_json.specs.declared.refusal.Refusal.TheVariants.{BadMessage, NoGame, Full, BadSeats, NoStart, NoMatch, SeatTaken, NoSeat, BadName, Unauthorized, AlreadyAttached, NotAttached, NotABot}
 use Rattle.wire_json.specs.declared.wire_no.WireNo.{WireNo}
 use Rattle.wire_json.specs.declared.wire_no.WireNo.TheVariants as no
+use Rattle.std.specs.Option.{option_map_or}
 
 abbrev pub member_text : Member → List ℕ
 member_text Extra = codes "*"
@@ -25,8 +26,7 @@ member_text Seats = codes "seats"
 member_text Ticket = codes "ticket"
 
 abbrev pub member_table : List (List ℕ × Member)
-member_table =
-    map (λ member. (member_text member, member)) (Extra ∷ Kind ∷ Act ∷ Game ∷ Key ∷ Match ∷ Name ∷ Number ∷ Protocol ∷ Seat ∷ Seats ∷ Ticket ∷ [])
+member_table = map (λ member. (member_text member, member)) (Extra ∷ Kind ∷ Act ∷ Game ∷ Key ∷ Match ∷ Name ∷ Number ∷ Protocol ∷ Seat ∷ Seats ∷ Ticket ∷ [])
 
 abbrev pub member_from : List ℕ → Option Member
 member_from s = lookup (bytes_eq s) member_table
@@ -51,22 +51,17 @@ refusal_field (BadMessage field) = field
 refusal_field other = None
 
 abbrev pub refusal_table : List (List ℕ × Refusal)
-refusal_table =
-    map (λ refusal. (refusal_text refusal, refusal))
+refusal_table = map (λ refusal. (refusal_text refusal, refusal))
     (BadMessage None ∷ NoGame ∷ Full ∷ BadSeats ∷ NoStart ∷ NoMatch ∷ SeatTaken ∷ NoSeat ∷ BadName ∷ Unauthorized ∷ AlreadyAttached ∷ NotAttached ∷ NotABot ∷ [])
 
 -- the refusal of a word, pointing at nothing
 abbrev pub refusal_from : List ℕ → Option Refusal
 refusal_from s = lookup (bytes_eq s) refusal_table
 
-abbrev pub unpointed : Refusal → Option Member → Option Refusal
-unpointed refusal None = Some refusal
-unpointed refusal (Some field) = None
-
 -- the refusal pointing at this, where it can
 abbrev pub with_field : Refusal → Option Member → Option Refusal
 with_field (BadMessage old) field = Some (BadMessage field)
-with_field other field = unpointed other field
+with_field other field = option_map_or (λ field. None) field (Some other)
 
 -- the refusal of a line for its first fault
 abbrev pub refusal_of : WireNo → Option Refusal

@@ -8,6 +8,7 @@ use Rattle.json_tree.specs.declared.lines.LineFault.{LineFault}
 use Rattle.json_tree.specs.declared.fields.FieldFault.{FieldFault}
 use Rattle.wire_json.specs.declared.wire_no.WireNo.{WireNo}
 use Rattle.wire_json.specs.declared.wire_no.WireNo.TheVariants as no
+use Rattle.std.specs.Result.{result_map_both}
 
 pub data Refusal : Type 0 where
   Line : LineFault → Refusal
@@ -29,12 +30,10 @@ Gives (Ok x) read = read ≡ Ok x
 Gives (Err e) read = Refuses e read
 
 abbrev pub at_field : {A : Type 0} → List ℕ → Result A FieldFault → Result A Refusal
-at_field name (Ok x) = Ok x
-at_field name (Err fault) = Err (Field name fault)
+at_field name result = result_map_both (λ x. x) (Field name) result
 
 abbrev pub of_line : {A : Type 0} → Result A LineFault → Result A Refusal
-of_line (Ok x) = Ok x
-of_line (Err fault) = Err (Line fault)
+of_line result = result_map_both (λ x. x) Line result
 
 -- what the form reads in the member of this name; its fault is the member's
 abbrev pub read_at : {A : Type 0} → List ℕ → (Option Data → Result A FieldFault) → Data → Result A Refusal

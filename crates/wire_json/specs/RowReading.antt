@@ -1,9 +1,9 @@
 -- How a match's row is read.
-use Rattle.std.specs.Prelude.{List, [], ◌∷◌, Bool, if◌then◌else◌, codes, Option, Some, None, option_map, option_and_then, ok_or, Result, Ok, Err}
+use Rattle.std.specs.Prelude.{List, [], ◌∷◌, Bool, if◌then◌else◌, codes, Option, Some, option_map, option_and_then, ok_or, Result, Ok, Err}
 use Rattle.std.specs.Result.{result_ok}
 use Rattle.serde_json.specs.Data.{Data, Items, no_items, item}
 use Rattle.serde_json.specs.Find.{get, as_bool}
-use Rattle.json_tree.specs.Fields.{list_in, natural_in}
+use Rattle.json_tree.specs.Fields.{list_in, natural_in, read_each}
 use Rattle.json_tree.specs.Names.{extra_in}
 use Rattle.json_tree.specs.Steps.{◌>>=◌}
 use Rattle.json_tree.specs.declared.fields.FieldFault.{FieldFault}
@@ -13,10 +13,10 @@ use Rattle.wire_json.specs.Acts.{in_form, object_member_in, text_within}
 use Rattle.wire_json.specs.ClientReading.{match_in}
 use Rattle.wire_json.specs.RowText.{Player}
 use Rattle.wire_json.specs.declared.match_row.MatchRow.{MatchRow}
+use Rattle.std.specs.Option.{option_map_or}
 
 abbrev pub boolean_in : Option Data → Result Bool FieldFault
-boolean_in None = Err Missing
-boolean_in (Some d) = ok_or (as_bool d) WrongKind
+boolean_in found = option_map_or (λ d. ok_or (as_bool d) WrongKind) found (Err Missing)
 
 unfoldable pub player_in : Data → Result Player FieldFault
 player_in d = if extra_in (codes "name" ∷ codes "seat" ∷ []) d then Err OutOfRange
@@ -35,8 +35,7 @@ row_from d = if extra_in (codes "game" ∷ codes "match" ∷ codes "over" ∷ co
     in_form (players_in (get (codes "players") d)) >>= λ players. Ok (record { game = game; name = name; over = over; players = players }))
 
 abbrev pub rows_from : Items → Option (List MatchRow)
-rows_from no_items = Some []
-rows_from (item d ds) = option_and_then (λ row. option_map (λ rest. row ∷ rest) (rows_from ds)) (result_ok (row_from d))
+rows_from ds = read_each (λ d. result_ok (row_from d)) ds
 
 -- a row that is in no form is out of range, whatever the fault in it
 abbrev pub row_in : Option Data → Result MatchRow FieldFault

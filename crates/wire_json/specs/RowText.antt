@@ -1,19 +1,15 @@
 -- A match's row as JSON: its game, its name, whether it is over, and who sits in it.
 use Rattle.std.specs.Prelude.{◌≤◌, ℕ, List, length, map, codes, Option, Some, None}
 use Rattle.std.specs.List.{AllByRecursion}
-use Rattle.serde_json.specs.Data.{Data, null, boolean, string, array, object, Items, Members, member, no_members}
+use Rattle.serde_json.specs.Data.{Data, boolean, string, array, object, Items, Members, member, no_members}
 use Rattle.serde_json.specs.View.{items_of}
-use Rattle.sheet_json.specs.Seats.{natural}
+use Rattle.sheet_json.specs.Seats.{natural, text_or_null}
 use Rattle.wire_json.specs.MatchText.{match_text, IsName}
 use Rattle.wire_json.specs.declared.match_row.MatchRow.{MatchRow}
 
 -- a seat, and the name of who sits there
 abbrev pub Player : Type 0
 Player = ℕ × Option (List ℕ)
-
-abbrev pub text_or_null : Option (List ℕ) → Data
-text_or_null None = null
-text_or_null (Some s) = string s
 
 abbrev pub player_members : Player → Members
 player_members player = member (codes "name") (text_or_null player.1) (member (codes "seat") (natural player.0) no_members)

@@ -1,11 +1,11 @@
 -- How a line to a client is read: the message, or the first fault.
-use Rattle.std.specs.Prelude.{◌≡◌, ◌≤◌, ℕ, List, [], ◌∷◌, map, true, nat_le, if◌then◌else◌, codes, option_and_then, option_map, Option, Some, None, Result, Ok, Err}
+use Rattle.std.specs.Prelude.{◌≡◌, ◌≤◌, ℕ, List, [], ◌∷◌, map, true, nat_le, if◌then◌else◌, codes, Option, Some, None, Result, Ok, Err}
 use Rattle.std.specs.List.{AllByRecursion}
 use Rattle.std.specs.Map.{lookup}
 use Rattle.std.specs.Str.{bytes_eq}
-use Rattle.serde_json.specs.Data.{Data, object, Items, no_items, item}
+use Rattle.serde_json.specs.Data.{Data, object, Items}
 use Rattle.serde_json.specs.Find.{get}
-use Rattle.json_tree.specs.Fields.{text_in, list_in, natural_in}
+use Rattle.json_tree.specs.Fields.{text_in, list_in, natural_in, read_each}
 use Rattle.json_tree.specs.Lines.{IsTextOf, text_read}
 use Rattle.json_tree.specs.Steps.{◌>>=◌}
 use Rattle.json_tree.specs.declared.fields.FieldFault.{FieldFault}
@@ -33,6 +33,7 @@ use Rattle.wire_json.specs.declared.refusal.Member.{Member}
 use Rattle.wire_json.specs.declared.refusal.Refusal as refused
 use Rattle.wire_json.specs.declared.server.ServerMsg.{ServerMsg}
 use Rattle.wire_json.specs.declared.server.ServerMsg.TheVariants as to_client
+use Rattle.std.specs.Option.{option_map_or}
 
 -- what a message's own type doesn't keep: the forms of games' names, of names in rows, and of what a change says
 abbrev pub IsTellable : ServerMsg → Type 0
@@ -89,13 +90,11 @@ abbrev pub why_in : Option Data → Result Bye FieldFault
 why_in found = text_in found >>= λ s. in_form (bye_from s)
 
 abbrev pub tree_in : Option Data → Result Data FieldFault
-tree_in None = Err Missing
-tree_in (Some d) = Ok d
+tree_in found = option_map_or Ok found (Err Missing)
 
 -- the names of games, each of 1 to 32 bytes
 abbrev pub names_from : Items → Option (List (List ℕ))
-names_from no_items = Some []
-names_from (item d ds) = option_and_then (λ name. option_map (λ rest. name ∷ rest) (names_from ds)) (word_in (Some d))
+names_from ds = read_each (λ d. word_in (Some d)) ds
 
 -- a list that holds anything else is out of range
 abbrev pub names_in : Option Data → Result (List (List ℕ)) FieldFault

@@ -4,7 +4,8 @@ ghost use Rattle.std.specs.Prelude.{◌≡◌, ◌++◌, true, OnOk};
 ghost use Rattle.serde_json.specs.Data.{array};
 ghost use Rattle.serde_json.specs.Written.{compact_text, members_text};
 ghost use Rattle.json_tree.specs.Writable.{IsWritable, ItemsAreWritable};
-ghost use Rattle.wire_json.specs.RowText.{from_over, player_data, players_data, row_data, rows_data, text_or_null};
+ghost use Rattle.wire_json.specs.RowText.{from_over, player_data, players_data, row_data, rows_data};
+ghost use Rattle.sheet_json.specs.Seats.{text_or_null};
 
 use crate::match_row::MatchRow;
 use crate::put_member::{put_match, put_text};

@@ -1,6 +1,6 @@
 -- The steps of a workload.
 use Rattle.std.proofs.Common.{◌≡◌, ◌<◌, ◌+◌, ◌-◌, ◌%◌, ◌^◌, ◌==◌, ℕ, suc, Bool, true, false, nat_le, List, [], ◌∷◌, length, if◌then◌else◌, Option, Some, None, IsSome, refl, sym, ap, subst, ◌∙◌, arith}
-use Rattle.std.specs.Prelude.{IfSome, slice_get}
+use Rattle.std.specs.Prelude.{IfSome, slice_get, not}
 use Rattle.std.proofs.Math.Nat.{mod-add-mod}
 use Rattle.any_game.specs.AnyRules.{any_rules, named}
 use Rattle.any_game.specs.GameKind.{GameKind}
@@ -8,7 +8,7 @@ use Rattle.any_game.specs.declared.any_g.AnyG.{AnyG}
 use Rattle.dice_words.specs.Dice.{die}
 use Rattle.dice_words.specs.Strip.{Strip, live, place_of, words_of}
 use Rattle.game_hall.specs.Words.{next_action}
-use Rattle.world_history.specs.Workload.{Workload, after_step, begins_round, choice, choice_words, ends_round, goes, is_new_round, step_by, step_of, steps_from, takes_step}
+use Rattle.world_history.specs.Workload.{Workload, after_step, begins_round, choice, choice_words, ends_round, goes, step_by, step_of, steps_from, takes_step, round_steps}
 use Rattle.world_history.specs.World.{World, Step, Acts, Arrives, Reads, Takes}
 use Rattle.game_sheet.specs.declared.act.EventKind.TheVariants.{EndTurn}
 use Rattle.wire_json.specs.declared.asked.Asked.TheVariants as asked
@@ -193,6 +193,6 @@ goes_as tape words lines new l c k word step above e is =
 
 -- ---- a new round
 
-pub new_round : (tape words : ℕ → List ℕ) (done left : ℕ) (l : Workload GameKind AnyG) → is_new_round named any_rules tape words done left ≡ true
+pub new_round : (tape words : ℕ → List ℕ) (done left : ℕ) (l : Workload GameKind AnyG) → ((done % round_steps == 0) && not (left == 0)) ≡ true
     → begins_round named any_rules tape (ends_round named any_rules tape l) ≡ after_step named any_rules tape words done left l
 new_round tape words done left l e = sym (ap (λ b. if b then begins_round named any_rules tape (ends_round named any_rules tape l) else l) e)

@@ -35,7 +35,6 @@ use Rattle.world_history.specs.World.{World}
 use Rattle.world_history.specs.WorldScript.{answer_lines, arrived}
 use Rattle.hall_history.proofs.Placing.{line_placed}
 use Rattle.hall_history.proofs.Rooming.{gets_entry, is_same}
-use Rattle.world_convergence.specs.Meeting.{now_or}
 use Rattle.world_convergence.proofs.Arriving.{HasAsked, IsActAnswer, IsAnswered, IsAside, IsMet, IsPlainAnswer, act_apart, act_there, faulty, sync_comes}
 use Rattle.world_convergence.proofs.Counting.{answers, count}
 use Rattle.world_convergence.proofs.Directly.{plain_quiet, quiet_counts}
@@ -46,18 +45,19 @@ use Rattle.world_convergence.proofs.Owning.{here_at, no_face}
 use Rattle.world_convergence.proofs.Sending.{AreActLines, acted, coming, ticket_fits}
 use Rattle.world_convergence.proofs.Serving.{Said, apart_arrived, down_came, met_arrived, said_aside, said_plain, up_then}
 use Rattle.world_convergence.proofs.Stories.{Apart, IsSyncLine, Met, StoryOf, is_there}
+use Rattle.std.specs.Option.{option_or}
 
 no_both : false ≡ true → ⊥
 no_both e = cc
 
 -- in which room the story is
-pub now_is : {X G : Type 0} (rules : X → Rules G) (c : ℕ) (v : World X G) (held : Held X G) (room : Option ℕ) → StoryOf rules c v held room → StoryOf rules c v held (now_or (v.hall.at c) room)
-now_is rules c v held None a = subst (λ o. StoryOf rules c v held (now_or o None)) (sym a.at) a
+pub now_is : {X G : Type 0} (rules : X → Rules G) (c : ℕ) (v : World X G) (held : Held X G) (room : Option ℕ) → StoryOf rules c v held room → StoryOf rules c v held (option_or (v.hall.at c) room)
+now_is rules c v held None a = subst (λ o. StoryOf rules c v held (option_or o None)) (sym a.at) a
 now_is rules c v held (Some r) m = by m.at
   where
-    by : (v.hall.at c ≡ None) ⊎ (v.hall.at c ≡ Some r) → StoryOf rules c v held (now_or (v.hall.at c) (Some r))
-    by (inl none) = subst (λ o. StoryOf rules c v held (now_or o (Some r))) (sym none) m
-    by (inr there) = subst (λ o. StoryOf rules c v held (now_or o (Some r))) (sym there) m
+    by : (v.hall.at c ≡ None) ⊎ (v.hall.at c ≡ Some r) → StoryOf rules c v held (option_or (v.hall.at c) (Some r))
+    by (inl none) = subst (λ o. StoryOf rules c v held (option_or o (Some r))) (sym none) m
+    by (inr there) = subst (λ o. StoryOf rules c v held (option_or o (Some r))) (sym there) m
 
 module _ {X G : Type 0} (named : List ℕ → Option X) (rules : X → Rules G) (tape : ℕ → List ℕ) (c : ℕ) (mark : Mark) (w : World X G) (text : List ℕ) (rest : List (List ℕ)) (up : w.up c ≡ text ∷ rest) (placed : IsPlaced rules w.hall) where
   abbrev done : Hall X × Option Answer
@@ -228,20 +228,20 @@ module _ {X G : Type 0} (named : List ℕ → Option X) (rules : X → Rules G) 
           nothing_more [] = refl
           nothing_more (x ∷ xs) = ap (λ l. x ∷ l) (nothing_more xs)
 
-      met_story : StoryOf rules c come held (now_or (come.hall.at c) None)
-      met_story = subst (λ o. StoryOf rules c come held (now_or o None)) (sym at_then) met_now
+      met_story : StoryOf rules c come held (option_or (come.hall.at c) None)
+      met_story = subst (λ o. StoryOf rules c come held (option_or o None)) (sym at_then) met_now
 
-    sync_line : IsSyncLine rules c text → StoryOf rules c come held (now_or (come.hall.at c) None)
+    sync_line : IsSyncLine rules c text → StoryOf rules c come held (option_or (come.hall.at c) None)
     sync_line sync = by sync.3
       where
-        answered : (b : Answer) → done.0.at c ≡ w.hall.at c → done.1 ≡ Some b → IsPlainAnswer b → StoryOf rules c come held (now_or (come.hall.at c) None)
+        answered : (b : Answer) → done.0.at c ≡ w.hall.at c → done.1 ≡ Some b → IsPlainAnswer b → StoryOf rules c come held (option_or (come.hall.at c) None)
         answered b at said plain = now_is rules c come held None (apart_arrived rules c w text rest up done held b last at said plain empty a)
 
-        by : ((fault : Fault) × (client_read text ≡ Err fault)) ⊎ (client_read text ≡ Ok (line.Sync sync.0 sync.1 sync.2)) → StoryOf rules c come held (now_or (come.hall.at c) None)
+        by : ((fault : Fault) × (client_read text ≡ Err fault)) ⊎ (client_read text ≡ Ok (line.Sync sync.0 sync.1 sync.2)) → StoryOf rules c come held (option_or (come.hall.at c) None)
         by (inl f) = let x = faulty named rules tape w.hall c mark text f.0 f.1 in answered x.0 (x.2.answered.at c) x.2.answered.said x.1
         by (inr e) = comes (sync_comes named rules tape w.hall c mark text sync.0 sync.1 sync.2 e a.at)
           where
-            comes : ((b : Answer) × IsPlainAnswer b × IsAnswered w.hall done b) ⊎ IsMet w.hall c sync.0 sync.1 sync.2 done → StoryOf rules c come held (now_or (come.hall.at c) None)
+            comes : ((b : Answer) × IsPlainAnswer b × IsAnswered w.hall done b) ⊎ IsMet w.hall c sync.0 sync.1 sync.2 done → StoryOf rules c come held (option_or (come.hall.at c) None)
             comes (inl x) = answered x.0 (x.2.at c) x.2.said x.1
             comes (inr h) = met_story sync.0 sync.1 sync.2 h
 
@@ -254,10 +254,10 @@ module _ {X G : Type 0} (named : List ℕ → Option X) (rules : X → Rules G) 
   empty_cons : (x : List ℕ) (xs : List (List ℕ)) → [] ≡ x ∷ xs → ⊥
   empty_cons x xs e = cc
 
-  pub comes_on : (held : Held X G) (room : Option ℕ) → StoryOf rules c w held room → StoryOf rules c come held (now_or (come.hall.at c) room)
+  pub comes_on : (held : Held X G) (room : Option ℕ) → StoryOf rules c w held room → StoryOf rules c come held (option_or (come.hall.at c) room)
   comes_on held None a = by a.up
     where
-      by : (w.up c ≡ []) ⊎ ((other : List ℕ) × (w.up c ≡ other ∷ []) × (w.down c ≡ []) × IsSyncLine rules c other) → StoryOf rules c come held (now_or (come.hall.at c) None)
+      by : (w.up c ≡ []) ⊎ ((other : List ℕ) × (w.up c ≡ other ∷ []) × (w.down c ≡ []) × IsSyncLine rules c other) → StoryOf rules c come held (option_or (come.hall.at c) None)
       by (inl none) = absurd (empty_cons text rest (sym none ∙ up))
       by (inr h) =
           sync_line held a (tail_of text h.0 rest [] (sym up ∙ h.1)) h.2 (subst (IsSyncLine rules c) (sym (head_of text h.0 rest [] (sym up ∙ h.1))) h.3)

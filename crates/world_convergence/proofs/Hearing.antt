@@ -1,14 +1,14 @@
 -- What reading a line, and an act, make of a client's part in a match: of the acts that wait, and of its numbers.
 use Rattle.std.proofs.Common.{◌≡◌, ◌≢◌, ◌⊎◌, inl, inr, ◌≤◌, ◌<◌, ◌+◌, ◌==◌, ℕ, zero, suc, Bool, true, false, cond, not, ◌&&◌, nat_lt, if◌then◌else◌, is_none, List, [], ◌∷◌, ◌++◌, length, take, drop, get_or, Option, Some, None, option_map, option_and_then, codes, Ok, Err, refl, sym, ap, ◌∙◌, subst, arith}
-use Rattle.std.specs.Prelude.{Result, slice_get, position}
+use Rattle.std.specs.Prelude.{Result, slice_get, position, unwrap_or}
 use Rattle.std.specs.List.{remove, position_or_len, list_any}
 use Rattle.std.proofs.lemmas.Bool.Decides.{nat_tests}
 use Rattle.std.proofs.lemmas.List.Quantifiers.{position-Some}
 use Rattle.client_predict.specs.Acting.{next_ticket, waits_for, with_act}
 use Rattle.client_predict.specs.Client.{Client, Playing}
 use Rattle.client_predict.specs.Prediction.{guessed, guessed_act, last_number, made, may_guess, one_further, predict, runs_on_client}
-use Rattle.client_predict.specs.Reading.{Heard, again, answered, begun, change_by, change_in, changed, ended, has_ticket, hears, hears_line, in_step, lost, only_told, patched_by, reads, settled_by, settles, synced, taken, taken_if, unless_gone, updated, verdict, verdict_at}
-use Rattle.client_predict.specs.Shown.{counts_on, or_stay, shown, taken_on}
+use Rattle.client_predict.specs.Reading.{Heard, again, answered, begun, change_by, change_in, changed, ended, has_ticket, hears, hears_line, in_step, lost, only_told, patched_by, reads, settled_by, settles, synced, taken, unless_gone, updated, verdict, goes_on}
+use Rattle.client_predict.specs.Shown.{counts_on, shown, taken_on}
 use Rattle.client_predict.specs.declared.told.FeedNo.TheVariants as no
 use Rattle.client_predict.specs.declared.told.Told.{Told}
 use Rattle.client_predict.specs.declared.told.Told.TheVariants.{Accepted, Refused, Again, Ended, Other}
@@ -44,6 +44,7 @@ use Rattle.convergence.specs.Doing.{Knows, ticket_in}
 use Rattle.client_predict.specs.Following.{is_sync}
 use Rattle.world_convergence.proofs.Counting.{answers}
 use Rattle.world_convergence.proofs.Entries.{one_if}
+use Rattle.std.specs.Option.{option_map_or}
 
 no_both : false ≡ true → ⊥
 no_both e = cc
@@ -154,7 +155,7 @@ module _ {G : Type 0} (rules : Rules G) where
     updated_way read n None w r = w.same
     updated_way read n (Some change) w r = step_way read n c.playing (taken c c.playing change n) w refl (taken_way read n c.playing change w r refl)
 
-    taken_if_way : (read : Result ServerMsg Refusal) (n : ℕ) (change : _) → Ways P c read → number_read read ≡ Some n → P (taken_if c c.playing change n).client.playing
+    taken_if_way : (read : Result ServerMsg Refusal) (n : ℕ) (change : _) → Ways P c read → number_read read ≡ Some n → P (option_map_or (λ change. taken c c.playing change n) change (lost c no.BadLine)).client.playing
     taken_if_way read n None w r = w.same
     taken_if_way read n (Some change) w r = taken_way read n c.playing change w r refl
 
@@ -164,7 +165,7 @@ module _ {G : Type 0} (rules : Rules G) where
         step_way read n c.playing (patched_by rules c c.playing entry ctx gone put n) w refl (taken_if_way read n (change_by rules c.playing entry ctx gone put) w r)
 
     at_way : (read : Result ServerMsg Refusal) (p : Playing G) (t : ℕ) (o : Option ℕ) (told : Told) → Ways P c read → ticket_in read ≡ Some t → c.playing ≡ Some p → position (has_ticket t) p.waiting ≡ o
-        → P (verdict_at c p o t told).client.playing
+        → P (option_map_or (λ place. goes_on c told (answered p place)) o (lost c (no.UnknownTicket t))).client.playing
     at_way read p t None told w r e f = w.same
     at_way read p t (Some place) told w r e f = w.answers_one p t place e r f
 
@@ -428,14 +429,14 @@ module _ {G : Type 0} (rules : Rules G) where
   guessed_below s None asked h = tt
   guessed_below s (Some seat) asked h = act_below s seat (act_of rules.sheet asked) h
 
-  further : (s : Snapshot G) (o : Option G) → s.number ≤ 4294967295 → Below o s → (or_stay s (option_map (one_further s) o)).number ≤ 4294967295
+  further : (s : Snapshot G) (o : Option G) → s.number ≤ 4294967295 → Below o s → (unwrap_or (option_map (one_further s) o) s).number ≤ 4294967295
   further s None h b = h
   further s (Some g) h b = b
 
   taken_fits : (seat : Option ℕ) (s : Snapshot G) (w : Waiting) → s.number ≤ 4294967295 → (taken_on rules seat s w).number ≤ 4294967295
   taken_fits seat s w h = by (counts_on rules.sheet s w)
     where
-      by : (b : Bool) → (if b then or_stay s (predict rules s seat w.asked) else s).number ≤ 4294967295
+      by : (b : Bool) → (if b then unwrap_or (predict rules s seat w.asked) s else s).number ≤ 4294967295
       by true = further s (guessed rules s seat w.asked) h (guessed_below s seat w.asked h)
       by false = h
 

@@ -29,8 +29,8 @@ use Rattle.hall_history.proofs.Giving.{line_adds}
 use Rattle.hall_history.proofs.Placing.{frees_placed}
 use Rattle.hall_history.proofs.Rooming.{is_same, same_length, same_number}
 use Rattle.world_history.proofs.WorldPlacing.{acts_hall, does_placed, reads_hall}
-use Rattle.world_convergence.specs.Meeting.{now_or, room_after, unless_new}
-use Rattle.world_convergence.specs.Steps.{StepFits, StepsFit}
+use Rattle.world_convergence.specs.Meeting.{room_after, unless_new}
+use Rattle.world_convergence.specs.Steps.{StepFits}
 use Rattle.world_convergence.proofs.Coming.{comes_on, now_is}
 use Rattle.world_convergence.proofs.Entries.{Stays, nothing, same_stays}
 use Rattle.world_convergence.proofs.Fitting.{AllFit, IsLobby, does_fit, open_makes}
@@ -39,6 +39,8 @@ use Rattle.world_convergence.proofs.Owning.{acted_story, attached_anew, detached
 use Rattle.world_convergence.proofs.Serving.{read_story, take_story}
 use Rattle.world_convergence.proofs.Stories.{Story, Untouched, goes_on}
 use Rattle.world_convergence.proofs.Taken.{take_made}
+use Rattle.std.specs.Option.{option_or}
+use Rattle.std.specs.List.{AllByRecursion}
 
 -- of all clients, another one
 set_there : {A : Type 0} (d c : ℕ) (value : A) (all : ℕ → A) → (d == c) ≡ false → set_at d value all c ≡ all c
@@ -102,7 +104,7 @@ module _ {X G : Type 0} (named : List ℕ → Option X) (rules : X → Rules G) 
     lobby_foreign pass made h = inr h
 
     abbrev now : World X G → Option ℕ → Option ℕ
-    now v room = now_or (v.hall.at c) room
+    now v room = option_or (v.hall.at c) room
 
     untouched : (w v : World X G) (room : Option ℕ) → Untouched rules c w v → Story rules c w room → Story rules c v (now v room)
     untouched w v room u story held e = now_is rules c v held room (goes_on rules c w v held room u (story held (sym u.clients ∙ e)))
@@ -265,7 +267,7 @@ module _ {X G : Type 0} (named : List ℕ → Option X) (rules : X → Rules G) 
     step_on mark (Leaves name seat) fits w s room story = untouched w (leaves rules w name seat).0 room (leave_there w name seat) story
     step_on mark (Shows d) fits w s room story = same_story w room story
 
-    pub lives : (marks : List Mark) (steps : List (Step X)) → StepsFit steps → (w : World X G) → Sound w → (room : Option ℕ) → Story rules c w room
+    pub lives : (marks : List Mark) (steps : List (Step X)) → AllByRecursion StepFits steps → (w : World X G) → Sound w → (room : Option ℕ) → Story rules c w room
         → Story rules c (runs_world named rules tape marks steps w).0 (room_after named rules tape c marks steps w room)
     lives marks [] fits w s room story = story
     lives marks (step ∷ steps) fits w s room story =

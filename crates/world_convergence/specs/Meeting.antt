@@ -11,7 +11,9 @@ use Rattle.world_history.specs.WorldScript.{does, runs_world}
 use Rattle.room_history.specs.Match.{Match}
 use Rattle.room_history.specs.Room.{latest_session, match_of}
 use Rattle.room_history.specs.Session.{Session}
-use Rattle.world_convergence.specs.Steps.{StepsFit}
+use Rattle.std.specs.Option.{option_or}
+use Rattle.world_convergence.specs.Steps.{StepFits}
+use Rattle.std.specs.List.{AllByRecursion}
 
 -- the lines of a world over at most 64 rooms, with their marks
 pub record Run (X : Type 0) : Type 0 where
@@ -19,23 +21,18 @@ pub record Run (X : Type 0) : Type 0 where
   pub few : rooms ≤ 64
   pub marks : List Mark
   pub steps : List (Step X)
-  pub fit : StepsFit steps
+  pub fit : AllByRecursion StepFits steps
 
 -- a client that is attached anew has no session yet
 abbrev pub unless_new : {X : Type 0} → ℕ → Step X → Option ℕ → Option ℕ
 unless_new c (Attaches client game name seat protocol) before = if client == c then None else before
 unless_new c step before = before
 
-abbrev pub now_or : Option ℕ → Option ℕ → Option ℕ
-now_or None before = before
-now_or (Some room) before = Some room
-
 module _ {X G : Type 0} (named : List ℕ → Option X) (rules : X → Rules G) (tape : ℕ → List ℕ) where
   abbrev pub room_after : ℕ → List Mark → List (Step X) → World X G → Option ℕ → Option ℕ
   room_after c marks [] w before = before
-  room_after c marks (step ∷ steps) w before =
-      room_after c (drop 1 marks) steps (does named rules tape (first_mark marks) step w).0
-      (now_or ((does named rules tape (first_mark marks) step w).0.hall.at c) (unless_new c step before))
+  room_after c marks (step ∷ steps) w before = room_after c (drop 1 marks) steps (does named rules tape (first_mark marks) step w).0
+      (option_or ((does named rules tape (first_mark marks) step w).0.hall.at c) (unless_new c step before))
 
   abbrev pub world_after : Run X → World X G
   world_after run = (runs_world named rules tape run.marks run.steps (new_world run.rooms)).0

@@ -1,6 +1,6 @@
 -- The workload: a world of fourteen clients that plays on by itself for a number of steps, each drawn from a tape of the steps' own, and
 -- what it then tells in numbers.
-use Rattle.std.specs.Prelude.{ℕ, zero, suc, ◌+◌, ◌-◌, ◌%◌, ◌==◌, List, [], ◌∷◌, ◌++◌, Bool, true, false, ◌&&◌, not, codes, decimal, if◌then◌else◌, length, nat_le, slice_get, Option, Some, None}
+use Rattle.std.specs.Prelude.{ℕ, zero, suc, ◌+◌, ◌-◌, ◌%◌, ◌==◌, List, [], ◌∷◌, ◌++◌, Bool, true, false, ◌&&◌, not, codes, decimal, if◌then◌else◌, length, nat_le, slice_get, Option, Some, None, is_some, fold, map}
 use Rattle.dice_words.specs.Dice.{die}
 use Rattle.game_sheet.specs.MatchName.{Name}
 use Rattle.game_sheet.specs.declared.act.EventKind.TheVariants.{EndTurn}
@@ -9,8 +9,6 @@ use Rattle.game_sheet.specs.declared.sheet.MoveRow.{MoveRow}
 use Rattle.game_trait.specs.Rules.{Rules}
 use Rattle.client_predict.specs.Acting.{act_no}
 use Rattle.client_predict.specs.Client.{Held, Playing, shown_of}
-use Rattle.client_predict.specs.declared.told.ActNo.{ActNo}
-use Rattle.player_sight.specs.declared.shown.Snapshot.{Snapshot}
 use Rattle.game_hall.specs.declared.answer.Answer.{Answer}
 use Rattle.game_hall.specs.declared.answer.Answer.TheVariants.{Created}
 use Rattle.wire_json.specs.declared.asked.Asked.{Asked}
@@ -23,6 +21,7 @@ use Rattle.hall_history.specs.Mark.{Served}
 use Rattle.hall_history.specs.Opening.{after_open}
 use Rattle.world_history.specs.World.{World, Step, Attaches, Acts, Arrives, Takes, Reads, Drops, Leaves, new_world, with_hall}
 use Rattle.world_history.specs.WorldScript.{does}
+use Rattle.std.specs.Option.{option_map_or}
 
 -- a seat of a match of the round
 pub record Place (X : Type 0) : Type 0 where
@@ -58,13 +57,8 @@ places_of found said seats = []
 
 -- ---- the numbers
 
-abbrev pub is_some_no : Option ActNo → Bool
-is_some_no None = false
-is_some_no (Some why) = true
-
 abbrev pub is_held : {X G : Type 0} → Option (Held X G) → Bool
-is_held None = true
-is_held (Some held) = is_some_no (act_no held.client.gone held.client.playing)
+is_held held = option_map_or (λ held. is_some (act_no held.client.gone held.client.playing)) held true
 
 abbrev pub is_read : {X G : Type 0} → Option (Held X G) → List (List ℕ) → Bool
 is_read (Some held) (line ∷ lines) = true
@@ -92,13 +86,8 @@ abbrev pub option_asked : {G : Type 0} → Rules G → Option (ℕ × List Arg) 
 option_asked rules None = asked.Undo
 option_asked rules (Some chosen) = move_asked (slice_get rules.sheet.moves chosen.0) chosen.1
 
-abbrev pub options_on : {G : Type 0} → Rules G → Snapshot G → Option ℕ → List (ℕ × List Arg)
-options_on rules shown None = []
-options_on rules shown (Some seat) = rules.options shown.g shown.ctx seat
-
 abbrev pub options_in : {G : Type 0} → Rules G → Option (Playing G) → List (ℕ × List Arg)
-options_in rules None = []
-options_in rules (Some p) = options_on rules (shown_of rules p) p.seat
+options_in rules playing = option_map_or (λ p. option_map_or (λ seat. rules.options (shown_of rules p).g (shown_of rules p).ctx seat) p.seat []) playing []
 
 module _ {X G : Type 0} (rules : X → Rules G) where
   -- the client takes one of its options by a word, or, without any, no word is drawn and it asks for an undo
@@ -108,8 +97,7 @@ module _ {X G : Type 0} (rules : X → Rules G) where
       option_asked (rules held.game) (slice_get (options_in (rules held.game) held.client.playing) (die (length (options_in (rules held.game) held.client.playing)) word - 1))
 
   abbrev pub choice_words : Option (Held X G) → ℕ
-  choice_words None = 0
-  choice_words (Some held) = one_if (not (length (options_in (rules held.game) held.client.playing) == 0))
+  choice_words held = option_map_or (λ held. one_if (not (length (options_in (rules held.game) held.client.playing) == 0))) held 0
 
   -- by a number from 1 to 16
   abbrev pub step_of : World X G → ℕ → ℕ → ℕ → Step X
@@ -136,8 +124,7 @@ module _ {X G : Type 0} (named : List ℕ → Option X) (rules : X → Rules G) 
   }
 
   abbrev pub go_all : List (Step X) → Workload X G → Workload X G
-  go_all [] l = l
-  go_all (step ∷ steps) l = go_all steps (goes step l)
+  go_all steps l = fold (λ l step. goes step l) l steps
 
   -- ---- a round begins: its matches, then each client at its seat, and then each client reads its first line
 
@@ -145,8 +132,7 @@ module _ {X G : Type 0} (named : List ℕ → Option X) (rules : X → Rules G) 
   with_match l found seats done = record l { world = with_hall l.world done.0; places = l.places ++ places_of found done.1 seats }
 
   abbrev pub opens_all : List (List ℕ × ℕ) → Workload X G → Workload X G
-  opens_all [] l = l
-  opens_all (game ∷ games) l = opens_all games (with_match l (named game.0) game.1 (after_open named rules tape l.world.hall game.0 game.1))
+  opens_all games l = fold (λ l game. with_match l (named game.0) game.1 (after_open named rules tape l.world.hall game.0 game.1)) l games
 
   abbrev pub attachings : ℕ → List (Place X) → List (Step X)
   attachings c [] = []
@@ -169,8 +155,7 @@ module _ {X G : Type 0} (named : List ℕ → Option X) (rules : X → Rules G) 
   drops_all c (place ∷ places) = Drops c ∷ drops_all (c + 1) places
 
   abbrev pub leavings : List (Place X) → List (Step X)
-  leavings [] = []
-  leavings (place ∷ places) = Leaves place.name place.seat ∷ leavings places
+  leavings places = map (λ place. Leaves place.name place.seat) places
 
   abbrev pub ends_round : Workload X G → Workload X G
   ends_round l = go_all (drops_all 0 l.places ++ leavings l.places) l
@@ -188,11 +173,8 @@ module _ {X G : Type 0} (named : List ℕ → Option X) (rules : X → Rules G) 
     takes_step l = step_by l (words l.drawn)
 
     -- a new round begins after every thousandth step but the last
-    abbrev pub is_new_round : ℕ → ℕ → Bool
-    is_new_round done left = (done % round_steps == 0) && not (left == 0)
-
     abbrev pub after_step : ℕ → ℕ → Workload X G → Workload X G
-    after_step done left l = if is_new_round done left then begins_round (ends_round l) else l
+    after_step done left l = if (done % round_steps == 0) && not (left == 0) then begins_round (ends_round l) else l
 
     -- so many steps are done, and so many are left
     abbrev pub steps_from : ℕ → ℕ → Workload X G → Workload X G
@@ -209,8 +191,7 @@ number_line word n = word ++ 32 ∷ decimal n ++ 10 ∷ []
 
 module _ {X G : Type 0} (rules : X → Rules G) where
   abbrev pub summary : ℕ → Workload X G → List ℕ
-  summary steps l =
-      number_line (codes "steps") steps
+  summary steps l = number_line (codes "steps") steps
       ++ number_line (codes "accepted") (count_from rules accepts 0 l.world.hall.rooms)
       ++ number_line (codes "refused") (count_from rules refuses 0 l.world.hall.rooms)
       ++ number_line (codes "held") l.held

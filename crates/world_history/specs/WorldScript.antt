@@ -1,12 +1,12 @@
 -- What each line of a world makes of it, and prints.
-use Rattle.std.specs.Prelude.{ℕ, List, [], ◌∷◌, ◌++◌, Bool, true, false, codes, drop, if◌then◌else◌, length, nat_lt, Option, Some, None}
+use Rattle.std.specs.Prelude.{ℕ, List, [], ◌∷◌, ◌++◌, Bool, true, false, codes, drop, if◌then◌else◌, length, nat_lt, Option, Some, None, option_map}
 use Rattle.game_trait.specs.Rules.{Rules}
 use Rattle.game_sheet.specs.Lines.{lines}
 use Rattle.game_sheet.specs.MatchName.{Name}
 use Rattle.game_sheet.specs.Viewer.{Viewer}
 use Rattle.client_predict.specs.Acting.{act_no, act_told, submitted, with_act}
 use Rattle.client_predict.specs.Client.{Held, Playing, fresh, settled_in, shown_in}
-use Rattle.client_predict.specs.Reading.{Heard, reads}
+use Rattle.client_predict.specs.Reading.{reads}
 use Rattle.client_predict.specs.declared.told.ActNo.{ActNo}
 use Rattle.player_sight.specs.Seen.{snap_of}
 use Rattle.player_sight.specs.SnapshotData.{snapshot_data}
@@ -36,14 +36,13 @@ use Rattle.hall_history.specs.Rooms.{reply_in, with_entry}
 use Rattle.hall_history.specs.Script.{first_mark}
 use Rattle.world_history.specs.Words.{act_no_word, heard_word, of_client, predicted_word}
 use Rattle.world_history.specs.World.{World, Step, Nothing, Seeds, Opens, Attaches, Acts, Arrives, Takes, Reads, Drops, Leaves, Shows, new_world, with_client, with_down, with_hall, with_up}
+use Rattle.std.specs.Option.{option_map_or}
 
 abbrev pub claim_of : Option ℕ → Viewer
-claim_of None = None
-claim_of (Some seat) = Some (seat, seat_key seat)
+claim_of seat = option_map (λ seat. (seat, seat_key seat)) seat
 
 abbrev pub key_of : Option ℕ → Option (List ℕ)
-key_of None = None
-key_of (Some seat) = Some (seat_key seat)
+key_of seat = option_map seat_key seat
 
 abbrev pub has_starved : Mark → Bool
 has_starved Served = false
@@ -73,8 +72,7 @@ module _ {X G : Type 0} (rules : X → Rules G) where
   leaves_by w room e = (with_hall w (record w.hall { rooms = with_entry w.hall.rooms room e }), left_text (reply_in rules w.hall.rooms room e))
 
   abbrev pub leaves : World X G → Name → ℕ → Done X G
-  leaves w name seat =
-      if nat_lt name.room (length w.hall.rooms) then leaves_by w name.room (own_entry (call.Leave name.serial seat (seat_key seat)))
+  leaves w name seat = if nat_lt name.room (length w.hall.rooms) then leaves_by w name.room (own_entry (call.Leave name.serial seat (seat_key seat)))
       else (w, refused_text (refusal_text NoMatch))
 
   -- ---- a client comes and goes
@@ -116,8 +114,7 @@ module _ {X G : Type 0} (rules : X → Rules G) where
   takes w c (hall, Some told) = (with_down (with_hall w hall) c (w.down c ++ lines (bytes_handed_out told)), [])
 
 abbrev pub answer_lines : Option Answer → List (List ℕ)
-answer_lines None = []
-answer_lines (Some answer) = line_of answer ∷ []
+answer_lines answer = option_map_or (λ answer. line_of answer ∷ []) answer []
 
 -- a line that arrives is the session's; its direct answer goes on the down link, `again` too
 abbrev pub arrived : {X G : Type 0} → World X G → ℕ → List (List ℕ) → Hall X × Option Answer → Done X G
@@ -133,15 +130,12 @@ module _ {X G : Type 0} (named : List ℕ → Option X) (rules : X → Rules G) 
 
 -- ---- what a client reads, and what it holds
 
-abbrev pub heard_by : {X G : Type 0} → World X G → ℕ → Held X G → List (List ℕ) → Heard G → Done X G
-heard_by w c held rest heard =
-    prints_word (with_down (with_client w c (record { game = held.game; key = held.key; client = heard.client })) c rest) c (heard_word heard.told)
-
 module _ {X G : Type 0} (rules : X → Rules G) where
   abbrev pub reads_in : World X G → ℕ → Option (Held X G) → List (List ℕ) → Done X G
   reads_in w c None waiting = prints_word w c (codes "quiet")
   reads_in w c (Some held) [] = prints_word w c (codes "quiet")
-  reads_in w c (Some held) (line ∷ rest) = heard_by w c held rest (reads (rules held.game) held.client line)
+  reads_in w c (Some held) (line ∷ rest) = let heard = reads (rules held.game) held.client line in
+      prints_word (with_down (with_client w c (record { game = held.game; key = held.key; client = heard.client })) c rest) c (heard_word heard.told)
 
   abbrev pub snapshot_text : X → Snapshot G → List ℕ
   snapshot_text game s = compact_text (snapshot_data (rules game).sheet (snap_of (rules game) s))
@@ -172,13 +166,11 @@ module _ {X G : Type 0} (named : List ℕ → Option X) (rules : X → Rules G) 
   does mark (Leaves name seat) w = leaves rules w name seat
   does mark (Shows c) w = (w, shows rules c (w.clients c))
 
-  abbrev pub followed_by : (World X G → Done X G) → Done X G → Done X G
-  followed_by rest done = ((rest done.0).0, done.1 ++ (rest done.0).1)
-
   -- the world after these steps, the first one first, and what they print
   abbrev pub runs_world : List Mark → List (Step X) → World X G → Done X G
   runs_world marks [] w = (w, [])
-  runs_world marks (step ∷ steps) w = followed_by (runs_world (drop 1 marks) steps) (does (first_mark marks) step w)
+  runs_world marks (step ∷ steps) w =
+      let done = does (first_mark marks) step w in let rest = runs_world (drop 1 marks) steps done.0 in (rest.0, done.1 ++ rest.1)
 
   -- the transcript of a world over so many rooms
   unfoldable pub transcript : ℕ → List Mark → List (Step X) → List ℕ

@@ -29,9 +29,11 @@ use Rattle.wire_json.specs.declared.asked.AskedTo.TheVariants as aim
 use Rattle.wire_json.specs.declared.protocol.Protocol.{Protocol}
 use Rattle.wire_json.specs.declared.protocol.Protocol.TheVariants.{One, Two}
 use Rattle.world_history.specs.World.{Step, Nothing, Seeds, Opens, Attaches, Acts, Arrives, Takes, Reads, Drops, Leaves, Shows}
-use Rattle.client_world.specs.Reading.{acting, acting_by, aim_is_utf8, asked_by, asked_is_utf8, asked_of, at_most, attaching, attaching_as, attaching_by, attaching_of, by_client, by_word, claim_by, claim_in, client_in, client_step, cut, in_utf8, is_played, leaving, leaving_by, looker_in, looking, looking_by, looking_in, opening, opening_by, opening_of, seat_in, step_in, world_step_of}
-use Rattle.world_convergence.specs.Steps.{StepFits, StepsFit}
-use Rattle.line_runner.specs.Play.{followed_by, steps_of}
+use Rattle.client_world.specs.Reading.{acting, aim_is_utf8, asked_by, asked_is_utf8, asked_of, at_most, attaching, attaching_as, by_client, by_word, claim_in, client_in, client_step, cut, in_utf8, is_played, leaving, looker_in, looking, looking_in, opening, opening_of, seat_in, step_in, world_step_of}
+use Rattle.world_convergence.specs.Steps.{StepFits}
+use Rattle.line_runner.specs.Play.{steps_of}
+use Rattle.std.specs.Option.{option_map_or}
+use Rattle.std.specs.List.{AllByRecursion}
 
 -- ---- what there is has a property
 
@@ -78,7 +80,7 @@ LooksFrom l = IsWithin 255 l.0
 looking_as : (protocol : Protocol) (word : List ℕ) → IfSome (looking_in protocol word) LooksFrom
 looking_as protocol word = mapped LooksFrom (IsWithin 255) (λ seat. (seat, protocol)) (looker_in word) (looker word) (λ seat h. h)
 
-looks_by : (rest : List ℕ) (o : Option (List ℕ × List ℕ)) → IfSome (looking_by rest o) LooksFrom
+looks_by : (rest : List ℕ) (o : Option (List ℕ × List ℕ)) → IfSome (option_map_or (λ p. if bytes_eq p.1 (codes "2") then looking_in Two p.0 else None) o (looking_in One rest)) LooksFrom
 looks_by rest None = looking_as One rest
 looks_by rest (Some p) = either LooksFrom (bytes_eq p.1 (codes "2")) (looking_in Two p.0) None (looking_as Two p.0) tt
 
@@ -95,12 +97,12 @@ name s = name_by s (match_from s) refl
 abbrev Claims : Name × Option ℕ × Protocol → Type 0
 Claims c = IsName c.0 × IsWithin 255 c.1
 
-claims_by : (p : List ℕ × List ℕ) → IfSome (claim_by p) Claims
+claims_by : (p : List ℕ × List ℕ) → IfSome (option_and_then (λ name. option_map (λ l. (name, l.0, l.1)) (looking p.1)) (match_from p.0)) Claims
 claims_by p = next Claims IsName (λ n. option_map (λ l. (n, l.0, l.1)) (looking p.1)) (match_from p.0) (name p.0)
     (λ n is. mapped Claims LooksFrom (λ l. (n, l.0, l.1)) (looking p.1) (looks p.1) (λ l within. (is, within)))
 
 claims : (rest : List ℕ) → IfSome (claim_in rest) Claims
-claims rest = any Claims claim_by (cut rest) claims_by
+claims rest = any Claims (λ p. option_and_then (λ name. option_map (λ l. (name, l.0, l.1)) (looking p.1)) (match_from p.0)) (cut rest) claims_by
 
 -- ---- acts
 
@@ -163,27 +165,27 @@ abbrev Fit : Option (Step GameKind) → Type 0
 Fit o = IfSome o StepFits
 
 opens : (rest : List ℕ) → Fit (opening rest)
-opens rest = any StepFits opening_by (cut rest) (λ p. any StepFits (opening_of p.0) (seat_in p.1) (λ seats. either StepFits (is_played seats (named p.0)) (Some (Opens p.0 seats)) None tt tt))
+opens rest = any StepFits (λ p. option_and_then (opening_of p.0) (seat_in p.1)) (cut rest) (λ p. any StepFits (opening_of p.0) (seat_in p.1) (λ seats. either StepFits (is_played seats (named p.0)) (Some (Opens p.0 seats)) None tt tt))
 
 seeds : (o : Option (List ℕ)) → Fit (option_map Seeds o)
 seeds None = tt
 seeds (Some seed) = tt
 
-attaches_of : (client : ℕ) (claim : Name × Option ℕ × Protocol) (game : Option GameKind) → Claims claim → Fit (attaching_of client claim game)
+attaches_of : (client : ℕ) (claim : Name × Option ℕ × Protocol) (game : Option GameKind) → Claims claim → Fit (option_map (λ kind. Attaches client kind claim.0 claim.1 claim.2) game)
 attaches_of client claim None h = tt
 attaches_of client claim (Some kind) h = h
 
 attaches : (rest : List ℕ) → Fit (attaching rest)
-attaches rest = any StepFits attaching_by (cut rest) (λ p. any StepFits (λ client. option_and_then (attaching_as client) (cut p.1)) (client_in p.0)
+attaches rest = any StepFits (λ p. option_and_then (λ client. option_and_then (attaching_as client) (cut p.1)) (client_in p.0)) (cut rest) (λ p. any StepFits (λ client. option_and_then (attaching_as client) (cut p.1)) (client_in p.0)
     (λ client. any StepFits (attaching_as client) (cut p.1)
-    (λ q. next StepFits Claims (λ claim. attaching_of client claim (named q.0)) (claim_in q.1) (claims q.1) (λ claim h. attaches_of client claim (named q.0) h))))
+    (λ q. next StepFits Claims (λ claim. option_map (λ kind. Attaches client kind claim.0 claim.1 claim.2) (named q.0)) (claim_in q.1) (claims q.1) (λ claim h. attaches_of client claim (named q.0) h))))
 
 acts : (rest : List ℕ) → Fit (acting rest)
-acts rest = any StepFits acting_by (cut rest) (λ p. any StepFits (λ client. option_map (Acts client) (asked_of p.1)) (client_in p.0)
+acts rest = any StepFits (λ p. option_and_then (λ client. option_map (Acts client) (asked_of p.1)) (client_in p.0)) (cut rest) (λ p. any StepFits (λ client. option_map (Acts client) (asked_of p.1)) (client_in p.0)
     (λ client. mapped StepFits IsAct (Acts client) (asked_of p.1) (asked (text_read p.1) (canonical p.1)) (λ a h. h)))
 
 leaves : (rest : List ℕ) → Fit (leaving rest)
-leaves rest = any StepFits leaving_by (cut rest) (λ p. any StepFits (λ n. option_map (Leaves n) (seat_in p.1)) (match_from p.0)
+leaves rest = any StepFits (λ p. option_and_then (λ name. option_map (Leaves name) (seat_in p.1)) (match_from p.0)) (cut rest) (λ p. any StepFits (λ n. option_map (Leaves n) (seat_in p.1)) (match_from p.0)
     (λ n. mapped StepFits (λ m. m ≤ 255) (Leaves n) (seat_in p.1) (seat p.1) (λ s h. tt)))
 
 steps_client : (word : List ℕ) (client : ℕ) → Fit (client_step word client)
@@ -213,11 +215,11 @@ unfolding world_step_of
 line_fits [] = tt
 line_fits (b ∷ rest) = either StepFits (b == 35) (Some Nothing) _ tt (either StepFits (is_utf8 (b ∷ rest)) (step_in (b ∷ rest)) None (in_line (b ∷ rest)) tt)
 
-followed_fit : (o : Option (Step GameKind)) (steps : List (Step GameKind)) → Fit o → StepsFit steps → StepsFit (followed_by world_step_of o steps)
+followed_fit : (o : Option (Step GameKind)) (steps : List (Step GameKind)) → Fit o → AllByRecursion StepFits steps → AllByRecursion StepFits (option_map_or (λ step. step ∷ steps) o [])
 followed_fit None steps h more = tt
 followed_fit (Some step) steps h more = (h, more)
 
 -- the steps of a world's lines are in their form
-pub lines_fit : (lines : List (List ℕ)) → StepsFit (steps_of world_step_of lines)
+pub lines_fit : (lines : List (List ℕ)) → AllByRecursion StepFits (steps_of world_step_of lines)
 lines_fit [] = tt
 lines_fit (line ∷ lines) = followed_fit (world_step_of line) (steps_of world_step_of lines) (line_fits line) (lines_fit lines)

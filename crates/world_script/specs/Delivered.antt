@@ -31,7 +31,3 @@ module _ {X G : Type 0} (named : List ℕ → Option X) (rules : X → Rules G) 
 -- of a client it is printed that there was no memory
 abbrev pub SaysAgain : List ℕ → Type 0
 SaysAgain text = (c : ℕ) × (text ≡ of_client c (codes "again"))
-
-abbrev pub AllWereServed : List (List ℕ) → Type 0
-AllWereServed [] = Unit {0}
-AllWereServed (text ∷ texts) = (SaysAgain text → ⊥) × AllWereServed texts

@@ -1,7 +1,7 @@
 -- What Takes put on a down link along a world is what the session was sent, line by line; and a line of a world went as one that is served
 -- goes, or it is printed that there was no memory for it.
 use Rattle.std.proofs.Common.{◌≡◌, ◌⊎◌, inl, inr, ℕ, ◌+◌, ◌==◌, Bool, true, false, ◌&&◌, if◌then◌else◌, List, [], ◌∷◌, ◌++◌, codes, length, drop, Option, Some, None, refl, sym, ap, ◌∙◌, subst}
-use Rattle.std.specs.List.{concat, list_all}
+use Rattle.std.specs.List.{concat, list_all, AllByRecursion}
 use Rattle.std.proofs.lemmas.List.Folds.{concat-append, list_all-append}
 use Rattle.game_sheet.specs.Lines.{is_line, lines}
 use Rattle.game_trait.specs.Rules.{Rules}
@@ -32,7 +32,7 @@ use Rattle.world_history.specs.Words.{of_client}
 use Rattle.world_history.specs.World.{World, Step, Nothing, Seeds, Opens, Attaches, Acts, Arrives, Takes, Reads, Drops, Leaves, Shows, new_world}
 use Rattle.world_history.specs.WorldScript.{acts, arrived, arrives, does, has_starved, runs_world, takes}
 use Rattle.world_history.specs.WorldTold.{delivered, delivered_by}
-use Rattle.world_script.specs.Delivered.{AllWereServed, SaysAgain, all_put, grown, lines_put, texts_from}
+use Rattle.world_script.specs.Delivered.{SaysAgain, all_put, grown, lines_put, texts_from}
 
 -- ---- how a link grows
 
@@ -186,7 +186,7 @@ module _ {X G : Type 0} (named : List ℕ → Option X) (rules : X → Rules G) 
       by (inr says) = absurd (none says)
 
   -- the run is as if each line was served
-  pub world_served : (marks : List Mark) (steps : List (Step X)) (w : World X G) → AllWereServed (texts_from named rules tape marks steps w) → runs_world named rules tape marks steps w ≡ runs_world named rules tape [] steps w
+  pub world_served : (marks : List Mark) (steps : List (Step X)) (w : World X G) → AllByRecursion (λ text. SaysAgain text → ⊥) (texts_from named rules tape marks steps w) → runs_world named rules tape marks steps w ≡ runs_world named rules tape [] steps w
   world_served marks [] w served = refl
   world_served marks (step ∷ steps) w served =
       ap (λ done. (done.0, (does named rules tape (first_mark marks) step w).1 ++ done.1)) (world_served (drop 1 marks) steps (does named rules tape (first_mark marks) step w).0 served.1)

@@ -14,7 +14,8 @@ use Rattle.hall_history.specs.Tapes.{hall_tape}
 use Rattle.world_history.specs.World.{World, new_world}
 use Rattle.world_history.specs.WorldScript.{runs_world}
 use Rattle.line_runner.specs.Play.{steps_of}
-use Rattle.world_script.specs.Delivered.{AllWereServed, all_put, texts_from}
+use Rattle.world_script.specs.Delivered.{all_put, texts_from, SaysAgain}
+use Rattle.std.specs.List.{AllByRecursion}
 
 -- how many rooms a world has
 abbrev pub rooms_of_world : ℕ
@@ -31,13 +32,6 @@ world_room_after marks lines room = history_of (runs_world named any_rules hall_
 unfoldable pub delivered_for : List Mark → List (List ℕ) → ℕ → ℕ → ℕ → List (List ℕ)
 delivered_for marks lines room pass j = all_put named any_rules hall_tape pass room j marks (steps_of world_step_of lines) first_world
 
--- what these lines print, as one text and step by step
-abbrev pub world_text : List Mark → List (List ℕ) → List ℕ
-world_text marks lines = (runs_world named any_rules hall_tape marks (steps_of world_step_of lines) first_world).1
-
-unfoldable pub world_texts : List Mark → List (List ℕ) → List (List ℕ)
-world_texts marks lines = texts_from named any_rules hall_tape marks (steps_of world_step_of lines) first_world
-
 -- For each session the lines that it is sent go on its client's down link. They are a first part of its stream, and those that any session
 -- alike is sent, whatever else its room's history holds. Where of no client it is printed that there was no memory, it is printed what is
 -- printed where each line is served.
@@ -48,4 +42,6 @@ pub record DeliversLines (marks : List Mark) (lines : List (List ℕ)) : Type 0 
   pub alike : (room pass j : ℕ) (s : Session) → session any_rules room (world_room_after marks lines room) pass j ≡ Some s
       → (other_room : ℕ) (h : History GameKind) (other i : ℕ) (t : Session) → session any_rules other_room h other i ≡ Some t → AreAlike s t
       → delivered_for marks lines room pass j ≡ t.sent
-  pub served : AllWereServed (world_texts marks lines) → world_text marks lines ≡ world_text [] lines
+  pub served : AllByRecursion (λ text. SaysAgain text → ⊥) (texts_from named any_rules hall_tape marks (steps_of world_step_of lines) first_world)
+      → (runs_world named any_rules hall_tape marks (steps_of world_step_of lines) first_world).1
+      ≡ (runs_world named any_rules hall_tape [] (steps_of world_step_of lines) first_world).1

@@ -1,6 +1,6 @@
 -- What the lines of a script print, and what of it is told to sessions.
-use Rattle.std.specs.Prelude.{◌≡◌, ℕ, List, [], Some}
-use Rattle.std.specs.List.{flat_map}
+use Rattle.std.specs.Prelude.{◌≡◌, ℕ, List, [], Some, false}
+use Rattle.std.specs.List.{flat_map, AllByRecursion}
 use Rattle.any_game.specs.AnyRules.{any_rules, named}
 use Rattle.any_game.specs.GameKind.{GameKind}
 use Rattle.room_history.specs.Alike.{AreAlike}
@@ -13,7 +13,7 @@ use Rattle.hall_history.specs.Rooms.{History, history_of}
 use Rattle.hall_history.specs.Script.{script_hall, transcript}
 use Rattle.hall_history.specs.Tapes.{hall_tape}
 use Rattle.script_steps.specs.Forms.{step_of}
-use Rattle.script_steps.specs.Pieces.{AllServed, Print, pieces_from, print_text, told_to}
+use Rattle.script_steps.specs.Pieces.{Print, pieces_from, print_text, told_to, says_again}
 use Rattle.line_runner.specs.Play.{steps_of}
 
 -- how many rooms a script has
@@ -42,4 +42,4 @@ pub record TellsSessions (marks : List Mark) (lines : List (List ℕ)) : Type 0 
   pub alike : (room pass j : ℕ) (s : Session) → session any_rules room (room_after marks lines room) pass j ≡ Some s
       → (other_room : ℕ) (h : History GameKind) (other i : ℕ) (t : Session) → session any_rules other_room h other i ≡ Some t → AreAlike s t
       → told_to pass room j (pieces_of marks lines) ≡ t.sent
-  pub served : AllServed (pieces_of marks lines) → text_of marks lines ≡ text_of [] lines
+  pub served : AllByRecursion (λ print. says_again print ≡ false) (pieces_of marks lines) → text_of marks lines ≡ text_of [] lines

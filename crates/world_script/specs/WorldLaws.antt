@@ -6,13 +6,13 @@ use Rattle.room_history.proofs.Clauses.{are_sent_alike, are_told}
 use Rattle.hall_history.specs.Mark.{Mark}
 use Rattle.hall_history.specs.Tapes.{hall_tape}
 use Rattle.world_script.specs.DeliveredLaws.{put_is_sent, world_served}
-use Rattle.world_script.specs.Deliveries.{DeliversLines, delivered_for, first_world, rooms_of_world, world_room_after, world_texts}
+use Rattle.world_script.specs.Deliveries.{DeliversLines, delivered_for, first_world, rooms_of_world, world_room_after}
 use Rattle.line_runner.specs.Play.{IsPlay, steps_of}
 use Rattle.world_script.specs.WorldDoing.{world_doing}
 use Rattle.world_script.specs.WorldPlay.{world_play}
 
 delivers : (marks : List Mark) (lines : List (List ℕ)) → DeliversLines marks lines
-unfolding delivered_for world_room_after world_texts
+unfolding delivered_for world_room_after
 delivers marks lines = record {
   sent = λ room pass j s e. put_is_sent named any_rules hall_tape pass room j rooms_of_world marks (steps_of world_step_of lines) s e;
   told = λ room pass j s e. are_told any_rules room (world_room_after marks lines room) pass j s e;
