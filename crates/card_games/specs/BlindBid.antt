@@ -40,11 +40,7 @@ bid_sheet = record {
 }
 
 abbrev pub no_bids : ℕ → Bids
-no_bids seats = record {
-  common = record { boasts = replicate seats 0; revealed = None };
-  secret = None;
-  players = unsealed seats;
-}
+no_bids seats = record { common = record { boasts = replicate seats 0; revealed = None }; secret = None; players = unsealed seats }
 
 abbrev pub is_bid : ℕ → Bool
 is_bid n = nat_le 1 n && nat_le n 100

@@ -37,11 +37,7 @@ caption_sheet = record {
 }
 
 abbrev pub no_texts : ℕ → Texts
-no_texts seats = record {
-  common = record { revealed = None };
-  secret = None;
-  players = unsealed seats;
-}
+no_texts seats = record { common = record { revealed = None }; secret = None; players = unsealed seats }
 
 -- a seat writes a text that isn't empty; as an argument it is always a short one
 abbrev pub write : Texts → ℕ → List Arg → List ℕ → Deed Texts Barred

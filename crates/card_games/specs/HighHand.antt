@@ -85,10 +85,7 @@ with_hand g seat hand = record g {
 
 -- the state with this deck, of which everybody sees the count
 abbrev pub with_deck : Cards → List ℕ → Cards
-with_deck g deck = record g {
-  common = record g.common { left = length deck };
-  secret = Some (record { cards = deck });
-}
+with_deck g deck = record g { common = record g.common { left = length deck }; secret = Some (record { cards = deck }) }
 
 -- the first card of the deck goes to the end of the mover's hand
 abbrev pub draw_to : Cards → ℕ → Option (List ℕ) → List ℕ → List ℕ → Deed Cards Barred
@@ -141,10 +138,7 @@ height place = unwrap_or place 0
 -- a full table is cleared, and the least seat with the highest card has a point more
 abbrev pub scored : Cards → Cards
 scored g = record g {
-  common = record g.common {
-    scores = point_at (first_greatest height g.common.places) g.common.scores;
-    places = replicate (length g.common.places) None;
-  };
+  common = record g.common { scores = point_at (first_greatest height g.common.places) g.common.scores; places = replicate (length g.common.places) None };
 }
 
 abbrev pub is_full : List (Option ℕ) → Bool

@@ -39,13 +39,7 @@ abbrev pub waits_for : {G : Type 0} → Rules G → Playing G → Asked → Wait
 waits_for rules p asked = record { ticket = p.ticket; number = (shown_of rules p).number; asked = asked }
 
 abbrev pub submitted : {G : Type 0} → Rules G → Option (List ℕ) → Playing G → Asked → Submission
-submitted rules key p asked = record {
-  name = p.name;
-  key = line_key key p.seat;
-  number = (shown_of rules p).number;
-  ticket = p.ticket;
-  asked = asked;
-}
+submitted rules key p asked = record { name = p.name; key = line_key key p.seat; number = (shown_of rules p).number; ticket = p.ticket; asked = asked }
 
 abbrev pub act_told : {G : Type 0} → Rules G → Playing G → Asked → Predicted
 act_told rules p asked = predicted (predict rules (shown_of rules p) p.seat asked)

@@ -18,17 +18,7 @@ use Rattle.phase_flow.specs.Turns.{phase_entered, with_active}
 
 -- before the first phase and turn
 abbrev pub opening : ℕ → Ctx
-opening seats = record {
-  seats = seats;
-  turn = 0;
-  current = 0;
-  order = all_seats seats;
-  pos = 0;
-  phase = None;
-  active = None;
-  moves = 0;
-  over = None;
-}
+opening seats = record { seats = seats; turn = 0; current = 0; order = all_seats seats; pos = 0; phase = None; active = None; moves = 0; over = None }
 
 abbrev pub fresh : {G : Type 0} → ℕ → G → Table G
 fresh seats g = record { g = g; ctx = opening seats; active = none }

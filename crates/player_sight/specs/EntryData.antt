@@ -34,9 +34,7 @@ event_aim sheet other = null
 
 abbrev pub event_data : Sheet → event.Event → Data
 event_data sheet e = object
-    (member (codes "event") (string (event_name e))
-    (member (codes "kind") (string (codes "event"))
-    (member (codes "to") (event_aim sheet e) no_members)))
+    (member (codes "event") (string (event_name e)) (member (codes "kind") (string (codes "event")) (member (codes "to") (event_aim sheet e) no_members)))
 
 abbrev pub move_data : Data → Data → Data
 move_data name args = object (member (codes "args") args (member (codes "kind") (string (codes "move")) (member (codes "move") name no_members)))

@@ -9,12 +9,7 @@ use Rattle.player_sight.specs.SnapshotData.{Snap}
 use Rattle.player_sight.specs.declared.shown.Snapshot.{Snapshot}
 
 abbrev pub seen : {G : Type 0} → Rules G → ℕ → Ctx → G → List Entry → Option ℕ → Snapshot G
-seen rules number ctx g log viewer = record {
-  number = number;
-  ctx = ctx;
-  g = rules.view g ctx viewer;
-  log = map (redact rules.sheet viewer) log;
-}
+seen rules number ctx g log viewer = record { number = number; ctx = ctx; g = rules.view g ctx viewer; log = map (redact rules.sheet viewer) log }
 
 -- the same with the game's state as its value
 abbrev pub snap_of : {G : Type 0} → Rules G → Snapshot G → Snap

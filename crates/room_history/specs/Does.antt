@@ -14,6 +14,7 @@ use Rattle.room_history.specs.declared.call.RoomCall.TheVariants.{Create, Join, 
 use Rattle.room_history.specs.declared.reply.RoomReply.{RoomReply}
 use Rattle.room_history.specs.declared.reply.RoomReply.TheVariants as reply
 use Rattle.wire_json.specs.declared.submission.Submission.{Submission}
+use Rattle.std.specs.Option.{option_map_or}
 
 pub record Room (X G : Type 0) : Type 0 where
   -- how many matches were made
@@ -33,9 +34,7 @@ with_one pass change r = record r { sessions = λ q. if pass == q then with_late
 
 -- a leaving is that of the seat's sessions; where the match is removed with it, of all that look, the spectators too
 abbrev pub is_left : ℕ → Bool → Viewer → Bool
-is_left seat true viewer = true
-is_left seat false None = false
-is_left seat false (Some claim) = claim.0 == seat
+is_left seat removed viewer = if removed then true else option_map_or (λ claim. claim.0 == seat) viewer false
 
 -- a session that looks is left
 abbrev pub left_where : Bool → Session → Session

@@ -54,9 +54,7 @@ named_match standing serial = option_map_or (λ m. if m.serial == serial then Ok
 
 -- the match that a Look shows: the one that is named, or whichever stands
 abbrev pub looked_match : {X G : Type 0} → Option (Match X G) → Option ℕ → Result (Match X G) RoomReply
-looked_match None serial = Err reply.NoMatch
-looked_match (Some m) None = Ok m
-looked_match (Some m) (Some serial) = named_match (Some m) serial
+looked_match standing serial = option_map_or (λ m. option_map_or (named_match (Some m)) serial (Ok m)) standing (Err reply.NoMatch)
 
 abbrev pub roster_reply : RosterNo → RoomReply
 roster_reply rule.NoSeat = reply.NoSeat

@@ -1,5 +1,5 @@
 -- The verdict on an action: the first public rule that it breaks, else what the game answers, else that it is accepted.
-use Rattle.std.specs.Prelude.{◌==◌, ℕ, ◌∷◌, Bool, ◌&&◌, Option, Some, None, option_map}
+use Rattle.std.specs.Prelude.{◌==◌, ℕ, ◌∷◌, Bool, ◌&&◌, Option, option_map, option_and_then}
 use Rattle.game_sheet.specs.MatchName.{Name}
 use Rattle.game_sheet.specs.declared.act.Act.{Act}
 use Rattle.game_sheet.specs.declared.refusal.GameRule.{GameRule}
@@ -13,7 +13,7 @@ use Rattle.wire_json.specs.declared.submission.Submission.{Submission}
 use Rattle.room_history.specs.Match.{Match, table_of, number_of}
 use Rattle.room_history.specs.Rule.{public, has_key}
 use Rattle.game_sheet.specs.Viewer.{Viewer, seat_of}
-use Rattle.std.specs.Option.{option_or}
+use Rattle.std.specs.Option.{option_or, option_map_or}
 
 abbrev pub reason_of : GameRule → Reason
 reason_of rule.NothingToUndo = NothingToUndo
@@ -36,9 +36,7 @@ module _ {X G : Type 0} (rules : X → Rules G) where
       public (rules m.game).sheet (table_of rules m).ctx (number_of m) (is_named room m.serial s.name) (seat_of viewer) (has_key viewer s.key) s.asked s.number
 
   abbrev pub game_rule : Match X G → Option ℕ → Option Act → Option GameRule
-  game_rule m None act = None
-  game_rule m (Some seat) None = None
-  game_rule m (Some seat) (Some act) = answer (rules m.game) m.first m.accepted seat act
+  game_rule m viewer act = option_and_then (λ seat. option_and_then (λ act. answer (rules m.game) m.first m.accepted seat act) act) viewer
 
   -- the game's own refusal
   abbrev pub game_reason : Match X G → Viewer → Submission → Option Reason
@@ -49,9 +47,7 @@ module _ {X G : Type 0} (rules : X → Rules G) where
   first_reason room m viewer s = option_or (public_reason room m viewer s) (game_reason m viewer s)
 
   abbrev pub with_act : Match X G → Option ℕ → Option Act → Match X G
-  with_act m None act = m
-  with_act m (Some seat) None = m
-  with_act m (Some seat) (Some act) = record m { accepted = record { seat = seat; act = act } ∷ m.accepted }
+  with_act m viewer act = option_map_or (λ seat. option_map_or (λ act. record m { accepted = record { seat = seat; act = act } ∷ m.accepted }) act m) viewer m
 
   -- the match after an accepted submission
   abbrev pub match_accepting : Match X G → Viewer → Submission → Match X G

@@ -14,9 +14,7 @@ free_seats count = replicate count None
 
 -- the seats after a call that wants a free seat, by what is found there
 abbrev pub if_free : Option (Option Player) → Result Seats RosterNo → Result Seats RosterNo
-if_free None after = Err NoSeat
-if_free (Some (Some player)) after = Err SeatTaken
-if_free (Some None) after = after
+if_free found after = option_map_or (λ place. option_map_or (λ player. Err SeatTaken) place after) found (Err NoSeat)
 
 -- the seats after a call that wants the key of the player who sits there
 abbrev pub if_key_of : Option Player → List ℕ → (Player → Result Seats RosterNo) → Result Seats RosterNo

@@ -18,11 +18,7 @@ seen_players viewer players = map (seen viewer) (enumerate_from 0 players)
 
 -- a split as a viewer sees it
 abbrev pub strip : {C S P : Type 0} → Split C S P → Option ℕ → Split C S P
-strip split viewer = record {
-  common = split.common;
-  secret = None;
-  players = seen_players viewer split.players;
-}
+strip split viewer = record { common = split.common; secret = None; players = seen_players viewer split.players }
 
 -- two splits that a viewer may not tell apart: they have the same common part, as many players, and the same entry at the viewer's seat
 pub record SameFor {C S P : Type 0} (viewer : Option ℕ) (a b : Split C S P) : Type 0 where

@@ -1,5 +1,5 @@
 -- Who may act, and the moves that a seat has: its stage's list where there is one, else the phase's, else the game's.
-use Rattle.std.specs.Prelude.{◌==◌, ℕ, Bool, Option, None, Some, List, [], slice_get, is_some, option_and_then, if◌then◌else◌}
+use Rattle.std.specs.Prelude.{◌==◌, ℕ, Bool, Option, None, List, [], slice_get, is_some, option_and_then, if◌then◌else◌, unwrap_or}
 use Rattle.game_sheet.specs.declared.sheet.Sheet.{Sheet}
 use Rattle.game_sheet.specs.declared.sheet.StageRow.{StageRow}
 use Rattle.game_sheet.specs.declared.sheet.PhaseRow.{PhaseRow}
@@ -25,9 +25,7 @@ abbrev pub phase_moves : Sheet → Option ℕ → Option (List ℕ)
 phase_moves sheet phase = option_and_then (λ phase. option_and_then (λ (row : PhaseRow). row.moves) (slice_get sheet.phases phase)) phase
 
 abbrev pub first_list : Option (List ℕ) → Option (List ℕ) → List ℕ → List ℕ
-first_list (Some in_stage) in_phase base = in_stage
-first_list None (Some in_phase) base = in_phase
-first_list None None base = base
+first_list in_stage in_phase base = unwrap_or in_stage (unwrap_or in_phase base)
 
 -- the moves of a seat that may act, in this phase and at this place
 abbrev pub moves_at : Sheet → Option ℕ → Option ℕ → List ℕ

@@ -1,5 +1,5 @@
 -- The text of a match's name: the room and the serial in decimal, with a dash between.
-use Rattle.std.specs.Prelude.{◌≤◌, ◌<◌, ◌^◌, ℕ, List, [], ◌∷◌, ◌++◌, Bool, false, true, not, ◌&&◌, ◌==◌, nat_lt, nat_le, if◌then◌else◌, Option, Some, None}
+use Rattle.std.specs.Prelude.{◌≤◌, ◌<◌, ◌^◌, ℕ, List, [], ◌∷◌, ◌++◌, Bool, false, true, not, ◌&&◌, ◌==◌, nat_lt, nat_le, if◌then◌else◌, Option, Some, None, option_and_then}
 use Rattle.std.specs.Char.{is_ascii_digit}
 use Rattle.std.specs.Fmt.{decimal}
 use Rattle.std.specs.List.{list_all, before_first, after_first}
@@ -30,9 +30,8 @@ abbrev pub is_dash : ℕ → Bool
 is_dash c = c == 45
 
 abbrev pub name_of : Option ℕ → Option ℕ → Option Name
-name_of None serial = None
-name_of (Some room) None = None
-name_of (Some room) (Some serial) = if nat_le room 63 && nat_le 1 serial then Some (record { room = room; serial = serial }) else None
+name_of room serial = option_and_then (λ room. option_and_then (λ serial.
+    if nat_le room 63 && nat_le 1 serial then Some (record { room = room; serial = serial }) else None) serial) room
 
 -- the match that the text names
 unfoldable pub match_from : List ℕ → Option Name
