@@ -37,7 +37,7 @@ use Rattle.room_history.specs.declared.reply.RoomReply.TheVariants as answer
 use Rattle.room_history.proofs.Keeps.{Listed, kept as kept_room}
 use Rattle.room_history.proofs.Seating.{Seated, Sits, seated}
 use Rattle.room_changes.specs.ChangesOf.{act_by, change_asked, change_made, changes_of, is_accepted}
-use Rattle.room_changes.specs.Kept.{Kept, acted_by, claim, kept, kept_from, kept_with, submission, with_created, with_left, with_none, with_reseated, standing, serials}
+use Rattle.room_changes.specs.Kept.{Kept, acted_by, claim, kept, kept_from, kept_with, submission, with_created, with_left, with_none, with_reseated}
 use Rattle.room_changes.specs.declared.change.Change.{Change}
 use Rattle.room_changes.specs.declared.change.Change.TheVariants as change
 use Rattle.std.specs.Option.{option_map_or, option_or}

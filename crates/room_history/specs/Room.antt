@@ -3,7 +3,7 @@
 use Rattle.std.specs.Prelude.{ℕ, ◌==◌, List, [], ◌∷◌, if◌then◌else◌, length, Option, Some, None, option_map, find}
 use Rattle.game_trait.specs.Rules.{Rules}
 use Rattle.room_object.specs.Entry.{Entry}
-use Rattle.room_history.specs.Does.{Room, room_after, room_after_want, reply_to, sessions, serials, removed, standing}
+use Rattle.room_history.specs.Does.{Room, room_after, room_after_want, reply_to}
 use Rattle.room_history.specs.Match.{Match, number_of}
 use Rattle.room_history.specs.Piece.{State, Open}
 use Rattle.room_history.specs.Session.{Session, session_state}
