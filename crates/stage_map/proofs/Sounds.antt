@@ -1,5 +1,5 @@
 -- Every operation on maps keeps a sound map sound.
-use Rattle.std.proofs.Common.{◌≡◌, ◌<◌, ◌≤◌, ◌+◌, ℕ, zero, suc, Bool, true, false, cond, nat_lt, not, ◌==◌, Option, None, Some, List, [], ◌∷◌, ◌++◌, length, map, slice_get, option_and_then, option_map, refl, subst, arith}
+use Rattle.std.proofs.Common.{◌≡◌, ◌<◌, ◌≤◌, ◌+◌, ℕ, zero, suc, Bool, true, false, cond, nat_lt, not, ◌==◌, Option, None, Some, List, [], ◌∷◌, ◌++◌, length, map, slice_get, option_and_then, option_map, refl, subst, arith, if◌then◌else◌}
 use Rattle.std.specs.List.{AllByRecursion}
 use Rattle.game_sheet.specs.declared.sheet.Place.{Place}
 use Rattle.game_sheet.specs.declared.sheet.Sheet.{Sheet}

@@ -1,5 +1,5 @@
 -- The steps of a workload.
-use Rattle.std.proofs.Common.{◌≡◌, ◌<◌, ◌+◌, ◌-◌, ◌%◌, ◌^◌, ◌==◌, ℕ, suc, Bool, true, false, nat_le, List, [], ◌∷◌, length, if◌then◌else◌, Option, Some, None, IsSome, refl, sym, ap, subst, ◌∙◌, arith}
+use Rattle.std.proofs.Common.{◌≡◌, ◌<◌, ◌+◌, ◌-◌, ◌%◌, ◌^◌, ◌==◌, ℕ, suc, Bool, true, false, nat_le, List, [], ◌∷◌, length, if◌then◌else◌, Option, Some, None, IsSome, refl, sym, ap, subst, ◌∙◌, arith, ◌&&◌}
 use Rattle.std.specs.Prelude.{IfSome, slice_get, not}
 use Rattle.std.proofs.Math.Nat.{mod-add-mod}
 use Rattle.any_game.specs.AnyRules.{any_rules, named}

@@ -1,4 +1,4 @@
-use Rattle.std.proofs.Common.{◌≡◌, ◌+◌, true, subst, arith}
+use Rattle.std.proofs.Common.{◌≡◌, ◌+◌, true, subst, arith, ◌==◌, ◌&&◌, ◌%◌}
 use Rattle.std.proofs.lemmas.Bool.Decides.{nat_tests}
 use Rattle.workload.specs.IsLoad.{IsLoad}
 use Rattle.workload.proofs.Stepping.{new_round}
