@@ -1,5 +1,5 @@
 -- The one text of each message to a client: the compact text of its object, members in byte order, and a newline.
-use Rattle.std.specs.Prelude.{ℕ, ◌-◌, List, [], ◌∷◌, ◌++◌, map, Option, codes}
+use Rattle.std.specs.Prelude.{ℕ, ◌-◌, List, [], ◌∷◌, ◌++◌, map, Option, codes, None, Some}
 use Rattle.serde_json.specs.Data.{Data, null, string, array, object, Items, Members, member, no_members}
 use Rattle.serde_json.specs.View.{items_of}
 use Rattle.serde_json.specs.Written.{compact_text}
@@ -19,10 +19,10 @@ use Rattle.wire_json.specs.MatchText.{match_text}
 use Rattle.wire_json.specs.ReasonText.{reason_text}
 use Rattle.wire_json.specs.RefusalText.{member_text, refusal_text, refusal_field}
 use Rattle.wire_json.specs.ClientText.{of_type}
-use Rattle.std.specs.Option.{option_map_or}
 
 abbrev pub field_or_null : Option Member → Data
-field_or_null field = option_map_or (λ field. string (member_text field)) field null
+field_or_null None = null
+field_or_null (Some field) = string (member_text field)
 
 abbrev pub names_data : List (List ℕ) → Items
 names_data names = items_of (map string names)
