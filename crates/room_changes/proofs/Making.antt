@@ -137,7 +137,7 @@ unfolding public
 rules_weaker sheet ctx number seat same fits a at =
     let old = seat_rules sheet ctx number seat a at in
     let new = seat_rules sheet ctx number seat a number in
-    broken_weaker (not same) false reason.NoMatch (option_map_or (λ seat. (not fits, Unauthorized) ∷ seat_rules sheet ctx number seat a at) (Some seat) ((true, Unauthorized) ∷ [])) (option_map_or (λ seat. (not true, Unauthorized) ∷ seat_rules sheet ctx number seat a number) (Some seat) ((true, Unauthorized) ∷ [])) (λ e. refl)
+    broken_weaker (not same) false reason.NoMatch (option_map_or (λ seat. (not fits, reason.Unauthorized) ∷ seat_rules sheet ctx number seat a at) (Some seat) ((true, reason.Unauthorized) ∷ [])) (option_map_or (λ seat. (not true, reason.Unauthorized) ∷ seat_rules sheet ctx number seat a number) (Some seat) ((true, reason.Unauthorized) ∷ [])) (λ e. refl)
     (broken_weaker (not fits) false reason.Unauthorized old new (λ e. refl)
     (broken_weaker (is_some ctx.over) (is_some ctx.over) reason.GameOver (drop 1 old) (drop 1 new) (λ e. e)
     (broken_weaker (number == most_actions) (number == most_actions) reason.MatchFull (drop 2 old) (drop 2 new) (λ e. e)
