@@ -111,10 +111,12 @@ abbrev pub lay_down : Cards → ℕ → ℕ → List ℕ → List ℕ → Deed C
 lay_down g seat card left words = if are_few left && is_free (slice_get g.common.places seat) then Done (laid g seat card left) words [] else GaveUp Invalid
 
 abbrev pub lay_card : Cards → ℕ → ℕ → List ℕ → Option ℕ → List ℕ → Deed Cards Barred
-lay_card g seat place hand found words = option_map_or (λ card. lay_down g seat card (remove hand place) words) found (GaveUp Invalid)
+lay_card g seat place hand None words = GaveUp Invalid
+lay_card g seat place hand (Some card) words = lay_down g seat card (remove hand place) words
 
 abbrev pub lay_from : Cards → ℕ → ℕ → Option (List ℕ) → List ℕ → Deed Cards Barred
-lay_from g seat place found words = option_map_or (λ hand. lay_card g seat place hand (slice_get hand place) words) found (GaveUp Invalid)
+lay_from g seat place None words = GaveUp Invalid
+lay_from g seat place (Some hand) words = lay_card g seat place hand (slice_get hand place) words
 
 -- the one argument is the card's place in the hand
 abbrev pub lay : Cards → ℕ → List Arg → List ℕ → Deed Cards Barred
