@@ -31,7 +31,7 @@ use Rattle.reducer.specs.Fold.{answer}
 use Rattle.room_history.proofs.Growth.{grown}
 use Rattle.room_history.proofs.Keeps.{Reseated, reseated}
 use Rattle.room_history.proofs.RuleLaws.{IsAdmitted as IsAsked, or_none, public_admits}
-use Rattle.room_history.specs.Does.{Room, room_after, room_after_want, with_cleared, with_fate, with_left_seat, with_match, with_new_match, with_removed_if, with_session}
+use Rattle.room_history.specs.Does.{Room, room_after, room_after_want, with_cleared, with_fate, with_left_seat, with_match, with_new_match, with_removed_if, with_session, with_each, after_leaving}
 use Rattle.room_history.specs.Match.{Match, number_of, table_of}
 use Rattle.room_history.specs.Piece.{State, Open, Ended, Closed}
 use Rattle.room_history.specs.Reply.{Fate, Goes, Turned, Unheard, attached_match, created_match, fate, fate_by, fate_in, last_serial, named_match, new_match, reseated_match, seats_fit, submit_reply}
@@ -264,7 +264,7 @@ module _ {X G : Type 0} (rules : X → Rules G) (room : ℕ) where
   stands_removed false r m g = g
 
   stands_left : (seat : ℕ) (r : Room X G) (result : Result (Match X G) RoomReply) → Reseated rules room r.standing result → Stands r → Stands (with_left_seat seat r result)
-  stands_left seat r (Ok m) f k = stands_removed (is_empty m.roster) _ m (reseated_fair r.standing m f k)
+  stands_left seat r (Ok m) f k = stands_removed (is_empty m.roster) (with_each (after_leaving seat (is_empty m.roster)) r) m (reseated_fair r.standing m f k)
   stands_left seat r (Err why) f k = k
 
   stands_cleared : (r : Room X G) (result : Result (Match X G) RoomReply) → Stands r → Stands (with_cleared r result)
