@@ -63,19 +63,19 @@ class Module:
             self.aliases[alias] = whole.removeprefix("Rattle.")
 
 
-def bound_in(text):
-    """The names that a line binds: by a pattern at its left, by λ, by let, by a parameter."""
+def bound_in(name, text):
+    """The names that a line of a definition binds: by a pattern at its left, by λ, by let, by a parameter."""
     names = set()
     for found in re.findall(r"λ ([^.]*)\.", text) + re.findall(r"let (\S+)", text) + re.findall(r"[({]([^(){}:]*?) :", text):
         names.update(WORD.findall(found))
-    if " = " in text and not text.startswith(("let ", "record ", "where ", "if ", "then ", "else ")):
+    if text.startswith(name + " ") and " = " in text:
         names.update(word for word in WORD.findall(text.split(" = ", 1)[0])[1:] if PLAIN.match(word))
     return names
 
 
-def named_in(text):
-    """The names that a line cites; of a name with dots its first part, and its first two together."""
-    bound = bound_in(text)
+def named_in(name, text):
+    """The names that a line of a definition cites; of a name with dots its first part, and its first two together."""
+    bound = bound_in(name, text)
     for word in WORD.findall(re.sub(r"\b\w+ = ", " = ", text) if "record" in text else text):
         first, _, rest = word.partition(".")
         if rest:
@@ -103,7 +103,7 @@ def main():
         scopes, lines = here.lines[name]
         words = set()
         for text in scopes + lines:
-            words.update(named_in(text))
+            words.update(named_in(name, text))
         plain = {first for first, rest in words if rest is None}
         for first, rest in words:
             yield found(here.aliases[first], rest) if rest and first in here.aliases else found(module, first) if rest is None else None

@@ -13,7 +13,8 @@ use Rattle.game_hall.specs.declared.answer.Answer.{Answer}
 use Rattle.game_hall.specs.declared.answer.Answer.TheVariants as answer
 use Rattle.game_sheet.specs.Lines.{lines}
 use Rattle.game_sheet.specs.MatchName.{Name}
-use Rattle.hall_history.specs.Freeing.{frees, frees_at}
+use Rattle.hall_history.specs.Freeing.{frees}
+use Rattle.hall_history.specs.Parts.{frees_at}
 use Rattle.hall_history.specs.Hall.{Hall, after_line}
 use Rattle.hall_history.specs.Mark.{Mark, Served}
 use Rattle.hall_history.specs.Opening.{after_open, opened_text, own_entry, seat_key}

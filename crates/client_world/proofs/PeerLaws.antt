@@ -15,7 +15,8 @@ use Rattle.client_predict.specs.declared.told.Told.{Told}
 use Rattle.hall_history.specs.Mark.{Mark, Served, Unread}
 use Rattle.world_history.specs.Words.{act_no_word, heard_word, of_client, predicted_word}
 use Rattle.world_history.specs.World.{World, with_client, with_down, with_up}
-use Rattle.world_history.specs.WorldScript.{act_line, acts, acts_in, has_starved, prints_word, reads_in, with_action}
+use Rattle.world_history.specs.WorldScript.{acts, acts_in, has_starved, prints_word, reads_in}
+use Rattle.world_history.specs.Parts.{act_line, with_action}
 use Rattle.wire_json.specs.declared.asked.Asked.{Asked}
 use Rattle.client_world.specs.Outcomes.{Acted, HasActed, HasHeard, HasRead, MakesNone, PeerActs, PeerReads, ReadsNext, PopsUp, reads_next}
 use Rattle.client_world.specs.Peers.{ArePeers, peer_of}

@@ -11,8 +11,9 @@ use Rattle.game_hall.specs.declared.next.Next.TheVariants.{Calls, Says, Attaches
 use Rattle.game_hall.specs.declared.request.Request.{Request}
 use Rattle.game_hall.proofs.Moves.{is_starved_by}
 use Rattle.game_hall.proofs.Running.{moved_over}
-use Rattle.hall_history.specs.Hall.{Hall, after_line, core_of, hall_by, request}
-use Rattle.hall_history.specs.Mark.{Luck, Lucky, Mark, Served, Starved, Unread, ask_rooms, luck_after, runs_out, runs_out_there, takes_memory, unheard}
+use Rattle.hall_history.specs.Hall.{Hall, after_line, core_of, request}
+use Rattle.hall_history.specs.Mark.{Luck, Lucky, Mark, Served, Starved, Unread, ask_rooms, takes_memory, unheard}
+use Rattle.hall_history.specs.Parts.{hall_by, luck_after, runs_out, runs_out_there}
 use Rattle.hall_history.specs.Rooms.{Rooms, reply_in, with_entry}
 use Rattle.room_history.specs.Room.{reply}
 use Rattle.room_history.specs.declared.call.RoomCall.{RoomCall}

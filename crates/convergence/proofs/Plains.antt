@@ -21,7 +21,8 @@ use Rattle.phase_flow.specs.IsSound.{IsSound}
 use Rattle.player_sight.specs.Plain.{ActFits, ActiveFits, EventFits, IsIn, IsPlainCtx, OverFits, RowsFit}
 use Rattle.stage_map.specs.Active.{Map, shown, shown_row}
 use Rattle.stage_map.specs.IsSound.{Rise, RowFits, StandsOrNull}
-use Rattle.stage_map.specs.Moves.{may, may_on, place_of}
+use Rattle.stage_map.specs.Moves.{may, place_of}
+use Rattle.stage_map.specs.Parts.{may_on}
 use Rattle.stage_map.specs.declared.rows.Row.{Row}
 use Rattle.wire_json.specs.Asking.{AskedFits, MayAim}
 use Rattle.wire_json.specs.Resolve.{act_of, event_of}

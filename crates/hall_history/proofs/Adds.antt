@@ -12,7 +12,8 @@ use Rattle.game_hall.specs.declared.next.Next.TheVariants.{Calls, Says, Attaches
 use Rattle.game_hall.specs.declared.request.Request.{Request}
 use Rattle.game_hall.proofs.Running.{moved_over}
 use Rattle.hall_history.specs.Adding.{Adds, AreOf}
-use Rattle.hall_history.specs.Mark.{Lucky, ask_rooms, entry_by}
+use Rattle.hall_history.specs.Mark.{Lucky, ask_rooms}
+use Rattle.hall_history.specs.Parts.{entry_by}
 use Rattle.hall_history.specs.Rooms.{Rooms, history_of, with_entry}
 use Rattle.hall_history.proofs.Rooming.{same_length, one_entry}
 

@@ -7,7 +7,7 @@ use Rattle.room_history.specs.Session.{bytes_handed_out}
 use Rattle.room_history.specs.declared.call.RoomCall.{RoomCall}
 use Rattle.room_history.specs.declared.call.RoomCall.TheVariants as call
 use Rattle.hall_history.specs.Adding.{Adds, AreOf, IsAsking, IsPlain}
-use Rattle.hall_history.specs.Freeing.{frees_at}
+use Rattle.hall_history.specs.Parts.{frees_at}
 use Rattle.hall_history.specs.Hall.{Hall, after_line}
 use Rattle.hall_history.specs.Mark.{Mark}
 use Rattle.hall_history.specs.Opening.{after_open, own_pass}

@@ -34,7 +34,8 @@ use Rattle.game_hall.specs.declared.request.Request.{Request}
 use Rattle.game_hall.specs.declared.request.Request.TheVariants.{Creating, Listing, Looking, Joining, Renaming, Leaving, Syncing, Acting}
 use Rattle.game_hall.proofs.Running.{moved_over}
 use Rattle.hall_history.specs.Hall.{Hall, after_line, core_of, request}
-use Rattle.hall_history.specs.Mark.{Luck, Lucky, Mark, Served, Unread, Starved, ask_rooms, entry_by, runs_out, unheard}
+use Rattle.hall_history.specs.Mark.{Luck, Lucky, Mark, Served, Unread, Starved, ask_rooms, unheard}
+use Rattle.hall_history.specs.Parts.{entry_by, runs_out}
 use Rattle.hall_history.specs.Rooms.{Rooms, history_of, with_entry}
 use Rattle.hall_history.proofs.Rooming.{one_entry}
 

@@ -23,9 +23,10 @@ use Rattle.game_hall.specs.declared.request.Request.{Request}
 use Rattle.game_hall.specs.declared.request.Request.TheVariants.{Creating, Listing, Looking, Joining, Renaming, Leaving, Syncing, Acting}
 use Rattle.game_hall.proofs.Running.{moved_over}
 use Rattle.hall_history.specs.Adding.{IsPlain}
-use Rattle.hall_history.specs.Freeing.{frees, frees_at, freed, room_after}
+use Rattle.hall_history.specs.Freeing.{frees, freed}
 use Rattle.hall_history.specs.Hall.{Hall, after_line, attached_to, begun, core_of, new_hall, request, runs}
-use Rattle.hall_history.specs.Mark.{Luck, Lucky, Mark, Served, Unread, Starved, ask_rooms, entry_by, runs_out, told_by, unheard}
+use Rattle.hall_history.specs.Mark.{Luck, Lucky, Mark, Served, Unread, Starved, ask_rooms, told_by, unheard}
+use Rattle.hall_history.specs.Parts.{frees_at, room_after, entry_by, runs_out}
 use Rattle.hall_history.specs.Placed.{IsPlaced, is_at}
 use Rattle.hall_history.specs.Rooms.{History, Rooms, history_of, reply_in, with_entry}
 use Rattle.hall_history.proofs.Asking.{CallFits, NextFits, hears_stays, next_fits, next_stays, stays_at, stays_fits}

@@ -9,20 +9,14 @@ use Rattle.hall_history.specs.Hall.{Hall, attached_to}
 use Rattle.hall_history.specs.Rooms.{with_entry, reply_in}
 use Rattle.std.specs.Option.{option_map_or}
 
--- the room that a session attached to this one is attached to after its call and the reply
-abbrev pub room_after : {X : Type 0} → ℕ → RoomCall X → RoomReply → Option ℕ
-room_after room call told = if attached_after true call told then Some room else None
-
+-- in the room that the session is attached to
 abbrev pub freed : {X : Type 0} → Hall X → ℕ → RoomCall X → ℕ → RoomReply → Hall X × Option RoomReply
 freed h pass call room told = (
-  record h { rooms = with_entry h.rooms room (entry pass call false); at = attached_to pass (room_after room call told) h.at },
+  record h { rooms = with_entry h.rooms room (entry pass call false); at = attached_to pass (if attached_after true call told then Some room else None) h.at },
   Some told,
 )
 
 module _ {X G : Type 0} (rules : X → Rules G) where
-  abbrev pub frees_at : Hall X → ℕ → RoomCall X → Option ℕ → Hall X × Option RoomReply
-  frees_at h pass call at = option_map_or (λ room. freed h pass call room (reply_in rules h.rooms room (entry pass call false))) at (h, None)
-
   -- the hall after it, and the room's reply; none where the session isn't attached
   abbrev pub frees : Hall X → ℕ → RoomCall X → Hall X × Option RoomReply
-  frees h pass call = frees_at h pass call (h.at pass)
+  frees h pass call = option_map_or (λ room. freed h pass call room (reply_in rules h.rooms room (entry pass call false))) (h.at pass) (h, None)

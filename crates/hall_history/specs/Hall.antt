@@ -56,9 +56,6 @@ hall_after h pass read done = record {
   seed = if is_again done.0.said then h.seed else seed_left_by read h.seed;
 }
 
-abbrev pub hall_by : {X : Type 0} → Hall X → ℕ → Result ClientMsg Refusal → Core X × Lucky X → Hall X × Option Answer
-hall_by h pass read done = (hall_after h pass read done, done.0.said)
-
 module _ {X G : Type 0} (named : List ℕ → Option X) (rules : X → Rules G) (tape : ℕ → List ℕ) where
   -- what a session's line comes to, as its mark says
   abbrev pub request : Mark → Hall X → ℕ → Result ClientMsg Refusal → Core X × Lucky X
@@ -69,4 +66,4 @@ module _ {X G : Type 0} (named : List ℕ → Option X) (rules : X → Rules G) 
 
   -- a session's line: the hall after it, and its direct answer
   abbrev pub after_line : Mark → Hall X → ℕ → List ℕ → Hall X × Option Answer
-  after_line mark h pass line = hall_by h pass (client_read line) (request mark h pass (client_read line))
+  after_line mark h pass line = let read = client_read line in let done = request mark h pass read in (hall_after h pass read done, done.0.said)

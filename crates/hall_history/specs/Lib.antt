@@ -9,5 +9,6 @@ pub mod Opening
 pub mod Placed
 pub mod Rooms
 pub mod Script
+pub mod Parts
 pub mod Tapes
 pub mod Told

@@ -35,9 +35,6 @@ to_session pass line = decimal pass ++ 32 ∷ line
 abbrev pub all_to_session : ℕ → List ℕ → List ℕ
 all_to_session pass bytes = flat_map (to_session pass) (lines bytes)
 
-abbrev pub answered_text : ℕ → Option Answer → List ℕ
-answered_text pass answer = option_map_or (λ said. to_session pass (line_of said)) answer []
-
 abbrev pub unattached_text : ℕ → List ℕ
 unattached_text pass = to_session pass (line_of (answer.Refused refusal.NotAttached))
 
@@ -56,7 +53,7 @@ module _ {X G : Type 0} (named : List ℕ → Option X) (rules : X → Rules G) 
   does mark Nothing h = (h, [])
   does mark (Seeds seed) h = (record h { seed = Some seed }, [])
   does mark (Opens game seats) h = prints opened_text (after_open named rules tape h game seats)
-  does mark (Says pass line) h = prints (answered_text pass) (after_line named rules tape mark h pass line)
+  does mark (Says pass line) h = prints (λ said. option_map_or (λ said. to_session pass (line_of said)) said []) (after_line named rules tape mark h pass line)
   does mark (Takes pass) h = prints (freed_text pass) (frees rules h pass Take)
   does mark (Detaches pass) h = prints (freed_text pass) (frees rules h pass Detach)
 

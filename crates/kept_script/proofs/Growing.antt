@@ -10,7 +10,7 @@ use Rattle.game_hall.specs.declared.answer.Answer.{Answer}
 use Rattle.game_hall.specs.declared.answer.Answer.TheVariants as answer
 use Rattle.game_hall.specs.declared.next.Next.TheVariants.{Says}
 use Rattle.game_sheet.specs.MatchName.{Name}
-use Rattle.hall_history.specs.Freeing.{frees_at}
+use Rattle.hall_history.specs.Parts.{frees_at}
 use Rattle.hall_history.specs.Hall.{Hall}
 use Rattle.hall_history.specs.Mark.{ask_rooms}
 use Rattle.hall_history.specs.Opening.{joins, own_entry, own_pass, seated, seated_by}

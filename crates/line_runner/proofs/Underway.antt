@@ -1,9 +1,9 @@
 -- What a run has come to, before its next line.
 use Rattle.std.proofs.Common.{◌≡◌, ℕ, true, false, List, [], ◌∷◌, ◌++◌, length, Option, Some, refl, sym, ap, ◌∙◌, append_assoc, append-nil}
 use Rattle.std.proofs.lemmas.Bool.{true≢false}
-use Rattle.line_runner.specs.Reader.{Reader, fresh, whole_to_come}
+use Rattle.line_runner.specs.Reader.{Reader, fresh, whole_to_come, no_whole_line, whole_lines}
 use Rattle.line_runner.specs.Reading.{Moves}
-use Rattle.line_runner.specs.ScriptLines.{Script, Ended, no_lines, no_whole_line, script, whole_lines, lines_from}
+use Rattle.line_runner.specs.ScriptLines.{Script, Ended, no_lines, script, lines_from}
 use Rattle.line_runner.specs.Play.{Doing, Play, after_steps, bad_from, printed, steps_of}
 use Rattle.line_runner.specs.declared.next.Next.TheVariants.{Line, ReadFault}
 use Rattle.line_runner.proofs.Moving.{none_after}

@@ -3,7 +3,7 @@
 use Rattle.std.specs.Prelude.{◌≡◌, ◌⊎◌, ◌+◌, ℕ, List, [], ◌++◌, length, take, Option, Some, None}
 use Rattle.board_links.specs.Faults.{HasRisen}
 use Rattle.line_runner.specs.Play.{Play, Doing, after_steps, bad_line, printed, steps_of}
-use Rattle.line_runner.specs.ScriptLines.{Script, Ending, Ended, script, whole_lines}
+use Rattle.line_runner.specs.ScriptLines.{Script, Ending, Ended, lines_from, no_lines, script}
 use Rattle.line_runner.specs.ScriptLines as script
 use Rattle.line_runner.specs.declared.exit.Exit.{Exit}
 use Rattle.line_runner.specs.declared.exit.Exit.TheVariants.{Done, ReadFault, WriteFault, BadLine, TooLong, TooMany, NoMemory}
@@ -40,11 +40,11 @@ module _ {Mark Step State : Type 0} (p : Play Mark Step State) (begin : State) w
     pub first_bad : bad_line p.form s.lines ≡ Some line
     pub plays : Plays s.lines before after
 
-  -- the source gave these first bytes and no more; each of their whole lines is in form and was played
+  -- the source gave these first bytes and no more; each of their lines that a newline ends is in form and was played
   pub record StopsAtFault (bytes left before : List ℕ) (after : Option (List ℕ)) : Type 0 where
     pub read : List ℕ
     pub first_part : bytes ≡ read ++ left
-    pub plays : PlaysAll (whole_lines read) Ended before after
+    pub plays : PlaysAll (lines_from (λ begun. no_lines Ended) 0 [] read) Ended before after
 
   -- some first lines of the script were played, and no further one
   pub record StopsEarly (s : Script) (before : List ℕ) (after : Option (List ℕ)) : Type 0 where

@@ -28,13 +28,10 @@ first_line line rest = record { lines = line ∷ rest.lines; ending = rest.endin
 abbrev pub without_return : List ℕ → List ℕ
 without_return line = if slice_index line (length line - 1) == 13 then take (length line - 1) line else line
 
--- at the end of the bytes, a line that has begun is the last line; as long as more bytes may come, it is no whole line
+-- at the end of the bytes, a line that has begun is the last line
 abbrev pub last_line : List ℕ → Script
 last_line [] = no_lines Ended
 last_line (b ∷ line) = first_line (b ∷ line) (no_lines Ended)
-
-abbrev pub no_whole_line : List ℕ → Script
-no_whole_line line = no_lines Ended
 
 -- the lines of the bytes that are left, after so many newlines, where a line has begun with these bytes; `last` says what becomes
 -- of a line that no newline ends
@@ -46,10 +43,3 @@ lines_from last newlines begun (b ∷ bytes) = if newlines == most_lines then no
 
 abbrev pub script : List ℕ → Script
 script bytes = lines_from last_line 0 [] bytes
-
-abbrev pub script_lines : List ℕ → List (List ℕ)
-script_lines bytes = (script bytes).lines
-
--- the lines of these bytes that a newline ends
-abbrev pub whole_lines : List ℕ → Script
-whole_lines bytes = lines_from no_whole_line 0 [] bytes

@@ -1,7 +1,8 @@
 -- How a run ends, beside the bytes that its source had left before and has left after, and the player's sitting before and after.
 use Rattle.std.specs.Prelude.{◌≡◌, ◌⊎◌, ℕ, ◌+◌, List, [], ◌∷◌, ◌++◌, length}
 use Rattle.game_trait.specs.Rules.{Rules}
-use Rattle.line_runner.specs.ScriptLines.{Script, Ended, script, whole_lines}
+use Rattle.line_runner.specs.ScriptLines.{Script, Ended, script}
+use Rattle.line_runner.specs.Reader.{whole_lines}
 use Rattle.line_runner.specs.ScriptLines as script
 use Rattle.link_play.specs.Commands.{Command}
 use Rattle.link_play.specs.Doing.{Runs, Who}

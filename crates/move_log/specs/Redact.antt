@@ -21,12 +21,8 @@ without_args (Move id args) = Move id []
 without_args other = other
 
 abbrev pub redact : Sheet → Option ℕ → Entry → Entry
-redact sheet viewer e = record {
-  seat = e.seat;
+redact sheet viewer e = record e {
   act = if conceals sheet viewer e then without_args e.act else e.act;
   hidden = e.hidden || conceals sheet viewer e;
-  number = e.number;
-  turn = e.turn;
-  phase = e.phase;
   words = 0;
 }

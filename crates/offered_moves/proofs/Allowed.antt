@@ -23,7 +23,7 @@ use Rattle.phase_flow.specs.Rows.{turn_row}
 use Rattle.phase_flow.specs.declared.task.Task.{Task}
 use Rattle.stage_map.specs.Active.{Map}
 use Rattle.stage_map.specs.Moves.{may, moves, moves_at, stage_moves}
-use Rattle.table_states.specs.Countdown.{countdown, countdown_move}
+use Rattle.table_states.specs.Countdown.{countdown}
 use Rattle.table_states.specs.Pig.{pig}
 use Rattle.table_states.specs.TicTacToe.{tic_tac_toe}
 use Rattle.table_states.specs.declared.heap.Heap.{Heap}
@@ -98,7 +98,7 @@ heap_allowed (OfCountdown h) ctx active seed place seat low taken rests =
     offered_by one ctx seat (countdown.offers h seat) (λ on mays. all_mapped (Takes h seat words) one (countdown.offers h seat)
     (λ offer made. (
       record { goes_on = on; active = mays; has = base_has countdown.sheet ctx seat offer.0 mays (λ stage. plain_moves countdown.sheet ctx.phase stage refl refl) (two_have offer.0 made.0) },
-      quiet_accepted (any_rules Countdown) (all_calm Countdown) (at (OfCountdown h) ctx active seed place) seat offer.0 offer.1 (lifted_quiet OfCountdown (countdown_move h seat offer.0 offer.1 words) made.1),
+      quiet_accepted (any_rules Countdown) (all_calm Countdown) (at (OfCountdown h) ctx active seed place) seat offer.0 offer.1 (lifted_quiet OfCountdown (countdown.play h seat offer.0 offer.1 words) made.1),
     ))
     (takes_made h seat words low (some_left h (nat_eq h.left 0) refl (no_end (if nat_eq h.left 0 then option_map Winner h.last else None) _ (rests on)) taken) (some_words seed place)))
 heap_allowed g ctx active seed place seat low taken rests = tt

@@ -1,5 +1,5 @@
 -- A move that is made in a calm game breaks no rule where the seat has it.
-use Rattle.std.specs.Prelude.{◌≡◌, ◌==◌, ◌<◌, ◌^◌, ◌%◌, ℕ, zero, suc, Bool, true, false, if◌then◌else◌, is_none, is_some, length, List, [], ◌∷◌, Option, Some, None, slice_get, option_and_then, refl}
+use Rattle.std.specs.Prelude.{◌≡◌, ◌==◌, ◌<◌, ◌^◌, ◌%◌, ℕ, zero, suc, Bool, true, false, if◌then◌else◌, is_none, is_some, length, List, [], ◌∷◌, Option, Some, None, slice_get, option_and_then, unwrap_or, refl}
 use Rattle.std.specs.List.{AllByRecursion}
 use Rattle.std.proofs.Common.{◌∙◌, ap, subst, arith}
 use Rattle.std.proofs.lemmas.Bool.{false≢true, and_parts}
@@ -28,7 +28,8 @@ use Rattle.phase_flow.specs.Rows.{turn_of_phase, turn_row}
 use Rattle.phase_flow.specs.Step.{At, Ends, Step}
 use Rattle.phase_flow.specs.declared.table.Table.{Table}
 use Rattle.reducer.specs.Answer.{refusal}
-use Rattle.stage_map.specs.Moves.{first_list, may, may_on, moves_at, phase_moves, place_of, stage_moves}
+use Rattle.stage_map.specs.Moves.{may, moves_at, phase_moves, place_of, stage_moves}
+use Rattle.stage_map.specs.Parts.{may_on}
 use Rattle.turn_order.specs.Position.{next}
 use Rattle.offered_moves.specs.Admitted.{IsAdmitted}
 use Rattle.offered_moves.proofs.Ending.{IsAt, IsCalm, IsQuiet, is_calm_turn, quiet_move_ends, turning_move_ends}
@@ -79,7 +80,7 @@ phase_none sheet (Some phase) none = ap (λ rows. option_and_then (λ (row : Pha
 
 -- where no stage and no phase has moves of its own they are the game's
 pub base_moves : (sheet : Sheet) (phase stage : Option ℕ) → sheet.phases ≡ [] → stage_moves sheet stage ≡ None → moves_at sheet phase stage ≡ sheet.base
-base_moves sheet phase stage phases stages = ap (λ in_stage. first_list in_stage (phase_moves sheet phase) sheet.base) stages ∙ ap (λ in_phase. first_list None in_phase sheet.base) (phase_none sheet phase phases)
+base_moves sheet phase stage phases stages = ap (λ in_stage. unwrap_or in_stage (unwrap_or (phase_moves sheet phase) sheet.base)) stages ∙ ap (λ in_phase. unwrap_or None (unwrap_or in_phase sheet.base)) (phase_none sheet phase phases)
 
 pub plain_moves : (sheet : Sheet) (phase stage : Option ℕ) → sheet.phases ≡ [] → sheet.stages ≡ [] → moves_at sheet phase stage ≡ sheet.base
 plain_moves sheet phase stage phases stages = base_moves sheet phase stage phases (stage_none sheet stage stages)

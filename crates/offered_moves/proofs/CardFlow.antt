@@ -30,7 +30,7 @@ use Rattle.phase_flow.specs.Step.{At, Ends, Step, carry_on}
 use Rattle.phase_flow.specs.Turns.{phase_entered}
 use Rattle.phase_flow.specs.declared.table.Table.{Table}
 use Rattle.stage_map.specs.Active.{Map, none}
-use Rattle.stage_map.specs.Moves.{may_on}
+use Rattle.stage_map.specs.Parts.{may_on}
 use Rattle.turn_order.specs.PlayOrder.{all_seats}
 use Rattle.offered_moves.specs.Admitted.{IsAdmitted, has_act, is_of_kind}
 use Rattle.offered_moves.proofs.CardMatches.{HasDeck, IsDeal, QuietlyMakes, deal_begins, first_move_makes, move_quiet, turn_deal}

@@ -22,7 +22,7 @@ use Rattle.phase_flow.specs.Action.{begin, once, words_from}
 use Rattle.phase_flow.specs.Reached.{Reached, table_of}
 use Rattle.phase_flow.specs.declared.table.Table.{Table}
 use Rattle.reducer.specs.Fold.{fold}
-use Rattle.table_states.specs.Countdown.{countdown, countdown_move}
+use Rattle.table_states.specs.Countdown.{countdown}
 use Rattle.table_states.specs.Pig.{move_with, pig, total_of}
 use Rattle.table_states.specs.Points.{Points}
 use Rattle.table_states.specs.declared.heap.Heap.{Heap}
@@ -91,7 +91,7 @@ heap_gives ctx (Done h left queued) is = is
 heap_gives ctx (GaveUp why) is = tt
 
 heap_plays : (g : AnyG) (ctx : Ctx) (seat id : ℕ) (args : List Arg) (words : List ℕ) → Gives (any_rules Countdown) (all_calm Countdown) (λ g seats phase. HeapHas g) ctx ((any_rules Countdown).play g ctx seat id args words)
-heap_plays (OfCountdown h) ctx seat id args words = heap_gives ctx (countdown_move h seat id args words) (move_taken h seat id args words)
+heap_plays (OfCountdown h) ctx seat id args words = heap_gives ctx (countdown.play h seat id args words) (move_taken h seat id args words)
 heap_plays g ctx seat id args words = tt
 
 heap_kept : OffersKept Countdown (λ seats n r. HeapHas r.g × IsAtRest (any_rules Countdown) (all_calm Countdown) (λ g seats phase. HeapHas g) (table_of r))

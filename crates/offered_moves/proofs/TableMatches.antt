@@ -12,7 +12,7 @@ use Rattle.game_trait.specs.Deed.{Barred, Deed, Done, GaveUp, Invalid, Lacks, Sp
 use Rattle.open_game.proofs.Moves.{some_says}
 use Rattle.open_game.specs.Arguments.{only_natural}
 use Rattle.open_game.specs.OpenRules.{made}
-use Rattle.table_states.specs.Countdown.{countdown_move, full_heap, less, take, wild}
+use Rattle.table_states.specs.Countdown.{countdown, full_heap, less, take, wild}
 use Rattle.table_states.specs.Pig.{ended, hold, in_range, move_with, no_points, pot_after, roll, rolled, scored, total_of}
 use Rattle.table_states.specs.Points.{Points}
 use Rattle.table_states.specs.declared.heap.Heap.{Heap}
@@ -52,7 +52,7 @@ wild_taken h seat (next ∷ rest) words = tt
 wild_taken h seat [] words = either_makes WasTaken (nat_eq h.left 0) (GaveUp Invalid) _ tt
     (drawing_makes WasTaken (Lacks Spent) words (λ word rest. Done (less h seat (min (die 3 word) h.left)) rest []) (λ word left same. taken_by h seat (min (die 3 word) h.left)))
 
-pub move_taken : (h : Heap) (seat id : ℕ) (args : List Arg) (words : List ℕ) → Makes WasTaken (countdown_move h seat id args words)
+pub move_taken : (h : Heap) (seat id : ℕ) (args : List Arg) (words : List ℕ) → Makes WasTaken (countdown.play h seat id args words)
 move_taken h seat id args words = either_makes WasTaken (nat_lt seat 4) _ (GaveUp Invalid)
     (either_makes WasTaken (nat_eq id 0) _ (wild h seat args words)
     (made_makes WasTaken (option_and_then (take h seat) (only_natural args)) words

@@ -10,7 +10,7 @@ use Rattle.game_sheet.specs.declared.args.Arg.TheVariants.{Whole}
 use Rattle.game_trait.specs.Deed.{Barred, Deed, Done, GaveUp, Invalid, Lacks, Spent, drawing}
 use Rattle.open_game.specs.OpenRules.{made}
 use Rattle.table_states.specs.Board.{free_clicks, take_cell}
-use Rattle.table_states.specs.Countdown.{countdown, countdown_move, less}
+use Rattle.table_states.specs.Countdown.{countdown, less}
 use Rattle.table_states.specs.Pig.{hold, in_range, move_with, pig, roll, rolled, scored, total_of}
 use Rattle.table_states.specs.Points.{Points}
 use Rattle.table_states.specs.TicTacToe.{tic_tac_toe}
@@ -78,7 +78,7 @@ clicks_made b seat words low = free_made b seat words 0 b.cells low (λ i. ap (s
 -- ---- Countdown: takes that the heap has, and a wild one where there is something to take
 
 abbrev pub Takes : Heap → ℕ → List ℕ → ℕ × List Arg → Type 0
-Takes h seat words offer = (offer.0 < 2) × IsQuiet (countdown_move h seat offer.0 offer.1 words)
+Takes h seat words offer = (offer.0 < 2) × IsQuiet (countdown.play h seat offer.0 offer.1 words)
 
 taken : (low few : Bool) (h : Heap) (d : Deed Heap Barred) (words : List ℕ) → low ≡ true → few ≡ true → IsQuiet (if low then made (if few then Some h else None) words else d)
 taken true true h d words low few = tt

@@ -7,7 +7,8 @@ use Rattle.game_sheet.specs.declared.sheet.Sheet.{Sheet}
 use Rattle.stage_map.specs.declared.rows.Row.{Row}
 use Rattle.stage_map.specs.Active.{Map, shown, shown_row}
 use Rattle.stage_map.specs.IsSound.{RowFits, StandsOrNull}
-use Rattle.stage_map.specs.Moves.{may, may_on, place_of}
+use Rattle.stage_map.specs.Moves.{may, place_of}
+use Rattle.stage_map.specs.Parts.{may_on}
 use Rattle.phase_flow.specs.IsSound.{IsSound}
 
 same_seat : (a b : ℕ) → nat_eq a b ≡ true → a ≡ b

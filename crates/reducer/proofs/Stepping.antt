@@ -112,7 +112,7 @@ module _ {G : Type 0} (rules : Rules G) where
       let trail : IsWalk rules t = walk number t s o in
       let came = came_last rules t.first t.done t.past last before trail.came_by l b in
       ap (λ (x : Standing G). answer_on rules x seat Undo) (sym o.shown)
-      ∙ ap (λ (done : List Accepted). undo_answer rules (standing_at number t) done seat) came.1
+      ∙ ap (λ (done : List Accepted). undo_answer rules (standing_at number t).first (standing_at number t).table done seat) came.1
       ∙ ap (λ (r : Reached G). undo_broken rules (reached_at t.now) r.ctx.turn last seat) (folds rules t.first came.0 before came.2)
       ∙ ap (λ (w : Checkpoint G). undo_broken rules (reached_at w) before.table.ctx.turn last seat) (sym n)
       ∙ sym e
@@ -140,7 +140,7 @@ module _ {G : Type 0} (rules : Rules G) where
   nothing_done number t s seat o n =
       let trail : IsWalk rules t = walk number t s o in
       ap (λ (x : Standing G). answer_on rules x seat Undo) (sym o.shown)
-      ∙ ap (λ (done : List Accepted). undo_answer rules (standing_at number t) done seat) (none_came rules t.first t.done t.past trail.came_by n)
+      ∙ ap (λ (done : List Accepted). undo_answer rules (standing_at number t).first (standing_at number t).table done seat) (none_came rules t.first t.done t.past trail.came_by n)
 
   pub redo_prepared : (number : ℕ) (t : Kept (Checkpoint G) Accepted) (s : Standing G) (after : Checkpoint G) (seat : ℕ) (next : Accepted) (p : Coming G) → Opened rules number t s → s.number < MOST_ACTIONS → may s.table.ctx seat ≡ true
       → Some next ≡ slice_get t.undone 0 → Some after ≡ slice_get t.ahead 0 → nat_eq next.seat seat ≡ true

@@ -29,15 +29,20 @@ undo_broken rules now turn last seat = if nat_eq turn now.ctx.turn
     then (if nat_eq last.seat seat then (if is_undoable rules now last.act then None else Some NotUndoable) else Some NotYours)
     else Some NothingToUndo
 
-abbrev pub undo_answer : {G : Type 0} → Rules G → Standing G → List Accepted → ℕ → Option GameRule
-undo_answer rules s [] seat = Some NothingToUndo
-undo_answer rules s (last ∷ done) seat = undo_broken rules s.table (folded rules s.first done).ctx.turn last seat
+-- by what the match began with and what it has come to
+abbrev pub undo_answer : {G : Type 0} → Rules G → Reached G → Reached G → List Accepted → ℕ → Option GameRule
+undo_answer rules first now [] seat = Some NothingToUndo
+undo_answer rules first now (last ∷ done) seat = undo_broken rules now (folded rules first done).ctx.turn last seat
 
 abbrev pub redo_answer : List Accepted → ℕ → Option GameRule
 redo_answer [] seat = Some NothingToRedo
 redo_answer (next ∷ undone) seat = if nat_eq next.seat seat then None else Some NotYours
 
+-- with the actions that are done and those that are undone
+abbrev pub answer_by : {G : Type 0} → Rules G → Reached G → Reached G → List Accepted → List Accepted → ℕ → Act → Option GameRule
+answer_by rules first now done undone seat Undo = undo_answer rules first now done seat
+answer_by rules first now done undone seat Redo = redo_answer undone seat
+answer_by rules first now done undone seat act = refusal (once rules now seat act)
+
 abbrev pub answer_on : {G : Type 0} → Rules G → Standing G → ℕ → Act → Option GameRule
-answer_on rules s seat Undo = undo_answer rules s s.done seat
-answer_on rules s seat Redo = redo_answer s.undone seat
-answer_on rules s seat act = refusal (once rules s.table seat act)
+answer_on rules s seat act = answer_by rules s.first s.table s.done s.undone seat act

@@ -5,7 +5,7 @@ use Rattle.game_sheet.specs.declared.refusal.GameRule.{GameRule}
 use Rattle.game_trait.specs.Rules.{Rules}
 use Rattle.phase_flow.specs.Reached.{Reached}
 use Rattle.reducer.specs.Accepted.{Accepted}
-use Rattle.reducer.specs.Answer.{answer_on}
+use Rattle.reducer.specs.Answer.{answer_by}
 use Rattle.reducer.specs.Folded.{came_by, folded, leads_to}
 use Rattle.reducer.specs.Standing.{Standing}
 use Rattle.reducer.specs.Struck.{struck_of}
@@ -27,4 +27,5 @@ standing rules first accepted = record {
 
 -- what a further action is answered; none where it is accepted
 abbrev pub answer : {G : Type 0} → Rules G → Reached G → List Accepted → ℕ → Act → Option GameRule
-answer rules first accepted seat act = answer_on rules (standing rules first accepted) seat act
+answer rules first accepted seat act =
+    let lists = struck_of accepted in answer_by rules first (fold rules first accepted) lists.done lists.undone seat act

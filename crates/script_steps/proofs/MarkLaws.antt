@@ -20,10 +20,11 @@ use Rattle.room_object.specs.Entry.{entry}
 use Rattle.wire_json.specs.ClientReading.{client_read}
 use Rattle.wire_json.specs.Refusals.{Refusal as Fault}
 use Rattle.wire_json.specs.declared.client.ClientMsg.{ClientMsg}
-use Rattle.hall_history.specs.Hall.{Hall, after_line, core_of, hall_by, request}
-use Rattle.hall_history.specs.Mark.{Luck, Lucky, Mark, Served, Unread, Starved, ask_rooms, luck_after, runs_out, runs_out_there, takes_memory, told_by, unheard}
+use Rattle.hall_history.specs.Hall.{Hall, after_line, core_of, request}
+use Rattle.hall_history.specs.Mark.{Luck, Lucky, Mark, Served, Unread, Starved, ask_rooms, takes_memory, told_by, unheard}
 use Rattle.hall_history.specs.Rooms.{Rooms, reply_in, with_entry}
-use Rattle.hall_history.specs.Script.{Step, Nothing, Seeds, Opens, Says, Takes, Detaches, answered_text, does, first_mark, runs_script}
+use Rattle.hall_history.specs.Script.{Step, Nothing, Seeds, Opens, Says, Takes, Detaches, does, first_mark, runs_script}
+use Rattle.hall_history.specs.Parts.{hall_by, luck_after, runs_out, runs_out_there, answered_text}
 use Rattle.script_steps.specs.Pieces.{Print, pieces_from, pieces_of, says_again, Answered}
 use Rattle.std.specs.Option.{option_map_or}
 use Rattle.std.specs.List.{AllByRecursion}

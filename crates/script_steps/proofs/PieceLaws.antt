@@ -21,13 +21,13 @@ use Rattle.room_history.specs.declared.reply.RoomReply.{RoomReply}
 use Rattle.room_history.specs.declared.reply.RoomReply.TheVariants as reply
 use Rattle.wire_json.specs.ServerText.{text}
 use Rattle.wire_json.specs.declared.server.ServerMsg.TheVariants.{Bye as Farewell}
-use Rattle.hall_history.specs.Freeing.{frees_at}
 use Rattle.hall_history.specs.Hall.{Hall, after_line, new_hall}
 use Rattle.hall_history.specs.Mark.{Mark as LineMark}
 use Rattle.hall_history.specs.Opening.{after_open, opened_text}
 use Rattle.hall_history.specs.Placed.{is_at}
 use Rattle.hall_history.specs.Rooms.{history_of, reply_in}
-use Rattle.hall_history.specs.Script.{Step, Nothing, Seeds, Opens, Says, Takes, Detaches, answered_text, does, first_mark, freed_text, runs_script, to_session}
+use Rattle.hall_history.specs.Script.{Step, Nothing, Seeds, Opens, Says, Takes, Detaches, does, first_mark, freed_text, runs_script, to_session}
+use Rattle.hall_history.specs.Parts.{frees_at, answered_text}
 use Rattle.hall_history.specs.Told.{bytes_in, handed_by, handed_out}
 use Rattle.hall_history.proofs.Clauses.{all_handed}
 use Rattle.hall_history.proofs.Rooming.{same_number}

@@ -24,12 +24,12 @@ use Rattle.serde_json.specs.Written.{compact_text}
 use Rattle.wire_json.specs.ServerText.{server_members, text}
 use Rattle.wire_json.specs.declared.server.ServerMsg.{ServerMsg}
 use Rattle.wire_json.specs.declared.server.ServerMsg.TheVariants as message
-use Rattle.hall_history.specs.Freeing.{frees_at}
 use Rattle.hall_history.specs.Hall.{Hall, after_line}
 use Rattle.hall_history.specs.Mark.{Served}
 use Rattle.hall_history.specs.Opening.{after_open, opened_text}
 use Rattle.hall_history.specs.Rooms.{history_of}
-use Rattle.hall_history.specs.Script.{Step, Nothing, Seeds, Opens, Says, Takes, Detaches, all_to_session, answered_text, freed_text, to_session}
+use Rattle.hall_history.specs.Script.{Step, Nothing, Seeds, Opens, Says, Takes, Detaches, all_to_session, freed_text, to_session}
+use Rattle.hall_history.specs.Parts.{frees_at, answered_text}
 use Rattle.hall_history.specs.Tapes.{hall_tape}
 use Rattle.session_hall.specs.Answered.{Frees, HearsLine, made_text}
 use Rattle.session_hall.specs.Answered as answered

@@ -11,7 +11,8 @@ use Rattle.game_hall.specs.Core.{Core, fresh, is_again, moved, plain, released, 
 use Rattle.game_hall.specs.Words.{drawn, next_action, seed_left_by, seed_of, seed_words, words_drawn_by}
 use Rattle.game_hall.specs.declared.next.Next.{Next}
 use Rattle.game_hall.specs.declared.next.Next.TheVariants.{Calls, Says, Attaches, Silent}
-use Rattle.hall_history.specs.Freeing.{frees, frees_at, room_after}
+use Rattle.hall_history.specs.Freeing.{frees}
+use Rattle.hall_history.specs.Parts.{frees_at, room_after}
 use Rattle.hall_history.specs.Hall.{Hall, after_line, attached_to, core_of, request}
 use Rattle.game_sheet.specs.MatchName.{Name}
 use Rattle.hall_history.specs.Opening.{after_open, own_entry, own_pass, seat_key}

@@ -12,7 +12,8 @@ use Rattle.game_hall.specs.declared.request.Request.{Request}
 use Rattle.game_hall.specs.declared.request.Request.TheVariants.{Creating, Listing, Looking, Joining, Renaming, Leaving, Syncing, Acting}
 use Rattle.game_hall.proofs.Moves.{is_starved_by}
 use Rattle.hall_history.specs.Counts.{accepts, refuses}
-use Rattle.hall_history.specs.Mark.{Luck, Lucky, ask_rooms, luck_after, runs_out, runs_out_there, takes_memory, told_by, unheard}
+use Rattle.hall_history.specs.Mark.{Luck, Lucky, ask_rooms, takes_memory, told_by, unheard}
+use Rattle.hall_history.specs.Parts.{luck_after, runs_out, runs_out_there}
 use Rattle.hall_history.specs.Rooms.{History, Rooms, history_of, reply_in, with_entry}
 use Rattle.hall_history.proofs.Counting.{counts_entry}
 use Rattle.hall_history.proofs.Rooming.{same_length}

@@ -14,7 +14,8 @@ use Rattle.json_tree.specs.Writable.{IsWritable, ItemsAreWritable}
 use Rattle.game_sheet.specs.Short.{is_plain}
 use Rattle.game_sheet.specs.declared.args.Arg.{Arg}
 use Rattle.game_sheet.specs.declared.args.Arg.TheVariants.{Whole, Text}
-use Rattle.sheet_json.specs.Arguments.{argument, arguments, is_argument, AreArguments, if_argument, argument_in, arguments_from, arguments_in}
+use Rattle.sheet_json.specs.Arguments.{argument, arguments, is_argument, AreArguments, if_argument, argument_in, arguments_in}
+use Rattle.json_tree.specs.Fields.{read_each}
 
 -- ---- options
 
@@ -65,11 +66,11 @@ AreAll args = AllByRecursion (λ a. is_argument a ≡ true) args
 abbrev Are : Items → List Arg → Type 0
 Are ds args = (ds ≡ arguments args) × AreAll args × (items_len ds ≡ length args)
 
-from_are : (ds : Items) (args : List Arg) → arguments_from ds ≡ Some args → ItemsAreCanonical ds → Are ds args
+from_are : (ds : Items) (args : List Arg) → read_each argument_in ds ≡ Some args → ItemsAreCanonical ds → Are ds args
 from_are no_items args e c = let is : [] ≡ args = cc in subst (Are no_items) is (refl, tt, refl)
 from_are (item d ds) args e c =
-    let a = chained (λ x. option_map (λ rest. x ∷ rest) (arguments_from ds)) (argument_in d) args e in
-    let rest = mapped (λ rest. a.0 ∷ rest) (arguments_from ds) args a.2 in
+    let a = chained (λ x. option_map (λ rest. x ∷ rest) (read_each argument_in ds)) (argument_in d) args e in
+    let rest = mapped (λ rest. a.0 ∷ rest) (read_each argument_in ds) args a.2 in
     let first = argument_is d a.0 a.1 c.0 in
     let others = from_are ds rest.0 rest.1 c.1 in
     subst (Are (item d ds)) rest.2 (ap (λ x. item x ds) first.0 ∙ ap (item (argument a.0)) others.0, (first.1, others.1), ap suc others.2)
@@ -77,7 +78,7 @@ from_are (item d ds) args e c =
 -- what reads as arguments is their array
 pub arguments_are : (ds : Items) (args : List Arg) → arguments_in ds ≡ Some args → ItemsAreCanonical ds → (ds ≡ arguments args) × AreArguments args
 arguments_are ds args e c =
-    let few = onlyif (nat_le (items_len ds) 8) (arguments_from ds) args e in
+    let few = onlyif (nat_le (items_len ds) 8) (read_each argument_in ds) args e in
     let are = from_are ds args few.1 c in
     (are.0, (subst (λ n. n ≤ 8) are.2 (leb-true (items_len ds) 8 few.0), are.1))
 
@@ -91,7 +92,7 @@ argument_again (Whole (pos n)) h =
 argument_again (Whole (negsuc n)) h = rw (h) refl
 argument_again (Text s) h = rw (h) refl
 
-from_again : (args : List Arg) → AreAll args → arguments_from (arguments args) ≡ Some args
+from_again : (args : List Arg) → AreAll args → read_each argument_in (arguments args) ≡ Some args
 from_again [] h = refl
 from_again (a ∷ args) h = rw (argument_again a h.0, from_again args h.1) refl
 

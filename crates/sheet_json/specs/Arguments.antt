@@ -38,9 +38,6 @@ argument_in (number n) = option_and_then (λ z. if_argument (Whole z)) (as_i64 n
 argument_in (string s) = if_argument (Text s)
 argument_in other = None
 
-abbrev pub arguments_from : Items → Option (List Arg)
-arguments_from ds = read_each argument_in ds
-
 -- the arguments that a list of values is; none where it is too long, or has a value that is none
 abbrev pub arguments_in : Items → Option (List Arg)
-arguments_in ds = if nat_le (items_len ds) 8 then arguments_from ds else None
+arguments_in ds = if nat_le (items_len ds) 8 then read_each argument_in ds else None

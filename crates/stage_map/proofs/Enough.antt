@@ -7,7 +7,8 @@ use Rattle.stage_map.specs.declared.rows.Row.{Row}
 use Rattle.stage_map.specs.Active.{Map}
 use Rattle.game_sheet.specs.SheetFits.{SheetFits}
 use Rattle.stage_map.specs.Rows.{spec_rows}
-use Rattle.stage_map.specs.Set.{made, set, set_by, set_within, settled_by}
+use Rattle.stage_map.specs.Set.{made, set, set_within, settled_by}
+use Rattle.stage_map.specs.Parts.{set_by}
 
 settled_same : (follow other : ℕ → Map → Map) (listed : Option (List Row)) (next : Option ℕ) (m : Map) → ((spec : ℕ) → next ≡ Some spec → follow spec m ≡ other spec m) → settled_by follow listed next m ≡ settled_by other listed next m
 settled_same follow other None next m f = refl

@@ -7,7 +7,8 @@ use Rattle.stage_map.specs.declared.rows.Row.{Row}
 use Rattle.stage_map.specs.Active.{Map}
 use Rattle.stage_map.specs.Plan.{planned}
 use Rattle.stage_map.specs.Rows.{spec_rows}
-use Rattle.stage_map.specs.Set.{set_by, set_within, settled, settled_by, stack_after, unfollowed}
+use Rattle.stage_map.specs.Set.{set_within, settled, settled_by, stack_after, unfollowed}
+use Rattle.stage_map.specs.Parts.{set_by}
 
 pub set_none : (n : ℕ) (sheet : Sheet) (current : ℕ) (order : List ℕ) (spec : ℕ) (m : Map) → n ≡ 0 → set_within n sheet current order spec m ≡ unfollowed m
 unfolding set_within

@@ -11,7 +11,8 @@ use Rattle.stage_map.specs.Active.{Map, none, row_of, row_on}
 use Rattle.stage_map.specs.IsSound.{IsSound, Rise, RowFits, Stands, StandsOrNull}
 use Rattle.stage_map.proofs.MapsFit.{PlaceFits, SpecFits}
 use Rattle.stage_map.specs.Rows.{each_at, entries_of, others, placed, put, put_all, spec_rows, unlimited, without}
-use Rattle.stage_map.specs.Set.{kept_on, made, returned, set, set_by, set_within, settle, settled_by, stack_after, unfollowed_by}
+use Rattle.stage_map.specs.Set.{kept_on, made, returned, set, set_within, settle, settled_by, stack_after, unfollowed_by}
+use Rattle.stage_map.specs.Parts.{set_by}
 use Rattle.stage_map.specs.Stages.{count_move, count_row, counted, end_stage, is_reached, rows_after, set_stage, stage_after, stage_left}
 use Rattle.stage_map.proofs.Rising.{all_append, all_filter, all_put, all_weaker, all_without, put_stands, rise_put, rise_without}
 use Rattle.std.specs.Option.{option_map_or}

@@ -7,7 +7,8 @@ use Rattle.stage_map.specs.declared.rows.Row.{Row}
 use Rattle.stage_map.specs.Active.{Map, none, shown, row_on, count_of}
 use Rattle.stage_map.specs.IsSound.{IsSound}
 use Rattle.stage_map.specs.Moves.{place_of}
-use Rattle.stage_map.specs.Set.{set, set_by, set_within}
+use Rattle.stage_map.specs.Set.{set, set_within}
+use Rattle.stage_map.specs.Parts.{set_by}
 use Rattle.stage_map.specs.Stages.{set_stage, end_stage, count_move}
 
 -- a sheet that fits, in a match of so many seats with this current seat and play order

@@ -12,11 +12,8 @@ abbrev pub place_of : List (ℕ × Option ℕ) → ℕ → Option (Option ℕ)
 place_of rows seat = lookup (λ active. active == seat) rows
 
 -- a seat may act where it is the current one and no map stands, or where the map lists it
-abbrev pub may_on : Option (List (ℕ × Option ℕ)) → ℕ → ℕ → Bool
-may_on active current seat = option_map_or (λ rows. is_some (place_of rows seat)) active (seat == current)
-
 abbrev pub may : Ctx → ℕ → Bool
-may ctx seat = may_on ctx.active ctx.current seat
+may ctx seat = option_map_or (λ rows. is_some (place_of rows seat)) ctx.active (seat == ctx.current)
 
 abbrev pub stage_moves : Sheet → Option ℕ → Option (List ℕ)
 stage_moves sheet stage = option_and_then (λ stage. option_and_then (λ (row : StageRow). row.moves) (slice_get sheet.stages stage)) stage
@@ -24,12 +21,9 @@ stage_moves sheet stage = option_and_then (λ stage. option_and_then (λ (row : 
 abbrev pub phase_moves : Sheet → Option ℕ → Option (List ℕ)
 phase_moves sheet phase = option_and_then (λ phase. option_and_then (λ (row : PhaseRow). row.moves) (slice_get sheet.phases phase)) phase
 
-abbrev pub first_list : Option (List ℕ) → Option (List ℕ) → List ℕ → List ℕ
-first_list in_stage in_phase base = unwrap_or in_stage (unwrap_or in_phase base)
-
 -- the moves of a seat that may act, in this phase and at this place
 abbrev pub moves_at : Sheet → Option ℕ → Option ℕ → List ℕ
-moves_at sheet phase stage = first_list (stage_moves sheet stage) (phase_moves sheet phase) sheet.base
+moves_at sheet phase stage = unwrap_or (stage_moves sheet stage) (unwrap_or (phase_moves sheet phase) sheet.base)
 
 abbrev pub moves : Sheet → Ctx → ℕ → List ℕ
 moves sheet ctx seat = option_map_or (λ rows. option_map_or (moves_at sheet ctx.phase) (place_of rows seat) []) ctx.active

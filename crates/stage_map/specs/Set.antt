@@ -43,14 +43,12 @@ settled_by follow listed next m = m
 abbrev pub settled : (ℕ → Map → Map) → Map → Map
 settled follow m = settled_by follow m.rows m.next m
 
--- a spec that the sheet doesn't have follows no map
-abbrev pub set_by : (ℕ → Map → Map) → Option SpecRow → ℕ → List ℕ → Map → Map
-set_by follow spec current order m = option_map_or (λ spec. settled follow (made spec current order m)) spec (unfollowed m)
-
--- a spec and at most so many that follow it; a sheet's followers rise, so the number of its specs is enough
+-- a spec and at most so many that follow it; a sheet's followers rise, so the number of its specs is enough. A spec that the sheet doesn't
+-- have follows no map.
 unfoldable pub set_within : ℕ → Sheet → ℕ → List ℕ → ℕ → Map → Map
 set_within zero sheet current order spec m = unfollowed m
-set_within (suc n) sheet current order spec m = set_by (set_within n sheet current order) (slice_get sheet.specs spec) current order m
+set_within (suc n) sheet current order spec m =
+    option_map_or (λ row. settled (set_within n sheet current order) (made row current order m)) (slice_get sheet.specs spec) (unfollowed m)
 
 -- the map after a spec is set, with this current seat and play order
 abbrev pub set : Sheet → ℕ → ℕ → List ℕ → Map → Map

@@ -16,7 +16,7 @@ use Rattle.open_game.specs.Arguments.{only_natural}
 use Rattle.open_game.specs.Forms.{greatest, is_seat}
 use Rattle.open_game.specs.OpenRules.{OpenLaws, made}
 use Rattle.open_game.proofs.Moves.{drawing_keeps, drawing_own, either_keeps, either_own, made_keeps, made_own, some_says}
-use Rattle.table_states.specs.Countdown.{countdown, countdown_move, heap_offers, less, take, takes, wild}
+use Rattle.table_states.specs.Countdown.{countdown, heap_offers, less, take, takes, wild}
 use Rattle.table_states.specs.StateForms.{heap_form}
 use Rattle.table_states.specs.declared.heap.Heap.{Heap}
 
@@ -52,7 +52,7 @@ plays_own h seat id args words own = either_own heap_form.own (nat_eq id 0) _ (w
     (some_says (take h seat) IsOwn (λ count. some_own (nat_le 1 count && nat_le count 3 && nat_le count h.left) (less h seat count) (own count)) (only_natural args)))
     (λ takes. wild_own h seat args words own)
 
-move_own : (h : Heap) (seat id : ℕ) (args : List Arg) (words : List ℕ) → IsOwn h → GivesOwn heap_form.own (countdown_move h seat id args words)
+move_own : (h : Heap) (seat id : ℕ) (args : List Arg) (words : List ℕ) → IsOwn h → GivesOwn heap_form.own (countdown.play h seat id args words)
 move_own h seat id args words own = either_own heap_form.own (nat_lt seat 4) _ (GaveUp Invalid) (λ plays. plays_own h seat id args words (λ count. less_own h seat count plays own)) (λ plays. tt)
 
 -- ---- no move queues an event
@@ -62,7 +62,7 @@ wild_keeps h seat (next ∷ rest) words = tt
 wild_keeps h seat [] words = either_keeps countdown.sheet (nat_eq h.left 0) (GaveUp Invalid) _ tt
     (drawing_keeps {E = Barred} countdown.sheet (Lacks Spent) words (λ word rest. Done (less h seat (min (die 3 word) h.left)) rest []) (λ word rest. tt))
 
-move_keeps : (h : Heap) (seat id : ℕ) (args : List Arg) (words : List ℕ) → QueuesInSheet countdown.sheet (countdown_move h seat id args words)
+move_keeps : (h : Heap) (seat id : ℕ) (args : List Arg) (words : List ℕ) → QueuesInSheet countdown.sheet (countdown.play h seat id args words)
 move_keeps h seat id args words = either_keeps countdown.sheet (nat_lt seat 4) _ (GaveUp Invalid)
     (either_keeps countdown.sheet (nat_eq id 0) _ (wild h seat args words) (made_keeps countdown.sheet (option_and_then (take h seat) (only_natural args)) words) (wild_keeps h seat args words))
     tt

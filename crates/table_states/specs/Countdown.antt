@@ -26,10 +26,6 @@ abbrev pub wild : Heap → ℕ → List Arg → List ℕ → Deed Heap Barred
 wild h seat [] words = if nat_eq h.left 0 then GaveUp Invalid else drawing (Lacks Spent) words (λ word rest. Done (less h seat (min (die 3 word) h.left)) rest [])
 wild h seat (_ ∷ _) words = GaveUp Invalid
 
-abbrev pub countdown_move : Heap → ℕ → ℕ → List Arg → List ℕ → Deed Heap Barred
-countdown_move h seat id args words =
-    if nat_lt seat 4 then (if nat_eq id 0 then made (option_and_then (take h seat) (only_natural args)) words else wild h seat args words) else GaveUp Invalid
-
 -- a take of each of these counts that the heap has
 abbrev pub takes : Heap → List ℕ → List (ℕ × List Arg)
 takes h [] = []
@@ -44,7 +40,8 @@ abbrev pub countdown : OpenRules Heap
 countdown = record {
   sheet = turns_sheet (codes "countdown") 2 4 (codes "take" ∷ codes "wild" ∷ []) (0 ∷ 1 ∷ []) (Some 2) (EndTurn ∷ []);
   opening = λ seats. full_heap;
-  play = countdown_move;
+  play = λ h seat id args words.
+      if nat_lt seat 4 then (if nat_eq id 0 then made (option_and_then (take h seat) (only_natural args)) words else wild h seat args words) else GaveUp Invalid;
   end_if = λ h. if nat_eq h.left 0 then option_map Winner h.last else None;
   may_undo = true;
   offers = λ h seat. heap_offers h;

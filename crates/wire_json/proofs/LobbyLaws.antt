@@ -13,7 +13,8 @@ use Rattle.sheet_json.proofs.SeatLaws.{natural_is, natural_again}
 use Rattle.wire_json.specs.MatchText.{IsName}
 use Rattle.wire_json.specs.Refusals.{Refusal, ExtraField}
 use Rattle.wire_json.specs.ServerReading.{ServerFits, games_in, matches_in, match_row_in, created_in, joined_in, place_in}
-use Rattle.wire_json.specs.ServerText.{place_members, server_members}
+use Rattle.wire_json.specs.ServerText.{server_members}
+use Rattle.wire_json.specs.ClientText.{place_members}
 use Rattle.wire_json.specs.declared.server.ServerMsg.{ServerMsg}
 use Rattle.wire_json.specs.declared.server.ServerMsg.TheVariants as to_client
 use Rattle.wire_json.proofs.FieldLaws.{step, past, text_is, match_member_is, match_member_again, key_member_is, key_member_again}

@@ -14,7 +14,8 @@ use Rattle.game_sheet.specs.MatchName.{Name}
 use Rattle.sheet_json.specs.Seats.{natural}
 use Rattle.wire_json.specs.MatchText.{match_text}
 use Rattle.wire_json.specs.RowText.{row_data}
-use Rattle.wire_json.specs.ServerText.{from_change, from_number, from_parts, from_place, from_refusal, parts_data, place_members, server_members, text}
+use Rattle.wire_json.specs.ServerText.{from_change, from_number, from_parts, from_refusal, parts_data, server_members, text}
+use Rattle.wire_json.specs.ClientText.{from_seat as from_place, place_members}
 use Rattle.wire_json.specs.declared.match_row.MatchRow.{MatchRow}
 use Rattle.wire_json.specs.declared.reason.Reason.{Reason}
 use Rattle.wire_json.specs.declared.reason.Reason.TheVariants as reason

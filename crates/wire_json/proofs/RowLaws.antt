@@ -3,7 +3,7 @@ use Rattle.std.proofs.Common.{◌≡◌, ℕ, List, [], ◌∷◌, Bool, true, f
 use Rattle.std.specs.List.{AllByRecursion}
 use Rattle.std.specs.Prelude.{Result}
 use Rattle.std.specs.Result.{result_ok}
-use Rattle.serde_json.specs.Data.{Data, null, boolean, number, string, array, object, Items, no_items, item}
+use Rattle.serde_json.specs.Data.{Data, null, boolean, number, string, array, object, Items, no_items, item, member}
 use Rattle.serde_json.specs.Find.{get_member}
 use Rattle.json_tree.specs.Canonical.{IsCanonical, ItemsAreCanonical}
 use Rattle.json_tree.specs.Fields.{list_in, natural_in}
@@ -14,7 +14,8 @@ use Rattle.sheet_json.specs.Seats.{or_null, text_or_null}
 use Rattle.sheet_json.proofs.SeatLaws.{bound, natural_is, natural_again, Holds, or_null_is}
 use Rattle.wire_json.specs.Acts.{in_form, text_within, word_in}
 use Rattle.wire_json.specs.RowReading.{boolean_in, player_in, players_from, players_in, row_from, rows_from, row_in, rows_in}
-use Rattle.wire_json.specs.RowText.{Player, player_members, player_data, players_data, row_members, row_data, rows_data, IsGameName, IsShortName, IsPlayer, IsRow}
+use Rattle.wire_json.specs.MatchText.{match_text}
+use Rattle.wire_json.specs.RowText.{Player, player_members, player_data, players_data, from_over, row_data, rows_data, IsGameName, IsShortName, IsPlayer, IsRow}
 use Rattle.wire_json.specs.ServerReading.{names_from, names_in}
 use Rattle.wire_json.specs.ServerText.{names_data}
 use Rattle.wire_json.specs.declared.match_row.MatchRow.{MatchRow}
@@ -113,7 +114,7 @@ row_from_is (object ms) row c e =
     let all = players_are list.0 players.0 (canonical_member (codes "players") ms (array list.0) c there) list.2 in
     let text = short_text_is 1 32 _ game.0 game.1 in
     let match = match_member_is _ name.0 name.1 in
-    let is = row_is row_names ms (row_members made) c ((refl, (refl, (refl, tt))), ((refl, (refl, tt)), ((refl, tt), (tt, tt)))) known.0 refl
+    let is = row_is row_names ms (member (codes "game") (string made.game) (member (codes "match") (string (match_text made.name)) (from_over made))) c ((refl, (refl, (refl, tt))), ((refl, (refl, tt)), ((refl, tt), (tt, tt)))) known.0 refl
     (text.0, (match.0, (boolean_is _ over.0 over.1, (there ∙ ap (λ x. Some (array x)) all.0, tt)))) in
     subst (λ x. (object ms ≡ row_data x) × IsRow x) same (ap object is, (text.1, text.2, match.1, all.1))
 

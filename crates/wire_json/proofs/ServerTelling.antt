@@ -14,7 +14,8 @@ use Rattle.json_tree.specs.Writable.{IsWritable, ItemsAreWritable}
 use Rattle.sheet_json.specs.Seats.{natural, natural_or_null, IsWithin}
 use Rattle.wire_json.specs.MatchText.{match_text, IsName}
 use Rattle.wire_json.specs.RowText.{row_data, rows_data}
-use Rattle.wire_json.specs.ServerText.{field_or_null, names_data, parts_data, place_members, server_members}
+use Rattle.wire_json.specs.ServerText.{field_or_null, names_data, parts_data, server_members}
+use Rattle.wire_json.specs.ClientText.{place_members}
 use Rattle.wire_json.specs.declared.match_row.MatchRow.{MatchRow}
 use Rattle.wire_json.specs.declared.protocol.Protocol.{Protocol}
 use Rattle.wire_json.specs.declared.protocol.Protocol.TheVariants.{One, Two}

@@ -45,9 +45,12 @@ abbrev pub from_protocol : Protocol → Option ℕ → Members
 from_protocol protocol seat = member (codes "protocol") (natural (protocol_number protocol)) (from_viewer seat)
 
 -- protocol 1 is left unsaid
+abbrev pub with_protocol : Protocol → Members → Members
+with_protocol One members = members
+with_protocol Two members = member (codes "protocol") (natural 2) members
+
 abbrev pub after_match : Protocol → Option ℕ → Members
-after_match One seat = from_viewer seat
-after_match Two seat = from_protocol Two seat
+after_match protocol seat = with_protocol protocol (from_viewer seat)
 
 -- a spectator has neither key nor seat
 abbrev pub sync_members : Name → Viewer → Members → Members
@@ -68,7 +71,7 @@ client_members (Create game seats) = member (codes "game") (string game) (from_s
 client_members (Join name player seat) = player_members name player seat (codes "join")
 client_members (Rename key name player seat) = member (codes "key") (string (encode_lower key)) (player_members name player seat (codes "rename"))
 client_members (Leave key name seat) = member (codes "key") (string (encode_lower key)) (place_members name seat (codes "leave"))
-client_members (Sync name viewer protocol) = sync_members name viewer (after_match protocol (seat_of viewer))
+client_members (Sync name viewer protocol) = sync_members name viewer (with_protocol protocol (from_viewer (seat_of viewer)))
 client_members (Act s) = member (codes "act") (object (asked_members s.asked)) (from_key s.key s.name s.number s.ticket)
 client_members (Takeover name seat) = place_members name seat (codes "takeover")
 

@@ -23,11 +23,8 @@ players_data players = items_of (map player_data players)
 abbrev pub from_over : MatchRow → Members
 from_over row = member (codes "over") (boolean row.over) (member (codes "players") (array (players_data row.players)) no_members)
 
-abbrev pub row_members : MatchRow → Members
-row_members row = member (codes "game") (string row.game) (member (codes "match") (string (match_text row.name)) (from_over row))
-
 abbrev pub row_data : MatchRow → Data
-row_data row = object (row_members row)
+row_data row = object (member (codes "game") (string row.game) (member (codes "match") (string (match_text row.name)) (from_over row)))
 
 abbrev pub rows_data : List MatchRow → Items
 rows_data rows = items_of (map row_data rows)

@@ -6,8 +6,6 @@ use Rattle.serde_json.specs.Written.{compact_text}
 use Rattle.hex.specs.Hex.{encode_lower}
 use Rattle.sheet_json.specs.Seats.{natural, natural_or_null}
 use Rattle.game_sheet.specs.MatchName.{Name}
-use Rattle.wire_json.specs.declared.protocol.Protocol.{Protocol}
-use Rattle.wire_json.specs.declared.protocol.Protocol.TheVariants.{One, Two}
 use Rattle.wire_json.specs.declared.server.ServerMsg.{ServerMsg}
 use Rattle.wire_json.specs.declared.server.ServerMsg.TheVariants.{Games, Matches, Match, Created, Joined, Renamed, Left, Asked, Sync, Update, Change, Ok, No, Again, Refused, Bye}
 use Rattle.wire_json.specs.declared.reason.Reason.{Reason}
@@ -18,7 +16,7 @@ use Rattle.wire_json.specs.ByeText.{bye_text}
 use Rattle.wire_json.specs.MatchText.{match_text}
 use Rattle.wire_json.specs.ReasonText.{reason_text}
 use Rattle.wire_json.specs.RefusalText.{member_text, refusal_text, refusal_field}
-use Rattle.wire_json.specs.ClientText.{of_type}
+use Rattle.wire_json.specs.ClientText.{of_type, place_members, with_protocol}
 
 abbrev pub field_or_null : Option Member → Data
 field_or_null None = null
@@ -26,18 +24,6 @@ field_or_null (Some field) = string (member_text field)
 
 abbrev pub names_data : List (List ℕ) → Items
 names_data names = items_of (map string names)
-
--- an answer that names a seat of a match
-abbrev pub from_place : ℕ → List ℕ → Members
-from_place seat kind = member (codes "seat") (natural seat) (of_type kind)
-
-abbrev pub place_members : Name → ℕ → List ℕ → Members
-place_members name seat kind = member (codes "match") (string (match_text name)) (from_place seat kind)
-
--- protocol 1 is not named
-abbrev pub with_protocol : Protocol → Members → Members
-with_protocol One members = members
-with_protocol Two members = member (codes "protocol") (natural 2) members
 
 abbrev pub from_snapshot : Data → Members
 from_snapshot snapshot = member (codes "snapshot") snapshot (of_type (codes "sync"))

@@ -10,7 +10,8 @@ ghost use Rattle.wire_json.specs.KeyText.{IsKey};
 ghost use Rattle.wire_json.specs.MatchText.{IsName};
 ghost use Rattle.wire_json.specs.RefusalText.{refusal_text};
 ghost use Rattle.wire_json.specs.RowText.{row_data, rows_data};
-ghost use Rattle.wire_json.specs.ServerText.{field_or_null, from_place, from_refusal, names_data, place_members, server_members, text as server_text};
+ghost use Rattle.wire_json.specs.ClientText.{from_seat as from_place, place_members};
+ghost use Rattle.wire_json.specs.ServerText.{field_or_null, from_refusal, names_data, server_members, text as server_text};
 ghost use Rattle.wire_json.specs.declared.server.ServerMsg.TheVariants as Message;
 
 use crate::match_row::MatchRow;

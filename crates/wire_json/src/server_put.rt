@@ -7,7 +7,8 @@ ghost use Rattle.serde_json.specs.Data.{Data, object, string};
 ghost use Rattle.serde_json.specs.Written.{compact_text, members_text};
 ghost use Rattle.wire_json.specs.MatchText.{IsName};
 ghost use Rattle.wire_json.specs.ReasonText.{reason_text};
-ghost use Rattle.wire_json.specs.ServerText.{from_change, from_g, from_number, from_parts, from_reason, from_seat, from_snapshot, parts_data, server_members, text as server_text, with_protocol};
+ghost use Rattle.wire_json.specs.ClientText.{with_protocol};
+ghost use Rattle.wire_json.specs.ServerText.{from_change, from_g, from_number, from_parts, from_reason, from_seat, from_snapshot, parts_data, server_members, text as server_text};
 ghost use Rattle.wire_json.specs.declared.server.ServerMsg.TheVariants as Message;
 
 use crate::protocol::Protocol;

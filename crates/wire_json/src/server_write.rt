@@ -8,7 +8,8 @@ ghost use Rattle.json_back.specs.Told.{IsTold, AreTold};
 ghost use Rattle.json_tree.specs.Lines.{newline};
 ghost use Rattle.wire_json.specs.MatchText.{IsName};
 ghost use Rattle.wire_json.specs.ServerReading.{IsServerForm, IsTellable, ServerFits};
-ghost use Rattle.wire_json.specs.ServerText.{place_members, server_members, text as server_text};
+ghost use Rattle.wire_json.specs.ClientText.{place_members};
+ghost use Rattle.wire_json.specs.ServerText.{server_members, text as server_text};
 ghost use Rattle.wire_json.specs.declared.server.ServerMsg.TheVariants as Message;
 
 use crate::answer_put::{

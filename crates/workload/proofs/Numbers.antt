@@ -8,7 +8,8 @@ use Rattle.client_world.proofs.Counted.{acts_hall, reads_hall}
 use Rattle.game_sheet.specs.MatchName.{Name}
 use Rattle.hall_history.specs.Adding.{IsAsking}
 use Rattle.hall_history.specs.Counts.{accepts, count_from, hands_out, refuses}
-use Rattle.hall_history.specs.Freeing.{frees, frees_at}
+use Rattle.hall_history.specs.Freeing.{frees}
+use Rattle.hall_history.specs.Parts.{frees_at}
 use Rattle.hall_history.specs.Hall.{Hall, after_line}
 use Rattle.hall_history.specs.Mark.{Served}
 use Rattle.hall_history.specs.Opening.{after_open, own_entry, own_pass, seat_key}

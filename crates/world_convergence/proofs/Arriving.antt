@@ -30,8 +30,9 @@ use Rattle.game_hall.specs.declared.next.Next.TheVariants.{Calls, Says, Attaches
 use Rattle.game_hall.specs.declared.request.Request.{Request}
 use Rattle.game_hall.specs.declared.request.Request.TheVariants.{Syncing, Acting}
 use Rattle.game_hall.proofs.Running.{moved_over}
-use Rattle.hall_history.specs.Hall.{Hall, after_line, attached_to, core_of, hall_by, request}
-use Rattle.hall_history.specs.Mark.{Luck, Lucky, Mark, Served, Unread, Starved, ask_rooms, entry_by, runs_out, told_by, unheard}
+use Rattle.hall_history.specs.Hall.{Hall, after_line, attached_to, core_of, request}
+use Rattle.hall_history.specs.Mark.{Luck, Lucky, Mark, Served, Unread, Starved, ask_rooms, told_by, unheard}
+use Rattle.hall_history.specs.Parts.{hall_by, entry_by, runs_out}
 use Rattle.hall_history.specs.Rooms.{history_of, reply_in, with_entry}
 use Rattle.hall_history.proofs.Placing.{same_at}
 

@@ -30,7 +30,7 @@ use Rattle.game_hall.specs.declared.request.Request.{Request}
 use Rattle.game_hall.specs.declared.request.Request.TheVariants.{Creating, Listing, Looking, Joining, Renaming, Leaving, Syncing, Acting}
 use Rattle.convergence.specs.Calls.{CallFits, CallsFit}
 use Rattle.hall_history.specs.Adding.{Adds, AreOf}
-use Rattle.hall_history.specs.Freeing.{frees_at}
+use Rattle.hall_history.specs.Parts.{frees_at}
 use Rattle.hall_history.specs.Hall.{Hall, after_line, core_of}
 use Rattle.hall_history.specs.Mark.{Luck, Mark, Served, Unread, Starved, ask_rooms}
 use Rattle.hall_history.specs.Opening.{after_open, joins, opening, own_entry, own_pass, seat_key, seated, seated_by}

@@ -16,7 +16,8 @@ use Rattle.wire_json.specs.declared.refusal.Refusal.TheVariants.{NoMatch}
 use Rattle.convergence.specs.Shallow.{StatesAreShallow}
 use Rattle.convergence.proofs.Grounds.{StaysSound}
 use Rattle.hall_history.specs.Adding.{IsAsking}
-use Rattle.hall_history.specs.Freeing.{frees, frees_at, room_after as room_once_freed}
+use Rattle.hall_history.specs.Freeing.{frees}
+use Rattle.hall_history.specs.Parts.{frees_at, room_after as room_once_freed}
 use Rattle.hall_history.specs.Hall.{Hall, after_line, attached_to}
 use Rattle.hall_history.specs.Mark.{Mark, Served}
 use Rattle.hall_history.specs.Opening.{after_open, own_entry, own_pass, seat_key}

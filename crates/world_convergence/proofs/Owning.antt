@@ -25,12 +25,14 @@ use Rattle.convergence.specs.Doing.{face}
 use Rattle.client_predict.specs.Following.{told_lines}
 use Rattle.convergence.proofs.Likes.{like}
 use Rattle.convergence.proofs.Streams.{told_append}
-use Rattle.hall_history.specs.Freeing.{frees, frees_at, room_after}
+use Rattle.hall_history.specs.Freeing.{frees}
+use Rattle.hall_history.specs.Parts.{frees_at, room_after}
 use Rattle.hall_history.specs.Hall.{Hall, attached_to}
 use Rattle.hall_history.specs.Placed.{IsPlaced, is_at}
 use Rattle.hall_history.specs.Rooms.{history_of, reply_in, with_entry}
 use Rattle.world_history.specs.World.{World, set_at}
-use Rattle.world_history.specs.WorldScript.{act_line, acts, acts_in, attaches, claim_of, drops, key_of, with_action}
+use Rattle.world_history.specs.WorldScript.{acts, acts_in, attaches, claim_of, drops, key_of}
+use Rattle.world_history.specs.Parts.{act_line, with_action}
 use Rattle.hall_history.proofs.Placing.{in_range, is_here}
 use Rattle.hall_history.proofs.Rooming.{gets_entry, is_same, one_entry}
 use Rattle.world_convergence.proofs.Counting.{answers, count}

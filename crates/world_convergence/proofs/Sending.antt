@@ -26,7 +26,8 @@ use Rattle.wire_json.specs.declared.submission.Submission.{Submission}
 use Rattle.wire_json.proofs.ClientLaws.{read_again, read_is}
 use Rattle.wire_json.proofs.ClientWriting.{is_line_form}
 use Rattle.hall_history.specs.Opening.{seat_key}
-use Rattle.world_history.specs.WorldScript.{act_line, claim_of, key_of}
+use Rattle.world_history.specs.WorldScript.{claim_of, key_of}
+use Rattle.world_history.specs.Parts.{act_line}
 use Rattle.world_convergence.proofs.Entries.{one_if}
 use Rattle.world_convergence.proofs.Hearing.{PartFits, shown_fits}
 

@@ -24,7 +24,8 @@ use Rattle.convergence.specs.Shallow.{StatesAreShallow}
 use Rattle.convergence.proofs.Grounds.{StaysSound}
 use Rattle.convergence.proofs.Likes.{all_alike}
 use Rattle.convergence.proofs.Streams.{told_append}
-use Rattle.hall_history.specs.Freeing.{frees, frees_at, freed, room_after}
+use Rattle.hall_history.specs.Freeing.{frees, freed}
+use Rattle.hall_history.specs.Parts.{frees_at, room_after}
 use Rattle.hall_history.specs.Hall.{Hall}
 use Rattle.hall_history.specs.Placed.{IsPlaced}
 use Rattle.hall_history.specs.Rooms.{reply_in, with_entry}

@@ -5,7 +5,8 @@ use Rattle.game_trait.specs.Rules.{Rules}
 use Rattle.room_history.specs.declared.reply.RoomReply.{RoomReply}
 use Rattle.room_history.specs.declared.reply.RoomReply.TheVariants as reply
 use Rattle.room_history.specs.declared.call.RoomCall.TheVariants as call
-use Rattle.hall_history.specs.Freeing.{frees, frees_at}
+use Rattle.hall_history.specs.Freeing.{frees}
+use Rattle.hall_history.specs.Parts.{frees_at}
 use Rattle.hall_history.specs.Hall.{Hall}
 use Rattle.hall_history.specs.Told.{bytes_in}
 use Rattle.world_history.specs.World.{World, set_at}

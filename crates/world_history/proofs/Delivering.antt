@@ -11,7 +11,7 @@ use Rattle.room_history.specs.declared.reply.RoomReply.TheVariants as reply
 use Rattle.wire_json.specs.RefusalText.{refusal_text}
 use Rattle.wire_json.specs.declared.refusal.Refusal.TheVariants.{NoMatch}
 use Rattle.hall_history.specs.Adding.{IsAsking}
-use Rattle.hall_history.specs.Freeing.{frees_at}
+use Rattle.hall_history.specs.Parts.{frees_at}
 use Rattle.hall_history.specs.Hall.{Hall, after_line}
 use Rattle.hall_history.specs.Mark.{Mark}
 use Rattle.hall_history.specs.Opening.{after_open, own_entry, own_pass, seat_key}

@@ -109,19 +109,10 @@ module _ {X G : Type 0} (rules : X → Rules G) where
       else if nat_le k 11 then Takes c
       else Reads c
 
-  abbrev pub words_of_step : World X G → ℕ → ℕ → ℕ
-  words_of_step w c k = 2 + (if nat_le k 2 then choice_words (w.clients c) else 0)
-
 module _ {X G : Type 0} (named : List ℕ → Option X) (rules : X → Rules G) (tape : ℕ → List ℕ) where
   -- a line of the world, with what it counts
   abbrev pub goes : Step X → Workload X G → Workload X G
-  goes step l = record {
-    world = (does named rules tape Served step l.world).0;
-    places = l.places;
-    drawn = l.drawn;
-    held = l.held + held_by step l.world;
-    read = l.read + read_by step l.world;
-  }
+  goes step l = record l { world = (does named rules tape Served step l.world).0; held = l.held + held_by step l.world; read = l.read + read_by step l.world }
 
   abbrev pub go_all : List (Step X) → Workload X G → Workload X G
   go_all steps l = fold (λ l step. goes step l) l steps
@@ -142,11 +133,8 @@ module _ {X G : Type 0} (named : List ℕ → Option X) (rules : X → Rules G) 
   first_reads c [] = []
   first_reads c (place ∷ places) = Arrives c ∷ Takes c ∷ Reads c ∷ first_reads (c + 1) places
 
-  abbrev pub seats_clients : Workload X G → Workload X G
-  seats_clients l = go_all (attachings 0 l.places ++ first_reads 0 l.places) l
-
   abbrev pub begins_round : Workload X G → Workload X G
-  begins_round l = seats_clients (opens_all round (record l { places = [] }))
+  begins_round l = let opened = opens_all round (record l { places = [] }) in go_all (attachings 0 opened.places ++ first_reads 0 opened.places) opened
 
   -- ---- a round ends: each client is dropped, and every seat leaves
 
@@ -165,8 +153,9 @@ module _ {X G : Type 0} (named : List ℕ → Option X) (rules : X → Rules G) 
   module _ (words : ℕ → List ℕ) where
     -- a step by its words: a client, what it does, and which option it takes
     abbrev pub step_by : Workload X G → List ℕ → Workload X G
-    step_by l (c ∷ k ∷ word ∷ rest) =
-        goes (step_of rules l.world (die 14 c - 1) (die 16 k) word) (record l { drawn = l.drawn + words_of_step rules l.world (die 14 c - 1) (die 16 k) })
+    step_by l (c ∷ k ∷ word ∷ rest) = let client = die 14 c - 1 in let kind = die 16 k in
+        goes (step_of rules l.world client kind word)
+        (record l { drawn = l.drawn + (2 + (if nat_le kind 2 then choice_words rules (l.world.clients client) else 0)) })
     step_by l short = l
 
     abbrev pub takes_step : Workload X G → Workload X G

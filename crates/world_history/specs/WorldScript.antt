@@ -87,18 +87,13 @@ module _ {X G : Type 0} (rules : X → Rules G) where
 
   -- ---- an action: its line goes on the up link
 
-  abbrev pub with_action : Held X G → Playing G → Asked → Held X G
-  with_action held p asked =
-      record { game = held.game; key = held.key; client = record { gone = held.client.gone; playing = Some (with_act (rules held.game) p asked) } }
-
-  abbrev pub act_line : Held X G → Playing G → Asked → List ℕ
-  act_line held p asked = client_text (Act (submitted (rules held.game) held.key p asked))
-
   abbrev pub acts_in : World X G → ℕ → Held X G → Option (Playing G) → Asked → Option ActNo → Done X G
   acts_in w c held playing asked (Some why) = prints_word w c (act_no_word why)
   acts_in w c held None asked None = prints_word w c (codes "not-synced")
   acts_in w c held (Some p) asked None =
-      prints_word (with_up (with_client w c (with_action held p asked)) c (w.up c ++ act_line held p asked ∷ [])) c (predicted_word (act_told (rules held.game) p asked))
+      let acted = record held { client = record held.client { playing = Some (with_act (rules held.game) p asked) } } in
+      let line = client_text (Act (submitted (rules held.game) held.key p asked)) in
+      prints_word (with_up (with_client w c acted) c (w.up c ++ line ∷ [])) c (predicted_word (act_told (rules held.game) p asked))
 
   -- a client that never was attached asks for no memory
   abbrev pub acts : Bool → World X G → ℕ → Option (Held X G) → Asked → Done X G

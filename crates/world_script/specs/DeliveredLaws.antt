@@ -16,7 +16,7 @@ use Rattle.room_history.specs.declared.call.RoomCall.TheVariants as call
 use Rattle.room_history.specs.declared.reply.RoomReply.{RoomReply}
 use Rattle.room_history.specs.declared.reply.RoomReply.TheVariants as reply
 use Rattle.wire_json.specs.declared.asked.Asked.{Asked}
-use Rattle.hall_history.specs.Freeing.{frees_at}
+use Rattle.hall_history.specs.Parts.{frees_at}
 use Rattle.hall_history.specs.Hall.{Hall, after_line}
 use Rattle.hall_history.specs.Mark.{Mark, Served}
 use Rattle.hall_history.specs.Placed.{is_at}
