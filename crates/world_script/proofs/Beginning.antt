@@ -6,13 +6,14 @@ use Rattle.world_history.specs.World.{new_world}
 use Rattle.session_hall.specs.Held.{HeldHall, StandsForHall, tape_of}
 use Rattle.script_steps.specs.ScriptDoing.{script_doing}
 use Rattle.world_script.specs.ScriptPlay.{first_hall}
-use Rattle.world_script.specs.Deliveries.{first_world, rooms_of_world}
+use Rattle.world_script.specs.Deliveries.{first_world}
+use Rattle.world_script.specs.Sessions.{room_count}
 use Rattle.world_script.specs.WorldDoing.{world_doing}
 
 pub script_begins : (hall : HeldHall) → StandsForHall (tape_of (replicate 32 0)) hall first_hall → script_doing.Stands hall first_hall
 unfolding script_doing hall_tape
 script_begins hall s = s
 
-pub world_begins : (world : HeldWorld) → IsWorld (tape_of (replicate 32 0)) world (new_world rooms_of_world) → world_doing.Stands world first_world
+pub world_begins : (world : HeldWorld) → IsWorld (tape_of (replicate 32 0)) world (new_world room_count) → world_doing.Stands world first_world
 unfolding world_doing hall_tape
 world_begins world is = is

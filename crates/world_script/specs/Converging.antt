@@ -7,12 +7,12 @@ use Rattle.hall_history.specs.Mark.{Mark}
 use Rattle.hall_history.specs.Tapes.{hall_tape}
 use Rattle.world_convergence.specs.Converging.{Converges}
 use Rattle.world_convergence.specs.Meeting.{Run}
-use Rattle.world_script.specs.Deliveries.{rooms_of_world}
+use Rattle.world_script.specs.Sessions.{room_count}
 use Rattle.line_runner.specs.Play.{Play, steps_of}
 
 pub record ConvergesIn (marks : List Mark) (lines : List (List ℕ)) : Type 0 where
   pub run : Run GameKind
-  pub in_rooms : run.rooms ≡ rooms_of_world
+  pub in_rooms : run.rooms ≡ room_count
   pub by_marks : run.marks ≡ marks
   pub of_lines : run.steps ≡ steps_of world_step_of lines
   pub converges : Converges named hall_tape run

@@ -14,15 +14,12 @@ use Rattle.hall_history.specs.Tapes.{hall_tape}
 use Rattle.world_history.specs.World.{World, new_world}
 use Rattle.world_history.specs.WorldScript.{runs_world}
 use Rattle.line_runner.specs.Play.{steps_of}
+use Rattle.world_script.specs.Sessions.{room_count}
 use Rattle.world_script.specs.Delivered.{all_put, texts_from, SaysAgain}
 use Rattle.std.specs.List.{AllByRecursion}
 
--- how many rooms a world has
-abbrev pub rooms_of_world : ℕ
-rooms_of_world = 8
-
 abbrev pub first_world : World GameKind AnyG
-first_world = new_world rooms_of_world
+first_world = new_world room_count
 
 -- a room's history after these lines
 unfoldable pub world_room_after : List Mark → List (List ℕ) → ℕ → History GameKind

@@ -16,20 +16,20 @@ use Rattle.script_steps.specs.Forms.{step_of}
 use Rattle.script_steps.specs.Pieces.{Print, pieces_from, print_text, told_to, says_again}
 use Rattle.line_runner.specs.Play.{steps_of}
 
--- how many rooms a script has
-abbrev pub rooms_of_script : ℕ
-rooms_of_script = 8
+-- how many rooms a script has, and a world
+abbrev pub room_count : ℕ
+room_count = 8
 
 -- a room's history after these lines
 unfoldable pub room_after : List Mark → List (List ℕ) → ℕ → History GameKind
-room_after marks lines room = history_of (script_hall named any_rules hall_tape rooms_of_script marks (steps_of step_of lines)).rooms room
+room_after marks lines room = history_of (script_hall named any_rules hall_tape room_count marks (steps_of step_of lines)).rooms room
 
 -- what these lines print, as text and piece by piece
 abbrev pub text_of : List Mark → List (List ℕ) → List ℕ
-text_of marks lines = transcript named any_rules hall_tape rooms_of_script marks (steps_of step_of lines)
+text_of marks lines = transcript named any_rules hall_tape room_count marks (steps_of step_of lines)
 
 unfoldable pub pieces_of : List Mark → List (List ℕ) → List Print
-pieces_of marks lines = pieces_from named any_rules hall_tape marks (steps_of step_of lines) (new_hall rooms_of_script)
+pieces_of marks lines = pieces_from named any_rules hall_tape marks (steps_of step_of lines) (new_hall room_count)
 
 -- What is printed is pieces. Those that are told to a session are the lines that it is sent, one after another. They are a first part of its
 -- stream, and those that any session alike is sent, whatever else its room's history holds. Where no line is answered that there was no memory
