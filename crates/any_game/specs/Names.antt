@@ -7,9 +7,6 @@ use Rattle.std.specs.Option.{option_map_or}
 abbrev pub all_names : List (List ℕ)
 all_names = codes "blind-bid" ∷ codes "captions" ∷ codes "countdown" ∷ codes "high-hand" ∷ codes "pig" ∷ codes "tic-tac-toe" ∷ []
 
-abbrev pub is_for : Option GameKind → ℕ → Bool
-is_for kind seats = option_map_or (λ game. nat_le (any_rules game).sheet.min_seats seats && nat_le seats (any_rules game).sheet.max_seats) kind false
-
 -- whether there is a game of this name, and it is for so many seats
 unfoldable pub may_open : List ℕ → ℕ → Bool
-may_open name seats = is_for (named name) seats
+may_open name seats = option_map_or (λ kind. nat_le (any_rules kind).sheet.min_seats seats && nat_le seats (any_rules kind).sheet.max_seats) (named name) false

@@ -46,9 +46,6 @@ abbrev pub opened_text : Option Answer → List ℕ
 opened_text (Some (Created name)) = codes "open " ++ match_text name ++ 10 ∷ []
 opened_text said = codes "open full" ++ 10 ∷ []
 
-abbrev pub opened : {X : Type 0} → Hall X → ℕ → Core X × Lucky X → Hall X × Option Answer
-opened h seats done = (record h { rooms = seated_by done.0.said seats done.1.rooms; place = h.place + seed_words h.seed; seed = None }, done.0.said)
-
 module _ {X G : Type 0} (named : List ℕ → Option X) (rules : X → Rules G) (tape : ℕ → List ℕ) where
   -- the rooms are asked as a session's create asks them
   abbrev pub opening : Hall X → List ℕ → ℕ → Core X × Lucky X
@@ -57,4 +54,5 @@ module _ {X G : Type 0} (named : List ℕ → Option X) (rules : X → Rules G) 
 
   -- the hall after an open, and what it is answered
   abbrev pub after_open : Hall X → List ℕ → ℕ → Hall X × Option Answer
-  after_open h game seats = opened h seats (opening h game seats)
+  after_open h game seats = let done = opening h game seats in
+      (record h { rooms = seated_by done.0.said seats done.1.rooms; place = h.place + seed_words h.seed; seed = None }, done.0.said)

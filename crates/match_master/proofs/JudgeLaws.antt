@@ -28,7 +28,7 @@ use Rattle.wire_json.specs.declared.submission.Submission.{Submission}
 use Rattle.phase_flow.specs.Action.{acted, come_to, once, words_from}
 use Rattle.phase_flow.specs.Reached.{Reached, table_of as table_at}
 use Rattle.phase_flow.specs.Step.{At, Ends, Step}
-use Rattle.reducer.specs.Answer.{refusal}
+use Rattle.std.specs.Result.{result_err}
 use Rattle.reducer.specs.Fold.{fold, standing as standing_at}
 use Rattle.reducer.specs.Folded.{unless_refused}
 use Rattle.reducer.specs.Steps.{state_after}
@@ -111,11 +111,11 @@ act_in_sheet sheet a act h = subst (SomeInSheet sheet) h (all_in_sheet sheet a)
 place_few : (p d : ℕ) → d ≤ 256 → (p + d) % 2 ^ 64 - p ≤ 256
 place_few p d h = omega arith
 
-step_few : {G : Type 0} → (before : Reached G) (step : Step G) → refusal (come_to before.seed before.place step) ≡ None → (unless_refused before (come_to before.seed before.place step)).place - before.place ≤ 256
+step_few : {G : Type 0} → (before : Reached G) (step : Step G) → result_err (come_to before.seed before.place step) ≡ None → (unless_refused before (come_to before.seed before.place step)).place - before.place ≤ 256
 step_few before (At t left tasks after) h = place_few before.place (256 - length left) (omega arith)
 step_few before (Ends rule) h = cc
 
-drawn_few : {G : Type 0} → (rules : Rules G) (before : Reached G) (seat : ℕ) (act : Act) → refusal (once rules before seat act) ≡ None → (unless_refused before (once rules before seat act)).place - before.place ≤ 256
+drawn_few : {G : Type 0} → (rules : Rules G) (before : Reached G) (seat : ℕ) (act : Act) → result_err (once rules before seat act) ≡ None → (unless_refused before (once rules before seat act)).place - before.place ≤ 256
 unfolding once
 drawn_few rules before seat act h = step_few before (acted rules (table_at before) seat act (words_from before.seed before.place)) h
 
@@ -130,12 +130,12 @@ words_are rules first accepted coming seat Redo a ready = refl
 words_are {G} rules first accepted coming seat (Move id args) a ready =
     let now : Reached G = fold rules first accepted in
     let table : coming.table ≡ unless_refused now (once rules now seat (Move id args)) = ready.table ∙ ap (λ (d : Accepted). (state_after rules (standing_at rules first accepted) d).table) a in
-    let unrefused : refusal (once rules now seat (Move id args)) ≡ None = subst (λ (d : Accepted). answer_on rules (standing_at rules first accepted) d.seat d.act ≡ None) a ready.accepted in
+    let unrefused : result_err (once rules now seat (Move id args)) ≡ None = subst (λ (d : Accepted). answer_on rules (standing_at rules first accepted) d.seat d.act ≡ None) a ready.accepted in
     min_few (coming.table.place - now.place) (subst (λ (t : Reached G). t.place - now.place ≤ 256) (sym table) (drawn_few rules now seat (Move id args) unrefused))
 words_are {G} rules first accepted coming seat (Event event) a ready =
     let now : Reached G = fold rules first accepted in
     let table : coming.table ≡ unless_refused now (once rules now seat (Event event)) = ready.table ∙ ap (λ (d : Accepted). (state_after rules (standing_at rules first accepted) d).table) a in
-    let unrefused : refusal (once rules now seat (Event event)) ≡ None = subst (λ (d : Accepted). answer_on rules (standing_at rules first accepted) d.seat d.act ≡ None) a ready.accepted in
+    let unrefused : result_err (once rules now seat (Event event)) ≡ None = subst (λ (d : Accepted). answer_on rules (standing_at rules first accepted) d.seat d.act ≡ None) a ready.accepted in
     min_few (coming.table.place - now.place) (subst (λ (t : Reached G). t.place - now.place ≤ 256) (sym table) (drawn_few rules now seat (Event event) unrefused))
 
 module _ {X G : Type 0} (rules : X → Rules G) (room : ℕ) where

@@ -27,7 +27,7 @@ use Rattle.phase_flow.specs.Reached.{Reached, table_of}
 use Rattle.phase_flow.specs.Rows.{turn_of_phase, turn_row}
 use Rattle.phase_flow.specs.Step.{At, Ends, Step}
 use Rattle.phase_flow.specs.declared.table.Table.{Table}
-use Rattle.reducer.specs.Answer.{refusal}
+use Rattle.std.specs.Result.{result_err}
 use Rattle.stage_map.specs.Moves.{may, moves_at, phase_moves, place_of, stage_moves}
 use Rattle.stage_map.specs.Parts.{may_on}
 use Rattle.turn_order.specs.Position.{next}
@@ -130,7 +130,7 @@ all_mapped P Q [] each all = tt
 all_mapped P Q (x ∷ list) each all = (each x all.0, all_mapped P Q list each all.1)
 
 module _ {G : Type 0} (rules : Rules G) (calm : IsCalm rules) where
-  accepted_at : (seed : List ℕ) (place : ℕ) (s : Step G) → IsAt s → refusal (action.come_to seed place s) ≡ None
+  accepted_at : (seed : List ℕ) (place : ℕ) (s : Step G) → IsAt s → result_err (action.come_to seed place s) ≡ None
   accepted_at seed place (At t words tasks after) is = refl
   accepted_at seed place (Ends rule) is = absurd is
 
@@ -139,7 +139,7 @@ module _ {G : Type 0} (rules : Rules G) (calm : IsCalm rules) where
   quiet_played t seat is (Done g left (event ∷ queued)) quiet = absurd quiet
   quiet_played t seat is (GaveUp why) quiet = absurd quiet
 
-  pub quiet_accepted : (r : Reached G) (seat id : ℕ) (args : List Arg) → IsQuiet (rules.play r.g r.ctx seat id args (action.words_from r.seed r.place)) → refusal (action.once rules r seat (Move id args)) ≡ None
+  pub quiet_accepted : (r : Reached G) (seat id : ℕ) (args : List Arg) → IsQuiet (rules.play r.g r.ctx seat id args (action.words_from r.seed r.place)) → result_err (action.once rules r seat (Move id args)) ≡ None
   unfolding action.once
   quiet_accepted r seat id args quiet = accepted_at r.seed r.place (action.acted rules (table_of r) seat (Move id args) (action.words_from r.seed r.place)) (quiet_played (table_of r) seat (action.counts rules.sheet id) _ quiet)
 
@@ -148,10 +148,10 @@ module _ {G : Type 0} (rules : Rules G) (calm : IsCalm rules) where
   made_played t seat is (Done g left (EndTurn None ∷ [])) endless made = turning_move_ends rules calm seat is (record t { g = g }) left endless
   made_played t seat is deed endless made = absurd made
 
-  pub made_accepted : (r : Reached G) (seat id : ℕ) (args : List Arg) → ((ctx : Ctx) → (turn_row rules.sheet ctx).max_moves ≡ None) → IsMade (rules.play r.g r.ctx seat id args (action.words_from r.seed r.place)) → refusal (action.once rules r seat (Move id args)) ≡ None
+  pub made_accepted : (r : Reached G) (seat id : ℕ) (args : List Arg) → ((ctx : Ctx) → (turn_row rules.sheet ctx).max_moves ≡ None) → IsMade (rules.play r.g r.ctx seat id args (action.words_from r.seed r.place)) → result_err (action.once rules r seat (Move id args)) ≡ None
   unfolding action.once
   made_accepted r seat id args endless made = accepted_at r.seed r.place (action.acted rules (table_of r) seat (Move id args) (action.words_from r.seed r.place)) (made_played (table_of r) seat (action.counts rules.sheet id) _ endless made)
 
   -- an offered move breaks no rule
   abbrev pub Allowed : Reached G → ℕ → ℕ × List Arg → Type 0
-  Allowed r seat offer = IsAdmitted rules.sheet r.ctx seat (Move offer.0 offer.1) × (refusal (action.once rules r seat (Move offer.0 offer.1)) ≡ None)
+  Allowed r seat offer = IsAdmitted rules.sheet r.ctx seat (Move offer.0 offer.1) × (result_err (action.once rules r seat (Move offer.0 offer.1)) ≡ None)

@@ -8,11 +8,11 @@ use Rattle.phase_flow.specs.Automatic.{with_automatic}
 use Rattle.phase_flow.specs.Comes.{Fails, IsDone}
 use Rattle.phase_flow.specs.declared.flow_no.FlowNo.{FlowNo}
 use Rattle.phase_flow.specs.declared.flow_no.FlowNo.TheVariants.{TooManyEvents, TooManyWords, TooEarly, NoMemory}
-use Rattle.phase_flow.specs.Settle.{next_by, next_task, run, settle}
+use Rattle.phase_flow.specs.Settle.{next_by, run, settle}
 use Rattle.phase_flow.specs.Step.{At, Ends, Step, carry_on}
 
 -- the first of some tasks is next, while the match goes on
-next_is : {G : Type 0} (t : Table G) (words : List ℕ) (tasks : List Task) (go : Task → List Task → Step G) (task : Task) (rest : List Task) → t.ctx.over ≡ None → tasks ≡ task ∷ rest → next_task t words tasks go ≡ go task rest
+next_is : {G : Type 0} (t : Table G) (words : List ℕ) (tasks : List Task) (go : Task → List Task → Step G) (task : Task) (rest : List Task) → t.ctx.over ≡ None → tasks ≡ task ∷ rest → next_by t.ctx.over t words tasks go ≡ go task rest
 next_is t words tasks go task rest o e = ap (λ p. next_by p t words tasks go) o ∙ ap (λ ts. next_by None t words ts go) e
 
 -- nothing is left to do

@@ -10,7 +10,7 @@ use Rattle.phase_flow.specs.declared.flow_no.FlowNo.{FlowNo}
 use Rattle.phase_flow.specs.declared.flow_no.FlowNo.TheVariants.{TooManyEvents, TooManyWords, TooEarly, NoMemory}
 use Rattle.phase_flow.specs.declared.table.Table.{Table}
 use Rattle.phase_flow.specs.declared.task.Task.{Task}
-use Rattle.phase_flow.specs.Settle.{next_task, speaking}
+use Rattle.phase_flow.specs.Settle.{next_by, speaking}
 use Rattle.phase_flow.specs.Step.{At, Ends, Step}
 use Rattle.phase_flow.specs.Turns.{with_active}
 use Rattle.stage_map.specs.Set.{set}
@@ -62,7 +62,7 @@ map_changed sheet event speaker t = t
 
 -- nothing is left to do
 abbrev pub IsDone : {G : Type 0} → Table G → List Task → Type 0
-IsDone {G = G} t tasks = (words : List ℕ) (go : Task → List Task → Step G) → next_task t words tasks go ≡ At t words [] false
+IsDone {G = G} t tasks = (words : List ℕ) (go : Task → List Task → Step G) → next_by t.ctx.over t words tasks go ≡ At t words [] false
 
 -- the task that runs next is the first one, and the others are left
 abbrev pub Heads : {G : Type 0} → Option Task → Table G → List Task → List Task → Type 0

@@ -64,11 +64,8 @@ next_by (Some outcome) t words tasks go = At t words [] false
 next_by None t words [] go = At t words [] false
 next_by None t words (task ∷ tasks) go = go task tasks
 
-abbrev pub next_task : {G : Type 0} → Table G → List ℕ → List Task → (Task → List Task → Step G) → Step G
-next_task t words tasks go = next_by t.ctx.over t words tasks go
-
 -- a table settled, where so many tasks may still begin; `after` says that the last one was a turn's end that put a phase's end in front
 unfoldable pub settle : {G : Type 0} → Rules G → ℕ → Table G → List ℕ → List Task → Bool → Step G
-settle rules zero t words tasks after = next_task t words (with_automatic rules after t tasks) (λ task rest. Ends TooManyEvents)
+settle rules zero t words tasks after = next_by t.ctx.over t words (with_automatic rules after t tasks) (λ task rest. Ends TooManyEvents)
 settle rules (suc n) t words tasks after =
-    next_task t words (with_automatic rules after t tasks) (λ task rest. carry_on (run rules task.event task.speaker t words rest) (settle rules n))
+    next_by t.ctx.over t words (with_automatic rules after t tasks) (λ task rest. carry_on (run rules task.event task.speaker t words rest) (settle rules n))

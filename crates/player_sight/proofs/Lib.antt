@@ -1,5 +1,6 @@
 pub mod NoFloat
 pub mod Depths
+pub mod Objects
 pub mod MemberPut
 pub mod Changes
 pub mod ShownPlain

@@ -4,9 +4,7 @@ use Rattle.serde_json.specs.Data.{Data, object, Members, no_members, put}
 use Rattle.game_sheet.specs.declared.ctx.Ctx.{Ctx}
 use Rattle.move_log.specs.declared.entry.Entry.{Entry}
 use Rattle.sheet_json.specs.Seats.{natural}
-use Rattle.player_sight.specs.CtxData.{ctx_object}
-use Rattle.player_sight.specs.EntryData.{entry_object}
-use Rattle.player_sight.specs.SnapshotData.{snapshot_object}
+use Rattle.player_sight.proofs.Objects.{ctx_object, entry_object, snapshot_object}
 use Rattle.player_sight.specs.Tails.{with_last_members}
 
 pub ctx_put : (active over phase order : Data) (ctx : Ctx) (m m1 m2 m3 m4 last : Members) → m ≡ no_members

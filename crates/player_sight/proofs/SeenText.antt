@@ -11,7 +11,8 @@ use Rattle.move_log.specs.Outline.{args_of, entry_with, outline_of, seen, with_a
 use Rattle.move_log.specs.Redact.{conceals, is_redacted, redact, without_args}
 use Rattle.move_log.specs.declared.entry.Entry.{Entry}
 use Rattle.move_log.specs.declared.outline.Seen.{Seen}
-use Rattle.player_sight.specs.EntryData.{act_data, entry_data, entry_object}
+use Rattle.player_sight.specs.EntryData.{act_data, entry_data}
+use Rattle.player_sight.proofs.Objects.{entry_object}
 use Rattle.player_sight.specs.Parts.{phase_or_null}
 
 move_seen : (sheet : Sheet) (hidden shut : Bool) (id : ℕ) (args : List Arg) → act_data sheet (hidden || shut) (Move id args) ≡ act_data sheet (hidden || shut) (cond shut (Move id []) (Move id args))

@@ -27,18 +27,14 @@ outcome_data Ended = object (member (codes "ended") (boolean true) no_members)
 abbrev pub over_data : Option Outcome → Data
 over_data over = option_map_or outcome_data over null
 
--- the value of a context, given those of its active players, end, phase and play order
-abbrev pub ctx_object : Data → Data → Data → Data → Ctx → Data
-ctx_object active over phase order ctx = object
-    (member (codes "activePlayers") active
+abbrev pub ctx_data : Sheet → Ctx → Data
+ctx_data sheet ctx = object
+    (member (codes "activePlayers") (active_data sheet ctx.active)
     (member (codes "currentPlayer") (natural ctx.current)
-    (member (codes "gameover") over
+    (member (codes "gameover") (over_data ctx.over)
     (member (codes "numMoves") (natural ctx.moves)
     (member (codes "numPlayers") (natural ctx.seats)
-    (member (codes "phase") phase
-    (member (codes "playOrder") order
+    (member (codes "phase") (phase_or_null sheet ctx.phase)
+    (member (codes "playOrder") (naturals ctx.order)
     (member (codes "playOrderPos") (natural ctx.pos)
     (member (codes "turn") (natural ctx.turn) no_members)))))))))
-
-abbrev pub ctx_data : Sheet → Ctx → Data
-ctx_data sheet ctx = ctx_object (active_data sheet ctx.active) (over_data ctx.over) (phase_or_null sheet ctx.phase) (naturals ctx.order) ctx

@@ -45,17 +45,13 @@ act_data sheet hidden (Event e) = event_data sheet e
 act_data sheet hidden Undo = object (member (codes "kind") (string (codes "undo")) no_members)
 act_data sheet hidden Redo = object (member (codes "kind") (string (codes "redo")) no_members)
 
--- the value of an entry, given those of its action and phase
-abbrev pub entry_object : Data → Data → Entry → Data
-entry_object act phase e = object
-    (member (codes "act") act
+abbrev pub entry_data : Sheet → Entry → Data
+entry_data sheet e = object
+    (member (codes "act") (act_data sheet e.hidden e.act)
     (member (codes "number") (natural e.number)
-    (member (codes "phase") phase
+    (member (codes "phase") (phase_or_null sheet e.phase)
     (member (codes "seat") (natural e.seat)
     (member (codes "turn") (natural e.turn) no_members)))))
-
-abbrev pub entry_data : Sheet → Entry → Data
-entry_data sheet e = entry_object (act_data sheet e.hidden e.act) (phase_or_null sheet e.phase) e
 
 abbrev pub log_data : Sheet → List Entry → Data
 log_data sheet log = array (items_of (map (entry_data sheet) log))

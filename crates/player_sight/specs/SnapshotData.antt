@@ -15,9 +15,6 @@ pub record Snap : Type 0 where
   pub g : Data
   pub log : List Entry
 
-abbrev pub snapshot_object : Data → Data → Data → ℕ → Data
-snapshot_object ctx g log number =
-    object (member (codes "ctx") ctx (member (codes "g") g (member (codes "log") log (member (codes "number") (natural number) no_members))))
-
 abbrev pub snapshot_data : Sheet → Snap → Data
-snapshot_data sheet s = snapshot_object (ctx_data sheet s.ctx) s.g (log_data sheet s.log) s.number
+snapshot_data sheet s = object
+    (member (codes "ctx") (ctx_data sheet s.ctx) (member (codes "g") s.g (member (codes "log") (log_data sheet s.log) (member (codes "number") (natural s.number) no_members))))

@@ -18,7 +18,8 @@ use Rattle.undo_redo.specs.Kept.{Kept}
 use Rattle.undo_redo.specs.Moves.{Does, Redoes, Redone, Undoes, Undone}
 use Rattle.undo_redo.specs.StruckList.{Call, Struck, advance, strike, undo_last, redo_first}
 use Rattle.reducer.specs.Accepted.{Accepted}
-use Rattle.reducer.specs.Answer.{answer_on, redo_answer, refusal, undo_answer, undo_broken}
+use Rattle.reducer.specs.Answer.{answer_on, redo_answer, undo_answer, undo_broken}
+use Rattle.std.specs.Result.{result_err}
 use Rattle.reducer.specs.Folded.{folded, unless_refused}
 use Rattle.reducer.specs.Performs.{Performs}
 use Rattle.reducer.specs.Prepared.{Coming, IsReady, Prepares}
@@ -42,12 +43,12 @@ deed_call Redo a d = absurd d
 both : (a b c d : ℕ) → a < b → c < d → (nat_lt a b && nat_lt c d) ≡ true
 both a b c d h k = grind (arith, nat_tests)
 
-ok_of : {G : Type 0} (o : Result (Reached G) GameRule) (r before : Reached G) → refusal o ≡ None → r ≡ unless_refused before o → o ≡ Ok r
+ok_of : {G : Type 0} (o : Result (Reached G) GameRule) (r before : Reached G) → result_err o ≡ None → r ≡ unless_refused before o → o ≡ Ok r
 ok_of (Ok after) r before none e = ap (λ x. Ok x) (sym e)
 ok_of (Err rule) r before none e = absurd (cc)
 
 module _ {G : Type 0} (rules : Rules G) where
-  deed_answer : (s : Standing G) (seat : ℕ) (act : Act) → IsDeed act → answer_on rules s seat act ≡ refusal (once rules s.table seat act)
+  deed_answer : (s : Standing G) (seat : ℕ) (act : Act) → IsDeed act → answer_on rules s seat act ≡ result_err (once rules s.table seat act)
   deed_answer s seat (Move id args) d = refl
   deed_answer s seat (Asks event) d = refl
   deed_answer s seat Undo d = absurd d
@@ -92,7 +93,7 @@ module _ {G : Type 0} (rules : Rules G) where
         room = omega arith;
         active = subst (λ (x : Standing G). may x.table.ctx seat ≡ true) (sym o.shown) active;
         act = known;
-        accepted = deed_answer (standing_at number t) seat act d ∙ ap refusal accepted;
+        accepted = deed_answer (standing_at number t) seat act d ∙ ap result_err accepted;
         number = refl;
         table = sym (deed_table t number a trail d ∙ ap (unless_refused (reached_at t.now)) accepted);
         leads_on = λ _. record { count = more; fits = fits };
@@ -101,8 +102,8 @@ module _ {G : Type 0} (rules : Rules G) where
 
   pub refused_on : (number : ℕ) (t : Kept (Checkpoint G) Accepted) (s : Standing G) (w : Checkpoint G) (seat : ℕ) (act : Act) (why : GameNo) → standing_at number t ≡ s → IsDeed act → w ≡ t.now → Performs rules w seat act (Err why) → Prepares rules s seat act (Err why)
   refused_on number t s w seat act (Broken rule) shown d is h =
-      deed_answer s seat act d ∙ ap (λ (x : Standing G). refusal (once rules x.table seat act)) (sym shown)
-      ∙ ap (λ (v : Checkpoint G). refusal (once rules (reached_at v) seat act)) (sym is) ∙ ap refusal h
+      deed_answer s seat act d ∙ ap (λ (x : Standing G). result_err (once rules x.table seat act)) (sym shown)
+      ∙ ap (λ (v : Checkpoint G). result_err (once rules (reached_at v) seat act)) (sym is) ∙ ap result_err h
   refused_on number t s w seat act NoMemory shown d is h = tt
 
   -- what an undo is answered, by the last action and the checkpoint before it
@@ -175,7 +176,7 @@ module _ {G : Type 0} (rules : Rules G) where
       let sound : IsSound rules (standing_at number t) = at number t s o in
       let seated : a.seat < t.now.table.ctx.seats = may_is_seat rules.sheet number t.now.table.ctx t.now.table.active a.seat sound.table here.active in
       let few : t.now.count < MOST_ACTIONS = let c = o.counted.now in let m = sound.done in let r = here.room in omega arith in
-      let none : refusal (once rules (reached_at t.now) a.seat a.act) ≡ None = sym (deed_answer (standing_at number t) a.seat a.act d) ∙ here.accepted in
+      let none : result_err (once rules (reached_at t.now) a.seat a.act) ≡ None = sym (deed_answer (standing_at number t) a.seat a.act d) ∙ here.accepted in
       let leads : once rules (reached_at t.now) a.seat a.act ≡ Ok (reached_at after) =
       ok_of (once rules (reached_at t.now) a.seat a.act) (reached_at after) (reached_at t.now) none (table ∙ here.table ∙ deed_table t number a trail d) in
       let counted : t.now.count + 1 ≡ after.count = let c = o.counted.now in let l = (here.leads_on d).count in omega arith in

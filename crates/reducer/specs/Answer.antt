@@ -14,10 +14,6 @@ use Rattle.reducer.specs.Folded.{folded}
 use Rattle.reducer.specs.Standing.{Standing}
 use Rattle.std.specs.Result.{result_err}
 
--- the rule that refuses, if one does
-abbrev pub refusal : {G : Type 0} → Result (Reached G) GameRule → Option GameRule
-refusal result = result_err result
-
 -- no event is taken back, and a move where the game says so of the present state
 abbrev pub is_undoable : {G : Type 0} → Rules G → Reached G → Act → Bool
 is_undoable rules now (Move id args) = rules.undoable now.g now.ctx id
@@ -42,7 +38,7 @@ redo_answer (next ∷ undone) seat = if nat_eq next.seat seat then None else Som
 abbrev pub answer_by : {G : Type 0} → Rules G → Reached G → Reached G → List Accepted → List Accepted → ℕ → Act → Option GameRule
 answer_by rules first now done undone seat Undo = undo_answer rules first now done seat
 answer_by rules first now done undone seat Redo = redo_answer undone seat
-answer_by rules first now done undone seat act = refusal (once rules now seat act)
+answer_by rules first now done undone seat act = result_err (once rules now seat act)
 
 abbrev pub answer_on : {G : Type 0} → Rules G → Standing G → ℕ → Act → Option GameRule
 answer_on rules s seat act = answer_by rules s.first s.table s.done s.undone seat act

@@ -7,13 +7,14 @@ use Rattle.phase_flow.specs.Reached.{Reached}
 use Rattle.reducer.specs.Accepted.{Accepted}
 use Rattle.std.specs.Result.{result_unwrap_or}
 
--- an action that is refused leaves it
-abbrev pub unless_refused : {G : Type 0} → Reached G → Result (Reached G) GameRule → Reached G
-unless_refused before result = result_unwrap_or result before
-
+-- an action that is refused leaves it as it was
 abbrev pub folded : {G : Type 0} → Rules G → Reached G → List Accepted → Reached G
 folded rules first [] = first
-folded rules first (a ∷ done) = unless_refused (folded rules first done) (once rules (folded rules first done) a.seat a.act)
+folded rules first (a ∷ done) = let now = folded rules first done in result_unwrap_or (once rules now a.seat a.act) now
+
+-- for the laws: what an action leads to
+abbrev pub unless_refused : {G : Type 0} → Reached G → Result (Reached G) GameRule → Reached G
+unless_refused before result = result_unwrap_or result before
 
 -- what each done action led on from
 abbrev pub came_by : {G : Type 0} → Rules G → Reached G → List Accepted → List (Reached G)

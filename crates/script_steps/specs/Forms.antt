@@ -44,11 +44,9 @@ abbrev pub text_of : List ℕ → Option (List ℕ)
 text_of word = if utf8_valid_len word == length word then Some word else None
 
 -- a match of a game for a number of seats
-abbrev pub opens : List ℕ → ℕ → Option Step
-opens name seats = if may_open name seats then Some (Opens name seats) else None
-
 abbrev pub opening : List ℕ → Option Step
-opening rest = option_and_then (λ p. option_and_then (λ name. option_and_then (opens name) (seats_of p.1)) (text_of p.0)) (parts rest)
+opening rest = option_and_then (λ p. option_and_then (λ name. option_and_then
+    (λ seats. if may_open name seats then Some (Opens name seats) else None) (seats_of p.1)) (text_of p.0)) (parts rest)
 
 -- a line of a session
 abbrev pub saying : List ℕ → List ℕ → Option Step
@@ -66,13 +64,7 @@ abbrev pub leads : List ℕ → List ℕ → Option Step
 leads word rest = if bytes_eq word (codes "open") then opening rest else
     (if bytes_eq word (codes "seed") then option_map Seeds (lower_hex 32 rest) else saying word rest)
 
-abbrev pub by_words : List ℕ → Option (List ℕ × List ℕ) → Option Step
-by_words line words = option_map_or (λ p. leads p.0 p.1) words (alone line)
-
-abbrev pub asked : List ℕ → Option Step
-asked [] = Some Nothing
-asked (b ∷ rest) = if b == 35 then Some Nothing else by_words (b ∷ rest) (parts (b ∷ rest))
-
 -- the step that a line asks for; none where it is in no form
 unfoldable pub step_of : List ℕ → Option Step
-step_of line = asked line
+step_of [] = Some Nothing
+step_of (b ∷ rest) = if b == 35 then Some Nothing else option_map_or (λ p. leads p.0 p.1) (parts (b ∷ rest)) (alone (b ∷ rest))

@@ -17,12 +17,9 @@ argument (Text s) = string s
 abbrev pub arguments : List Arg → Items
 arguments args = items_of (map argument args)
 
--- a whole number of 32 bits with sign
-abbrev pub is_whole : ℤ → Bool
-is_whole z = int_le (negsuc 2147483647) z && int_le z (pos 2147483647)
-
+-- a whole number of 32 bits with sign, or a short text
 abbrev pub is_argument : Arg → Bool
-is_argument (Whole z) = is_whole z
+is_argument (Whole z) = int_le (negsuc 2147483647) z && int_le z (pos 2147483647)
 is_argument (Text s) = is_short s
 
 abbrev pub AreArguments : List Arg → Type 0

@@ -170,9 +170,6 @@ module _ {X G : Type 0} (named : List ℕ → Option X) (rules : X → Rules G) 
     steps_from done zero l = l
     steps_from done (suc left) l = steps_from (done + 1) left (after_step (done + 1) left (takes_step l))
 
-    abbrev pub starts : ℕ → Workload X G
-    starts rooms = begins_round (record { world = new_world rooms; places = []; drawn = 0; held = 0; read = 0 })
-
 -- ---- what it tells
 
 abbrev pub number_line : List ℕ → ℕ → List ℕ
@@ -189,4 +186,5 @@ module _ {X G : Type 0} (rules : X → Rules G) where
 
 module _ {X G : Type 0} (named : List ℕ → Option X) (rules : X → Rules G) (tape words : ℕ → List ℕ) where
   unfoldable pub transcript : ℕ → ℕ → List ℕ
-  transcript rooms steps = summary rules steps (steps_from named rules tape words 0 steps (starts named rules tape words rooms))
+  transcript rooms steps = let fresh = record { world = new_world rooms; places = []; drawn = 0; held = 0; read = 0 } in
+      summary rules steps (steps_from named rules tape words 0 steps (begins_round named rules tape fresh))

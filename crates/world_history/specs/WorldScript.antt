@@ -55,10 +55,7 @@ Done X G = World X G × List ℕ
 abbrev pub prints_word : {X G : Type 0} → World X G → ℕ → List ℕ → Done X G
 prints_word w c word = (w, of_client c word)
 
--- ---- an open, and a leaving by the seat's key
-
-abbrev pub opens : {X G : Type 0} → World X G → Hall X × Option Answer → Done X G
-opens w done = (with_hall w done.0, opened_text done.1)
+-- ---- a leaving by the seat's key
 
 abbrev pub refused_text : List ℕ → List ℕ
 refused_text why = codes "no " ++ why ++ 10 ∷ []
@@ -151,7 +148,7 @@ module _ {X G : Type 0} (named : List ℕ → Option X) (rules : X → Rules G) 
   abbrev pub does : Mark → Step X → World X G → Done X G
   does mark Nothing w = (w, [])
   does mark (Seeds seed) w = (with_hall w (record w.hall { seed = Some seed }), [])
-  does mark (Opens game seats) w = opens w (after_open named rules tape w.hall game seats)
+  does mark (Opens game seats) w = let done = after_open named rules tape w.hall game seats in (with_hall w done.0, opened_text done.1)
   does mark (Attaches c game name seat protocol) w = (attaches rules w c game name seat protocol, [])
   does mark (Acts c asked) w = acts rules (has_starved mark) w c (w.clients c) asked
   does mark (Arrives c) w = arrives named rules tape mark w c (w.up c)
