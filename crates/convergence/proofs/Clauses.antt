@@ -22,7 +22,7 @@ use Rattle.room_history.specs.Room.{latest_session, match_of, room_of, session, 
 use Rattle.room_history.specs.Session.{Session, handful, is_detached, is_looking, number_in, session_state, stream_of}
 use Rattle.room_history.specs.Showing.{showings}
 use Rattle.room_history.specs.Shown.{snapshot_at, snapshots}
-use Rattle.room_history.specs.Sent.{IsInOrder}
+use Rattle.room_history.proofs.Names.{IsInOrder}
 use Rattle.room_history.specs.Sight.{SeesMatch}
 use Rattle.room_history.specs.declared.call.RoomCall.{RoomCall}
 use Rattle.room_history.proofs.Aside.{sent_aside}

@@ -11,14 +11,15 @@ use Rattle.phase_flow.specs.Action.{begin}
 use Rattle.phase_flow.specs.IsGood.{IsGood}
 use Rattle.phase_flow.specs.Reached.{Reached}
 use Rattle.reducer.specs.Accepted.{Accepted}
-use Rattle.room_history.specs.Does.{Room, room_after, room_after_want, with_new_match, with_match, with_left_seat, with_removed_if, with_session, with_fate, with_one, after_action, after_leaving, after_submission, after_want, new_session, is_left, left_where, with_cleared}
+use Rattle.room_history.specs.Does.{Room, room_after, room_after_want, with_new_match, with_match, with_left_seat, with_removed_if, with_session, with_fate, with_one, after_submission, new_session, is_left, left_where, with_cleared}
 use Rattle.room_history.specs.Item.{GameAnswer, Item, Left, Detached, Starved, Submitted, Took}
 use Rattle.room_history.specs.Match.{Match, number_of, table_of}
 use Rattle.room_history.specs.Piece.{State, Open, Ended, Closed}
-use Rattle.room_history.specs.Reply.{Fate, Unheard, Turned, Goes, fate, fate_by, fate_in, game_answer, last_serial, seats_fit, new_match, created_match, named_match, reseated_match, attached_match}
-use Rattle.room_history.specs.Room.{all_matches, match_in, match_of, room_of, standing}
+use Rattle.room_history.specs.Reply.{Fate, Unheard, Turned, Goes, fate, fate_in, game_answer, last_serial, seats_fit, new_match, created_match, named_match, reseated_match, attached_match}
+use Rattle.room_history.specs.Room.{match_of, room_of, standing}
 use Rattle.room_history.specs.Rule.{has_key}
-use Rattle.room_history.specs.Session.{Session, after_detach, after_take, handful, is_detached, is_looking, latest_state, number_in, session_state, with_item, with_latest}
+use Rattle.room_history.specs.Session.{Session, handful, is_detached, is_looking, latest_state, number_in, session_state, with_item, with_latest}
+use Rattle.room_history.proofs.Names.{after_action, after_leaving, after_want, fate_by, all_matches, match_in, after_detach, after_take}
 use Rattle.room_history.specs.Shown.{snapshot}
 use Rattle.room_history.specs.Verdict.{first_reason, game_reason, is_named, match_accepting, public_reason, with_act}
 use Rattle.room_history.specs.declared.call.RoomCall.{RoomCall}

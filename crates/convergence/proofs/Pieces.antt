@@ -10,7 +10,8 @@ use Rattle.wire_json.specs.declared.server.ServerMsg.TheVariants.{No, Ok as Acce
 use Rattle.room_history.specs.Piece.{Piece, Line, Mark, End, State, Open, Ended, Closed, counted_size, state_of, waiting_size}
 use Rattle.room_history.specs.Session.{Session, stream_of}
 use Rattle.room_history.specs.Showing.{Showing, showings, showings_above, showings_up_to, snapshot_of_number}
-use Rattle.room_history.specs.Stream.{cut, game_pieces, item_pieces, line_or_end, lines_of_showings, long_list, most_waiting, public_reason_on, stream, verdict_pieces, with_piece}
+use Rattle.room_history.specs.Stream.{cut, item_pieces, lines_of_showings, long_list, most_waiting, public_reason_on, stream, verdict_pieces, with_piece}
+use Rattle.room_history.proofs.Names.{line_or_end}
 use Rattle.room_history.proofs.Growing.{CameTo, InOrder, number_at}
 use Rattle.wire_json.specs.declared.reason.Reason.{Reason}
 use Rattle.convergence.specs.Lines.{AllLines}
@@ -80,15 +81,9 @@ module _ (Has : ServerMsg → Type 0) (oks : (n ticket : ℕ) → n ≤ 42949672
   shown_lines [] h = tt
   shown_lines (t ∷ shown) h = (h.0, shown_lines shown h.1)
 
-  game_lines : (n ticket : ℕ) (answer : GameAnswer) → n + 1 ≤ 4294967295 → ticket ≤ 4294967295 → AllLines Has (game_pieces n ticket answer)
-  game_lines n ticket IsAccepted h t = (oks (n + 1) ticket h t, tt)
-  game_lines n ticket (Refused reason) h t = (nos n reason ticket (omega arith) t, tt)
-  game_lines n ticket Starved h t = tt
-  game_lines n ticket Unasked h t = tt
-
   verdict_lines : (n ticket : ℕ) (reason : Option Reason) (answer : GameAnswer) → n + 1 ≤ 4294967295 → ticket ≤ 4294967295 → AllLines Has (verdict_pieces n ticket reason answer)
-  verdict_lines n ticket None IsAccepted h t = game_lines n ticket IsAccepted h t
-  verdict_lines n ticket None (Refused reason) h t = game_lines n ticket (Refused reason) h t
+  verdict_lines n ticket None IsAccepted h t = (oks (n + 1) ticket h t, tt)
+  verdict_lines n ticket None (Refused reason) h t = (nos n reason ticket (omega arith) t, tt)
   verdict_lines n ticket None Unasked h t = tt
   verdict_lines n ticket reason Starved h t = tt
   verdict_lines n ticket (Some reason) IsAccepted h t = (nos n reason ticket (omega arith) t, tt)

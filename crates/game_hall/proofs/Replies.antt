@@ -11,7 +11,8 @@ use Rattle.game_hall.specs.Counts.{accepts, hands_out, refuses}
 use Rattle.room_history.specs.Does.{Room, reply_to}
 use Rattle.room_history.specs.Match.{Match}
 use Rattle.room_history.specs.Piece.{Closed, Ended, Open, Piece, State}
-use Rattle.room_history.specs.Reply.{Fate, Goes, Turned, Unheard, attached_match, created_match, fate, last_serial, lets_in, looked_match, match_row, named_match, new_match, open_match, reply_by, reseated_match, roster_reply, seats_fit, submit_reply, with_roster}
+use Rattle.room_history.specs.Reply.{Fate, Goes, Turned, Unheard, attached_match, created_match, fate, last_serial, looked_match, match_row, named_match, new_match, open_match, reply_by, reseated_match, roster_reply, seats_fit, submit_reply}
+use Rattle.room_history.proofs.Names.{lets_in, with_roster}
 use Rattle.room_history.specs.Room.{reply, room_of}
 use Rattle.room_history.specs.Session.{Session, detach_reply, latest_state, latest_take_reply, session_state, stream_of, take_reply_in}
 use Rattle.room_history.specs.declared.call.RoomCall.{RoomCall}

@@ -10,7 +10,8 @@ use Rattle.room_history.specs.Match.{Match}
 use Rattle.room_history.specs.Piece.{State}
 use Rattle.room_history.specs.Reply.{attached_match, looked_match, match_row, named_match, open_match, reply_by}
 use Rattle.room_history.specs.Room.{reply, room_of, standing}
-use Rattle.room_history.specs.Session.{Session, latest_state, latest_take_reply, take_reply}
+use Rattle.room_history.specs.Session.{Session, latest_state, latest_take_reply}
+use Rattle.room_history.proofs.Names.{take_reply}
 use Rattle.room_history.specs.Stream.{stream}
 use Rattle.room_history.specs.Shown.{snapshot}
 use Rattle.player_sight.specs.SnapshotData.{snapshot_data}

@@ -10,10 +10,6 @@ use Rattle.room_history.specs.Match.{Match}
 use Rattle.room_history.specs.Shown.{snapshot}
 use Rattle.wire_json.specs.MatchText.{match_text}
 
--- the match's name in a room
-abbrev pub name_in : ℕ → Match GameKind AnyG → Name
-name_in room m = record { room = room; serial = m.serial }
-
 -- a match by its name, with what is seen of it
 abbrev pub shown_text : Name → List ℕ → List ℕ
 shown_text name view = codes "match " ++ match_text name ++ codes "\nview " ++ view ++ 10 ∷ []
@@ -21,7 +17,7 @@ shown_text name view = codes "match " ++ match_text name ++ codes "\nview " ++ v
 -- the match that stands
 abbrev pub standing_text : ℕ → Option (Match GameKind AnyG) → List ℕ
 standing_text room None = codes "match -\n"
-standing_text room (Some m) = shown_text (name_in room m) (compact_text (snapshot_data (any_rules m.game).sheet (snapshot any_rules m None)))
+standing_text room (Some m) = shown_text (record { room = room; serial = m.serial }) (compact_text (snapshot_data (any_rules m.game).sheet (snapshot any_rules m None)))
 
 abbrev pub replay_text : ℕ → ℕ → Option (Match GameKind AnyG) → List ℕ
 replay_text room records standing = codes "records " ++ decimal records ++ 10 ∷ standing_text room standing

@@ -18,7 +18,10 @@ use Rattle.room_journal.specs.declared.room_book.RoomBook.{RoomBook}
 use Rattle.wire_json.specs.declared.protocol.Protocol.TheVariants.{One}
 use Rattle.wire_json.specs.declared.server.ServerMsg.{ServerMsg}
 use Rattle.wire_json.specs.declared.server.ServerMsg.TheVariants.{Sync}
-use Rattle.journal_replay.specs.ReplayText.{name_in}
+
+-- the match's name in a room
+abbrev pub name_in : ℕ → Match GameKind AnyG → Name
+name_in room m = record { room = room; serial = m.serial }
 
 abbrev pub standing_name : ℕ → Option (Match GameKind AnyG) → Option Name
 standing_name room standing = option_map (λ (m : Match GameKind AnyG). name_in room m) standing

@@ -30,7 +30,8 @@ use Rattle.wire_json.specs.declared.server.ServerMsg.TheVariants.{Change, Ok as 
 use Rattle.wire_json.specs.ServerText.{text}
 use Rattle.room_history.specs.Outbox.{Attachment}
 use Rattle.room_history.specs.Piece.{Closed, Ended, Open, State}
-use Rattle.room_history.specs.Reply.{Goes, attached_match, fate_by, lets_in, named_match, open_match, reply_by, submit_reply}
+use Rattle.room_history.specs.Reply.{Goes, attached_match, named_match, open_match, reply_by, submit_reply}
+use Rattle.room_history.proofs.Names.{fate_by, lets_in}
 use Rattle.room_history.specs.Showing.{newest_entry}
 use Rattle.room_history.specs.Shown.{entry_of, log_of, snapshot}
 use Rattle.room_history.specs.Verdict.{first_reason, match_accepting}

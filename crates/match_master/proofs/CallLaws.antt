@@ -22,7 +22,8 @@ use Rattle.wire_json.specs.declared.server.ServerMsg.TheVariants.{No, Ok as Acce
 use Rattle.wire_json.specs.ServerText.{text}
 use Rattle.room_history.specs.Outbox.{Attachment, Outbox, line_or_lagging, outbox_with, unless_ended}
 use Rattle.room_history.specs.Piece.{End, Line, Mark, counted_size}
-use Rattle.room_history.specs.Reply.{Fate, Goes, Turned, Unheard, attached_match, created_match, fate_by, looked_match, match_row, named_match, reply_by, reseated_match, submit_reply}
+use Rattle.room_history.specs.Reply.{Fate, Goes, Turned, Unheard, attached_match, created_match, looked_match, match_row, named_match, reply_by, reseated_match, submit_reply}
+use Rattle.room_history.proofs.Names.{fate_by}
 use Rattle.room_history.specs.Session.{detach_reply}
 use Rattle.room_history.specs.Showing.{update_message}
 use Rattle.room_history.specs.Shown.{snapshot}

@@ -5,7 +5,8 @@ use Rattle.std.specs.Map.{lookup}
 use Rattle.game_trait.specs.Rules.{Rules}
 use Rattle.room_object.specs.Entry.{Entry, entry}
 use Rattle.seat_roster.specs.Roster.{is_empty, join, rename, leave}
-use Rattle.room_history.specs.Does.{Room, room_after, with_cleared, with_each, with_fate, with_left_seat, with_match, with_new_match, with_one, with_removed_if, with_session, after_leaving, after_submission}
+use Rattle.room_history.specs.Does.{Room, room_after, with_cleared, with_each, with_fate, with_left_seat, with_match, with_new_match, with_one, with_removed_if, with_session, after_submission}
+use Rattle.room_history.proofs.Names.{after_leaving}
 use Rattle.room_history.specs.Held.{attachment_after, reply_held}
 use Rattle.room_history.specs.Match.{Match}
 use Rattle.room_history.specs.Others.{KeepsAll}

@@ -1,6 +1,7 @@
 -- What each call makes of what a Book holds.
 use Rattle.std.specs.Prelude.{◌≡◌, ◌+◌, ◌==◌, ℕ, nat_eq, List, [], ◌∷◌, ◌++◌, Bool, true, false, if◌then◌else◌, MatchBool, is_some, Option, Some, None, option_map, Result, Ok, Err}
 use Rattle.std.specs.Map.{lookup}
+use Rattle.std.specs.Option.{option_map_or}
 use Rattle.indexmap.specs.IndexMap.{insert_entry}
 use Rattle.game_sheet.specs.Viewer.{Viewer, seat_of}
 use Rattle.game_trait.specs.Rules.{Rules}
@@ -11,7 +12,7 @@ use Rattle.reducer.specs.Prepared.{Coming}
 use Rattle.reducer.specs.Standing.{Standing}
 use Rattle.reducer.specs.Steps.{state_after}
 use Rattle.seat_roster.specs.Player.{Seats}
-use Rattle.seat_roster.specs.Roster.{is_empty, join, rename, leave, public_rows}
+use Rattle.seat_roster.specs.Roster.{is_empty, join, key_fits, rename, leave, public_rows}
 use Rattle.wire_json.specs.declared.match_row.MatchRow.{MatchRow}
 use Rattle.wire_json.specs.declared.protocol.Protocol.{Protocol}
 use Rattle.wire_json.specs.declared.reason.Reason.{Reason}
@@ -21,8 +22,8 @@ use Rattle.room_history.specs.Match.{Match, number_of}
 use Rattle.wire_json.specs.declared.server.ServerMsg.TheVariants.{No, Ok as Accepts, Sync}
 use Rattle.wire_json.specs.ServerText.{text}
 use Rattle.room_history.specs.Outbox.{Attachment}
-use Rattle.room_history.specs.Reply.{Fate, Unheard, Turned, Goes, created_match, fate_by, lets_in, named_match, reseated_match, submit_reply}
-use Rattle.room_history.specs.Verdict.{first_reason}
+use Rattle.room_history.specs.Piece.{Open}
+use Rattle.room_history.specs.Reply.{Fate, Unheard, Turned, Goes, created_match, fate_in, named_match, reseated_match, submit_reply}
 use Rattle.room_history.specs.declared.call.RoomCall.{RoomCall}
 use Rattle.room_history.specs.declared.call.RoomCall.TheVariants.{Create, Join, Rename, Leave, Submit, Clear}
 use Rattle.room_history.specs.declared.reply.RoomReply.{RoomReply}
@@ -49,7 +50,7 @@ unless_key false = Some answer.Unauthorized
 abbrev pub barred_by : Option (ℕ × Seats) → Bool → ℕ → Viewer → Option RoomReply
 barred_by at true serial viewer = Some answer.AlreadyAttached
 barred_by None false serial viewer = Some answer.NoMatch
-barred_by (Some at) false serial viewer = if at.0 == serial then unless_key (lets_in at.1 viewer) else Some answer.NoMatch
+barred_by (Some at) false serial viewer = if at.0 == serial then unless_key (option_map_or (λ claim. key_fits at.1 claim.0 claim.1) viewer true) else Some answer.NoMatch
 
 -- what the player of a seat, or a spectator, sees of a state with its log
 abbrev pub seen_at : {G : Type 0} → Rules G → Standing G → List Entry → Option ℕ → Snap
@@ -130,8 +131,8 @@ module _ {X G : Type 0} (rules : X → Rules G) where
   SubmitDoes old pass s reply new None standing = Does old reply new answer.NotAttached old
   SubmitDoes old pass s reply new (Some viewer) None = Does old reply new answer.NotAttached old
   SubmitDoes old pass s reply new (Some viewer) (Some m) =
-      Does old reply new (submit_reply (fate_by rules old.room m viewer s (first_reason rules old.room m viewer s)))
-      (after_fate old pass s.ticket m (fate_by rules old.room m viewer s (first_reason rules old.room m viewer s)))
+      Does old reply new (submit_reply (fate_in rules old.room (Some m) Open viewer s))
+      (after_fate old pass s.ticket m (fate_in rules old.room (Some m) Open viewer s))
 
 -- how many matches were made, and which stands, after a call
 abbrev pub serials_made : {X G : Type 0} → ℕ → Result (Match X G) RoomReply → ℕ

@@ -31,10 +31,11 @@ use Rattle.reducer.specs.Fold.{answer}
 use Rattle.room_history.proofs.Growth.{grown}
 use Rattle.room_history.proofs.Keeps.{Reseated, reseated}
 use Rattle.room_history.proofs.RuleLaws.{IsAdmitted as IsAsked, or_none, public_admits}
-use Rattle.room_history.specs.Does.{Room, room_after, room_after_want, with_cleared, with_fate, with_left_seat, with_match, with_new_match, with_removed_if, with_session, with_each, after_leaving}
+use Rattle.room_history.specs.Does.{Room, room_after, room_after_want, with_cleared, with_fate, with_left_seat, with_match, with_new_match, with_removed_if, with_session, with_each}
 use Rattle.room_history.specs.Match.{Match, number_of, table_of}
 use Rattle.room_history.specs.Piece.{State, Open, Ended, Closed}
-use Rattle.room_history.specs.Reply.{Fate, Goes, Turned, Unheard, attached_match, created_match, fate, fate_by, fate_in, last_serial, named_match, new_match, reseated_match, seats_fit, submit_reply}
+use Rattle.room_history.specs.Reply.{Fate, Goes, Turned, Unheard, attached_match, created_match, fate, fate_in, last_serial, named_match, new_match, reseated_match, seats_fit, submit_reply}
+use Rattle.room_history.proofs.Names.{after_leaving, fate_by}
 use Rattle.room_history.specs.Room.{latest_in, latest_session, reply as reply_to_entry, room_of, standing}
 use Rattle.room_history.specs.Rule.{first_broken, has_act as has_asked, has_key, is_allowed, is_alone, is_undo_or_redo, is_kind, public, seat_rules}
 use Rattle.room_history.specs.Session.{Session, latest_state, session_state}

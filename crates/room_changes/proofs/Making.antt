@@ -21,10 +21,11 @@ use Rattle.wire_json.specs.declared.submission.Submission.{Submission}
 use Rattle.wire_json.specs.Resolve.{act_of, ignores_number}
 use Rattle.room_history.specs.Course.{IsOpen}
 use Rattle.wire_json.specs.declared.protocol.Protocol.{Protocol}
-use Rattle.room_history.specs.Does.{Room, room_after, room_after_want, reply_to, with_new_match, with_match, with_cleared, with_left_seat, with_removed_if, with_each, with_session, with_fate, with_one, after_leaving, after_submission}
+use Rattle.room_history.specs.Does.{Room, room_after, room_after_want, reply_to, with_new_match, with_match, with_cleared, with_left_seat, with_removed_if, with_each, with_session, with_fate, with_one, after_submission}
 use Rattle.room_history.specs.Match.{Match, number_of, table_of}
 use Rattle.room_history.specs.Piece.{State, Open, Ended, Closed}
-use Rattle.room_history.specs.Reply.{Fate, Unheard, Turned, Goes, created_match, fate, fate_by, fate_in, last_serial, looked_match, named_match, new_match, reply_by, reseated_match, seats_fit, submit_reply, with_roster, attached_match}
+use Rattle.room_history.specs.Reply.{Fate, Unheard, Turned, Goes, created_match, fate, fate_in, last_serial, looked_match, named_match, new_match, reply_by, reseated_match, seats_fit, submit_reply, attached_match}
+use Rattle.room_history.proofs.Names.{after_leaving, fate_by, with_roster}
 use Rattle.room_history.specs.Room.{room_of, reply, latest_seat, seat_in}
 use Rattle.room_history.specs.Rule.{first_broken, has_key, most_actions, public, is_undo_or_redo, is_alone, has_act, seat_rules}
 use Rattle.room_history.specs.Session.{Session, session_state, latest_state}
@@ -37,7 +38,8 @@ use Rattle.room_history.specs.declared.reply.RoomReply.TheVariants as answer
 use Rattle.room_history.proofs.Keeps.{Listed, kept as kept_room}
 use Rattle.room_history.proofs.Seating.{Seated, Sits, seated}
 use Rattle.room_changes.specs.ChangesOf.{act_by, change_asked, change_made, changes_of, is_accepted}
-use Rattle.room_changes.specs.Kept.{Kept, acted_by, claim, kept, kept_from, kept_with, submission, with_created, with_left, with_none, with_reseated}
+use Rattle.room_changes.proofs.Names.{with_created, with_left, with_none, with_reseated}
+use Rattle.room_changes.specs.Kept.{Kept, acted_by, claim, kept, kept_from, kept_with, submission}
 use Rattle.room_changes.specs.declared.change.Change.{Change}
 use Rattle.room_changes.specs.declared.change.Change.TheVariants as change
 use Rattle.std.specs.Option.{option_map_or, option_or}

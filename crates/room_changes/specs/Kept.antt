@@ -4,14 +4,14 @@ use Rattle.std.specs.Prelude.{ℕ, List, [], ◌∷◌, if◌then◌else◌, Opt
 use Rattle.std.specs.Result.{result_ok}
 use Rattle.game_sheet.specs.Viewer.{Viewer}
 use Rattle.game_trait.specs.Rules.{Rules}
-use Rattle.seat_roster.specs.Player.{Player, player_at}
+use Rattle.seat_roster.specs.Player.{Player, Seats, player_at}
 use Rattle.seat_roster.specs.Roster.{is_empty, join, rename, leave}
+use Rattle.seat_roster.specs.declared.refusal.RosterNo.{RosterNo}
 use Rattle.wire_json.specs.declared.asked.Asked.{Asked}
 use Rattle.wire_json.specs.declared.submission.Submission.{Submission}
 use Rattle.room_history.specs.Match.{Match, number_of}
 use Rattle.room_history.specs.Reply.{created_match, looked_match, reseated_match}
 use Rattle.room_history.specs.Verdict.{first_reason, match_accepting}
-use Rattle.room_history.specs.declared.reply.RoomReply.{RoomReply}
 use Rattle.room_changes.specs.declared.change.Change.{Change}
 use Rattle.room_changes.specs.declared.change.Change.TheVariants as change
 use Rattle.std.specs.Option.{option_map_or}
@@ -20,19 +20,9 @@ pub record Kept (X G : Type 0) : Type 0 where
   pub serials : ℕ
   pub standing : Option (Match X G)
 
-abbrev pub with_created : {X G : Type 0} → Result (Match X G) RoomReply → Option (Kept X G)
-with_created made = option_map (λ m. record { serials = m.serial; standing = Some m }) (result_ok made)
-
-abbrev pub with_reseated : {X G : Type 0} → ℕ → Result (Match X G) RoomReply → Option (Kept X G)
-with_reseated serials made = option_map (λ m. record { serials = serials; standing = Some m }) (result_ok made)
-
--- a match goes with its last player
-abbrev pub with_left : {X G : Type 0} → ℕ → Result (Match X G) RoomReply → Option (Kept X G)
-with_left serials made = option_map (λ m. record { serials = serials; standing = if is_empty m.roster then None else Some m }) (result_ok made)
-
--- and where it is cleared
-abbrev pub with_none : {X G : Type 0} → ℕ → Result (Match X G) RoomReply → Option (Kept X G)
-with_none serials made = option_map (λ m. record { serials = serials; standing = None }) (result_ok made)
+-- the match that stands, with other players at its seats
+abbrev pub reseated : {X G : Type 0} → Option (Match X G) → (Seats → Result Seats RosterNo) → Option (Match X G)
+reseated standing change = result_ok (reseated_match (looked_match standing None) change)
 
 abbrev pub claim : ℕ → Player → Viewer
 claim seat player = Some (seat, player.key)
@@ -47,17 +37,16 @@ module _ {X G : Type 0} (rules : X → Rules G) (room : ℕ) where
   acted_by m seat asked (Some player) = option_map_or (λ reason. None) (first_reason rules room m (claim seat player) (submission room m player asked))
       (Some (match_accepting rules m (claim seat player) (submission room m player asked)))
 
-  abbrev pub acted : Option (Match X G) → ℕ → Asked → Option (Match X G)
-  acted standing seat asked = option_and_then (λ m. acted_by m seat asked (player_at m.roster seat)) standing
-
-  -- what one more change makes; none where the room doesn't accept it
+  -- what one more change makes; none where the room doesn't accept it. A match goes with its last player, and where it is cleared
   abbrev pub kept_with : Kept X G → Change X → Option (Kept X G)
-  kept_with k (change.Create game seats seed) = with_created (created_match rules k.serials k.standing game seats seed)
-  kept_with k (change.Join seat name key) = with_reseated k.serials (reseated_match (looked_match k.standing None) (λ roster. join roster seat name key))
-  kept_with k (change.Rename seat key name) = with_reseated k.serials (reseated_match (looked_match k.standing None) (λ roster. rename roster seat key name))
-  kept_with k (change.Leave seat key) = with_left k.serials (reseated_match (looked_match k.standing None) (λ roster. leave roster seat key))
-  kept_with k change.Clear = with_none k.serials (looked_match k.standing None)
-  kept_with k (change.Act seat asked) = option_map (λ m. record { serials = k.serials; standing = Some m }) (acted k.standing seat asked)
+  kept_with k (change.Create game seats seed) =
+      option_map (λ m. record { serials = m.serial; standing = Some m }) (result_ok (created_match rules k.serials k.standing game seats seed))
+  kept_with k (change.Join seat name key) = option_map (λ m. record k { standing = Some m }) (reseated k.standing (λ roster. join roster seat name key))
+  kept_with k (change.Rename seat key name) = option_map (λ m. record k { standing = Some m }) (reseated k.standing (λ roster. rename roster seat key name))
+  kept_with k (change.Leave seat key) = option_map (λ m. record k { standing = if is_empty m.roster then None else Some m }) (reseated k.standing (λ roster. leave roster seat key))
+  kept_with k change.Clear = option_map (λ m. record k { standing = None }) (result_ok (looked_match k.standing None))
+  kept_with k (change.Act seat asked) =
+      option_map (λ m. record k { standing = Some m }) (option_and_then (λ m. acted_by m seat asked (player_at m.roster seat)) k.standing)
 
   abbrev pub kept_from : Kept X G → List (Change X) → Option (Kept X G)
   kept_from k [] = Some k

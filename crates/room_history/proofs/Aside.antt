@@ -7,9 +7,9 @@ use Rattle.wire_json.specs.declared.server.ServerMsg.{ServerMsg}
 use Rattle.wire_json.specs.declared.server.ServerMsg.TheVariants.{Bye as Farewell}
 use Rattle.wire_json.specs.ServerText.{text}
 use Rattle.room_history.specs.Piece.{Closed, End, Ended, Line, Mark, Open, Piece, State, all_lines, counted_size, lines_to_mark, message_lines, message_lines_to_mark, state_after_take, state_of, waiting_size}
-use Rattle.room_history.specs.Sent.{IsInOrder}
 use Rattle.room_history.specs.Session.{Session}
-use Rattle.room_history.specs.Stream.{cut, line_or_end, most_waiting, stream, with_piece}
+use Rattle.room_history.specs.Stream.{cut, most_waiting, stream, with_piece}
+use Rattle.room_history.proofs.Names.{IsInOrder, line_or_end}
 use Rattle.room_history.proofs.Sessions.{Good, pieces_of}
 
 pub out_first : (ps : List Piece) → IsFirstPart (message_lines_to_mark ps) (message_lines ps)

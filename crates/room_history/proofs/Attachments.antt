@@ -5,14 +5,15 @@ use Rattle.room_object.specs.Entry.{Entry, entry}
 use Rattle.seat_roster.specs.Roster.{is_empty, join, rename, leave}
 use Rattle.wire_json.specs.declared.protocol.Protocol.{Protocol}
 use Rattle.game_sheet.specs.Viewer.{Viewer}
-use Rattle.room_history.specs.Does.{Room, reply_to, with_new_match, with_match, with_left_seat, with_removed_if, with_session, with_each, after_leaving, new_session, with_cleared}
+use Rattle.room_history.specs.Does.{Room, reply_to, with_new_match, with_match, with_left_seat, with_removed_if, with_session, with_each, new_session, with_cleared}
 use Rattle.room_history.specs.Held.{attachment_after, attachment_after_attach, attachment_after_leave, attachment_after_submission, attachment_fate, attachment_with, reply_held, attachment_after_clear}
 use Rattle.room_history.specs.Match.{Match}
 use Rattle.room_history.specs.Outbox.{Attachment, attachment_of, outbox_in, with_outbox}
 use Rattle.room_history.specs.Piece.{Piece, Mark, State, Open, Ended, Closed}
 use Rattle.room_history.specs.Reply.{created_match, named_match, reseated_match, attached_match, fate, fate_in, submit_reply, reply_by}
 use Rattle.room_history.specs.Room.{room_of, reply as reply_after}
-use Rattle.room_history.specs.Session.{Session, after_take, after_detach, detach_reply, latest_state, session_state, stream_of, with_latest}
+use Rattle.room_history.specs.Session.{Session, detach_reply, latest_state, session_state, stream_of, with_latest}
+use Rattle.room_history.proofs.Names.{after_leaving, after_take, after_detach}
 use Rattle.room_history.specs.declared.call.RoomCall.{RoomCall}
 use Rattle.room_history.specs.declared.call.RoomCall.TheVariants.{Create, Join, Rename, Leave, Look, Attach, Submit, Take, Detach, Clear}
 use Rattle.room_history.specs.declared.reply.RoomReply.{RoomReply}

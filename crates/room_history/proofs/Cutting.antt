@@ -7,7 +7,8 @@ use Rattle.wire_json.specs.declared.server.ServerMsg.TheVariants.{Bye as Farewel
 use Rattle.wire_json.specs.ServerText.{text}
 use Rattle.room_history.specs.Piece.{Closed, End, Ended, Line, Mark, Open, Piece, State, all_lines, counted_size, lines_to_mark, message_lines, state_after_take, state_of, waiting_lines, waiting_size}
 use Rattle.room_history.specs.Session.{lines_handed_out}
-use Rattle.room_history.specs.Stream.{cut, line_or_end, most_waiting, with_piece}
+use Rattle.room_history.specs.Stream.{cut, most_waiting, with_piece}
+use Rattle.room_history.proofs.Names.{line_or_end}
 
 pub grows_same : (ps : List Piece) → Grows ps ps
 grows_same ps = record { more = []; is = refl; was_open = λ h. h; stops = λ h. refl }

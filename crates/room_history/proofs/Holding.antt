@@ -6,7 +6,7 @@ use Rattle.player_sight.specs.SnapshotData.{Snap}
 use Rattle.reducer.specs.Accepted.{Accepted as Deed}
 use Rattle.wire_json.specs.declared.reason.Reason.{Reason}
 use Rattle.room_history.specs.Course.{IsOpen}
-use Rattle.room_history.specs.Does.{after_action, after_leaving, is_left}
+use Rattle.room_history.specs.Does.{is_left}
 use Rattle.room_history.specs.Held.{update_for}
 use Rattle.room_history.specs.Item.{Accepted, Detached, GameAnswer, Item, Left, Refused, Starved, Submitted, Took, Unasked, number_after}
 use Rattle.room_history.specs.Judgment.{present_snapshot}
@@ -15,7 +15,7 @@ use Rattle.wire_json.specs.declared.server.ServerMsg.{ServerMsg}
 use Rattle.wire_json.specs.declared.server.ServerMsg.TheVariants.{No, Ok as Yes}
 use Rattle.room_history.specs.Outbox.{outbox_in, outbox_of, with_piece_in, with_pieces_in}
 use Rattle.room_history.specs.Piece.{Closed, End, Ended, Line, Mark, Open, Piece, State, state_of}
-use Rattle.room_history.specs.Session.{Session, after_detach, after_take, is_detached, is_looking, number_in, session_state, stream_of, with_item}
+use Rattle.room_history.specs.Session.{Session, is_detached, is_looking, number_in, session_state, stream_of, with_item}
 use Rattle.room_history.specs.Showing.{showings, snapshot_of_number, update_message}
 use Rattle.room_history.specs.Shown.{snapshot}
 use Rattle.room_history.specs.Stream.{cut, public_reason_on, stream, verdict_pieces}
@@ -29,7 +29,7 @@ use Rattle.room_history.proofs.Isolation.{public_found}
 use Rattle.room_history.proofs.Outboxes.{kept_cut}
 use Rattle.room_history.proofs.Sessions.{Good, pieces_of, with_snap, plus_item, item_adds, snap_pieces, accepted_pieces, says_in, told_next, next_told}
 use Rattle.std.specs.Option.{option_or, option_map_or}
-use Rattle.room_history.specs.Reply.{answer_by}
+use Rattle.room_history.proofs.Names.{after_action, after_leaving, after_detach, after_take, answer_by}
 
 kept_all : (more ps : List Piece) → outbox_in (state_of (cut (more ++ ps))) (cut (more ++ ps)) ≡ with_pieces_in more (outbox_in (state_of (cut ps)) (cut ps))
 kept_all [] ps = refl

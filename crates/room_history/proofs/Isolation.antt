@@ -14,7 +14,8 @@ use Rattle.room_history.specs.Judgment.{present_snapshot}
 use Rattle.room_history.specs.Match.{Match}
 use Rattle.room_history.specs.Piece.{Piece, all_lines, lines_to_mark, message_lines, message_lines_to_mark}
 use Rattle.room_history.specs.Room.{room_of}
-use Rattle.room_history.specs.Session.{Session, after_take, handful, is_detached, number_in, stream_of}
+use Rattle.room_history.specs.Session.{Session, handful, is_detached, number_in, stream_of}
+use Rattle.room_history.proofs.Names.{after_take}
 use Rattle.room_history.specs.Showing.{showings, snapshot_of_number}
 use Rattle.room_history.specs.Shown.{snapshot}
 use Rattle.room_history.specs.Stream.{long_list, public_reason_on, stream}

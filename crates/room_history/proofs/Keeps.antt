@@ -11,13 +11,14 @@ use Rattle.seat_roster.specs.declared.refusal.RosterNo.{RosterNo}
 use Rattle.wire_json.specs.declared.protocol.Protocol.{Protocol}
 use Rattle.wire_json.specs.declared.reason.Reason.{Reason}
 use Rattle.room_history.specs.Course.{Grows, IsOpen, SameView}
-use Rattle.room_history.specs.Does.{Room, after_action, after_leaving, after_submission, after_want, is_left, new_session, room_after, room_after_want, with_each, with_fate, with_left_seat, with_match, with_new_match, with_one, with_removed_if, with_session, left_where, with_cleared}
+use Rattle.room_history.specs.Does.{Room, after_submission, is_left, new_session, room_after, room_after_want, with_each, with_fate, with_left_seat, with_match, with_new_match, with_one, with_removed_if, with_session, left_where, with_cleared}
 use Rattle.room_history.specs.Item.{Accepted, Detached, GameAnswer, Left, Refused, Starved, Submitted, Unasked}
 use Rattle.room_history.specs.Match.{Match}
 use Rattle.room_history.specs.Piece.{Closed, Ended, Open, State, state_of}
-use Rattle.room_history.specs.Reply.{Fate, Goes, Turned, Unheard, attached_match, created_match, fate, fate_by, fate_in, game_answer, lets_in, named_match, open_match, reseated_match, answer_by}
+use Rattle.room_history.specs.Reply.{Fate, Goes, Turned, Unheard, attached_match, created_match, fate, fate_in, game_answer, named_match, open_match, reseated_match}
 use Rattle.room_history.specs.Room.{room_of}
-use Rattle.room_history.specs.Session.{Session, after_detach, after_take, is_detached, is_looking, latest_state, number_in, session_state, stream_of, with_item, with_latest}
+use Rattle.room_history.specs.Session.{Session, is_detached, is_looking, latest_state, number_in, session_state, stream_of, with_item, with_latest}
+use Rattle.room_history.proofs.Names.{after_action, after_leaving, after_want, fate_by, lets_in, answer_by, after_detach, after_take}
 use Rattle.room_history.specs.Shown.{snapshot, snapshots_of}
 use Rattle.room_history.specs.Verdict.{first_reason, game_reason, match_accepting, public_reason}
 use Rattle.game_sheet.specs.Viewer.{Viewer, seat_of}

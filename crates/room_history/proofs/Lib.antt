@@ -11,6 +11,7 @@ pub mod Holding
 pub mod Isolation
 pub mod Judging
 pub mod Keeps
+pub mod Names
 pub mod News
 pub mod Others
 pub mod Outboxes

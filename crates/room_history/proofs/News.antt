@@ -12,7 +12,8 @@ use Rattle.room_history.specs.News.{TellsSight, is_answer, messages, messages_of
 use Rattle.room_history.specs.Piece.{Closed, End, Ended, Line, Mark, Open, Piece, State, counted_size, state_after_take, state_of, waiting_size}
 use Rattle.room_history.specs.Session.{Session, stream_of}
 use Rattle.room_history.specs.Showing.{Showing, showings, showings_above, showings_up_to, snapshot_of_number, update_message}
-use Rattle.room_history.specs.Stream.{cut, item_pieces, line_or_end, lines_of_showings, long_list, most_waiting, public_reason_on, stream, verdict_pieces, with_piece}
+use Rattle.room_history.specs.Stream.{cut, item_pieces, lines_of_showings, long_list, most_waiting, public_reason_on, stream, verdict_pieces, with_piece}
+use Rattle.room_history.proofs.Names.{line_or_end}
 use Rattle.game_sheet.specs.Viewer.{Viewer}
 use Rattle.room_history.proofs.Growing.{tells_parts}
 use Rattle.room_history.proofs.Sessions.{pieces_of}

@@ -5,7 +5,7 @@ use Rattle.game_trait.specs.Rules.{Rules}
 use Rattle.room_object.specs.Entry.{Entry, entry}
 use Rattle.wire_json.specs.declared.reason.Reason.{Reason}
 use Rattle.wire_json.specs.declared.verdict.Verdict.TheVariants as verdict
-use Rattle.room_history.specs.Does.{Room, room_after_want, with_one, with_fate, after_submission, after_want}
+use Rattle.room_history.specs.Does.{Room, room_after_want, with_one, with_fate, after_submission}
 use Rattle.room_history.specs.Held.{attachment_with, attachment_after_submission}
 use Rattle.room_history.specs.Item.{Submitted, Starved}
 use Rattle.room_history.specs.Match.{Match}
@@ -15,7 +15,8 @@ use Rattle.room_history.specs.Outbox.{attachment_of, outbox_of, with_outbox}
 use Rattle.room_history.specs.Piece.{Line}
 use Rattle.room_history.specs.Reply.{Fate, Unheard, Turned, Goes, fate, submit_reply}
 use Rattle.room_history.specs.Room.{room_of, reply}
-use Rattle.room_history.specs.Session.{Session, after_take, after_detach, number_in, with_item, with_latest}
+use Rattle.room_history.specs.Session.{Session, number_in, with_item, with_latest}
+use Rattle.room_history.proofs.Names.{after_want, after_take, after_detach}
 use Rattle.room_history.specs.declared.call.RoomCall.{RoomCall}
 use Rattle.room_history.specs.declared.call.RoomCall.TheVariants.{Create, Join, Rename, Leave, Look, Attach, Submit, Take, Detach, Clear}
 use Rattle.room_history.specs.declared.reply.RoomReply.TheVariants as answer

@@ -2,7 +2,6 @@
 use Rattle.std.proofs.Common.{◌≡◌, ℕ, ◌+◌, Bool, true, false, nat_lt, List, ◌∷◌, Some, None, refl, ap, ◌∙◌, arith}
 use Rattle.game_trait.specs.Rules.{Rules}
 use Rattle.reducer.specs.Accepted.{Accepted as Deed}
-use Rattle.room_history.specs.Does.{after_action}
 use Rattle.room_history.specs.Held.{update_for}
 use Rattle.room_history.specs.Match.{Match}
 use Rattle.wire_json.specs.declared.server.ServerMsg.{ServerMsg}
@@ -11,7 +10,8 @@ use Rattle.room_history.specs.Piece.{Closed, End, Ended, Line, Mark, Open, Piece
 use Rattle.room_history.specs.Session.{Session, is_looking, stream_of}
 use Rattle.room_history.specs.Showing.{update_message}
 use Rattle.room_history.specs.Shown.{snapshot}
-use Rattle.room_history.specs.Stream.{cut, line_or_end, most_waiting, stream, with_piece}
+use Rattle.room_history.specs.Stream.{cut, most_waiting, stream, with_piece}
+use Rattle.room_history.proofs.Names.{after_action, line_or_end}
 use Rattle.game_sheet.specs.Viewer.{seat_of}
 use Rattle.room_history.proofs.Growth.{grown}
 use Rattle.room_history.proofs.Keeps.{Fits}

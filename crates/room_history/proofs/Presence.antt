@@ -17,7 +17,8 @@ use Rattle.wire_json.specs.declared.server.ServerMsg.TheVariants.{Ok as Accepts,
 use Rattle.room_history.specs.Outbox.{Attachment, attachment_of, outbox_after_take}
 use Rattle.room_history.specs.Piece.{Line, Mark, End, State, Open, Ended, Closed}
 use Rattle.room_history.specs.Presence.{after_attach, after_end, after_release, attached_after, is_attached}
-use Rattle.room_history.specs.Reply.{Fate, Unheard, Turned, Goes, named_match, reseated_match, attached_match, open_match, lets_in, reply_by}
+use Rattle.room_history.specs.Reply.{Fate, Unheard, Turned, Goes, named_match, reseated_match, attached_match, open_match, reply_by}
+use Rattle.room_history.proofs.Names.{lets_in}
 use Rattle.room_history.specs.Room.{room_of, reply as reply_after, serials, standing}
 use Rattle.room_history.specs.declared.call.RoomCall.{RoomCall}
 use Rattle.room_history.specs.declared.call.RoomCall.TheVariants.{Create, Join, Rename, Leave, Look, Attach, Submit, Take, Detach, Clear}

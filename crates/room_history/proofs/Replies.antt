@@ -8,8 +8,9 @@ use Rattle.room_history.specs.Alike.{AreAlike}
 use Rattle.room_history.specs.Judgment.{present_snapshot, verdict_by, verdict_in}
 use Rattle.room_history.specs.Match.{Match, number_of}
 use Rattle.room_history.specs.Piece.{Closed, Ended, Open, State}
-use Rattle.room_history.specs.Reply.{fate_by, fate_in, game_answer, submit_reply, answer_by}
-use Rattle.room_history.specs.Session.{Session, number_in, session_state, take_reply}
+use Rattle.room_history.specs.Reply.{fate_in, game_answer, submit_reply}
+use Rattle.room_history.specs.Session.{Session, number_in, session_state}
+use Rattle.room_history.proofs.Names.{fate_by, answer_by, take_reply}
 use Rattle.room_history.specs.Stream.{public_reason_on}
 use Rattle.room_history.specs.Verdict.{game_reason, match_accepting, public_reason}
 use Rattle.game_sheet.specs.Viewer.{Viewer}

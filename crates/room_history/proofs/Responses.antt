@@ -4,7 +4,8 @@ use Rattle.std.proofs.lemmas.Bool.Decides.{nat_tests}
 use Rattle.game_trait.specs.Rules.{Rules}
 use Rattle.room_object.specs.Entry.{Entry, entry}
 use Rattle.room_history.specs.Alike.{AreAlike, OwnCall, OwnSubmit, OwnTake, OwnDetach, own_call}
-use Rattle.room_history.specs.Does.{after_action, after_submission}
+use Rattle.room_history.specs.Does.{after_submission}
+use Rattle.room_history.proofs.Names.{after_action}
 use Rattle.room_history.specs.Match.{Match}
 use Rattle.room_history.specs.Reply.{Fate, Unheard, Turned, Goes, fate, submit_reply}
 use Rattle.room_history.specs.Room.{room_of, reply, standing, latest_in, latest_session}

@@ -11,14 +11,15 @@ use Rattle.seat_roster.specs.Roster.{if_free, if_key_of, if_name, is_empty, join
 use Rattle.seat_roster.specs.declared.refusal.RosterNo.{RosterNo}
 use Rattle.seat_roster.specs.declared.refusal.RosterNo.TheVariants.{BadName, Unauthorized}
 use Rattle.wire_json.specs.declared.protocol.Protocol.{Protocol}
-use Rattle.room_history.specs.Does.{Room, room_after, room_after_want, with_new_match, with_match, with_left_seat, with_removed_if, with_session, with_fate, with_one, with_each, after_action, after_leaving, after_submission, after_want, new_session, is_left, left_where, with_cleared}
+use Rattle.room_history.specs.Does.{Room, room_after, room_after_want, with_new_match, with_match, with_left_seat, with_removed_if, with_session, with_fate, with_one, with_each, after_submission, new_session, is_left, left_where, with_cleared}
 use Rattle.room_history.specs.Item.{Item, Submitted, Took, Left, Detached, Starved}
 use Rattle.room_history.specs.Match.{Match}
 use Rattle.room_history.specs.Piece.{State, Open, Ended, Closed}
 use Rattle.room_history.specs.Removal.{IsOfSeat}
-use Rattle.room_history.specs.Reply.{Fate, Unheard, Turned, Goes, fate, game_answer, created_match, named_match, reseated_match, lets_in, open_match, attached_match}
+use Rattle.room_history.specs.Reply.{Fate, Unheard, Turned, Goes, fate, game_answer, created_match, named_match, reseated_match, open_match, attached_match}
 use Rattle.room_history.specs.Room.{room_of, standing, latest_session}
-use Rattle.room_history.specs.Session.{Session, after_take, after_detach, handful, is_detached, is_looking, number_in, session_state, with_item, with_latest, latest_state}
+use Rattle.room_history.specs.Session.{Session, handful, is_detached, is_looking, number_in, session_state, with_item, with_latest, latest_state}
+use Rattle.room_history.proofs.Names.{after_action, after_leaving, after_want, lets_in, after_take, after_detach}
 use Rattle.room_history.specs.Shown.{snapshot}
 use Rattle.game_sheet.specs.Viewer.{Viewer, seat_of}
 use Rattle.room_history.specs.declared.call.RoomCall.{RoomCall}

@@ -10,12 +10,13 @@ use Rattle.room_object.specs.Entry.{Entry}
 use Rattle.seat_roster.specs.Roster.{is_empty, join, rename, leave}
 use Rattle.wire_json.specs.declared.protocol.Protocol.{Protocol}
 use Rattle.room_history.specs.Course.{SameView}
-use Rattle.room_history.specs.Does.{Room, room_after, room_after_want, with_new_match, with_match, with_left_seat, with_removed_if, with_session, with_fate, with_one, after_action, after_leaving, after_submission, after_want, new_session, is_left, left_where, with_cleared}
+use Rattle.room_history.specs.Does.{Room, room_after, room_after_want, with_new_match, with_match, with_left_seat, with_removed_if, with_session, with_fate, with_one, after_submission, new_session, is_left, left_where, with_cleared}
 use Rattle.room_history.specs.Item.{Item, Submitted, Took, Left, Detached, Starved}
 use Rattle.room_history.specs.Match.{Match}
 use Rattle.room_history.specs.Reply.{Fate, Unheard, Turned, Goes, fate, game_answer, last_serial, seats_fit, new_match, created_match, named_match, reseated_match, attached_match}
-use Rattle.room_history.specs.Room.{room_of, session, match_in, all_matches}
-use Rattle.room_history.specs.Session.{Session, after_take, after_detach, handful, is_detached, is_looking, number_in, session_state, with_item, with_latest, latest_state}
+use Rattle.room_history.specs.Room.{room_of, session}
+use Rattle.room_history.specs.Session.{Session, handful, is_detached, is_looking, number_in, session_state, with_item, with_latest, latest_state}
+use Rattle.room_history.proofs.Names.{after_action, after_leaving, after_want, match_in, all_matches, after_take, after_detach}
 use Rattle.room_history.specs.Shown.{snapshot, snapshots}
 use Rattle.room_history.specs.Sight.{SeesMatch}
 use Rattle.game_sheet.specs.Viewer.{Viewer, seat_of}

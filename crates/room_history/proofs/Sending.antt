@@ -7,14 +7,15 @@ use Rattle.game_trait.specs.Rules.{Rules}
 use Rattle.room_object.specs.Entry.{Entry}
 use Rattle.seat_roster.specs.Roster.{is_empty, join, rename, leave}
 use Rattle.wire_json.specs.declared.protocol.Protocol.{Protocol}
-use Rattle.room_history.specs.Does.{Room, room_after, room_after_want, with_new_match, with_match, with_left_seat, with_removed_if, with_session, with_fate, with_one, with_each, after_action, after_leaving, after_submission, after_want, new_session, is_left, left_where, with_cleared}
+use Rattle.room_history.specs.Does.{Room, room_after, room_after_want, with_new_match, with_match, with_left_seat, with_removed_if, with_session, with_fate, with_one, with_each, after_submission, new_session, is_left, left_where, with_cleared}
 use Rattle.room_history.specs.Item.{Item, Submitted, Left, Detached, Starved}
 use Rattle.room_history.specs.Match.{Match}
 use Rattle.room_history.specs.Piece.{Piece, State, Open, Ended, Closed, waiting_lines}
 use Rattle.room_history.specs.Reply.{Fate, Unheard, Turned, Goes, fate, game_answer, created_match, named_match, reseated_match, attached_match}
 use Rattle.room_history.specs.Room.{room_of, reply, session, session_in}
 use Rattle.room_history.specs.Sent.{is_take, is_take_of, bytes_of_entry, SendsReply}
-use Rattle.room_history.specs.Session.{Session, after_take, after_detach, handful, is_detached, is_looking, lines_handed_out, number_in, session_state, stream_of, take_reply, take_reply_in, bytes_handed_out, bye_lines, with_item, with_latest, latest_state, latest_take_reply}
+use Rattle.room_history.specs.Session.{Session, handful, is_detached, is_looking, lines_handed_out, number_in, session_state, stream_of, take_reply_in, bytes_handed_out, bye_lines, with_item, with_latest, latest_state, latest_take_reply}
+use Rattle.room_history.proofs.Names.{after_action, after_leaving, after_want, after_take, after_detach, take_reply}
 use Rattle.room_history.specs.Shown.{snapshot}
 use Rattle.game_sheet.specs.Viewer.{Viewer, seat_of}
 use Rattle.room_history.specs.declared.call.RoomCall.{RoomCall}

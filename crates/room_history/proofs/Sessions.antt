@@ -11,9 +11,10 @@ use Rattle.room_history.specs.Course.{Grows, IsOpen, SameView}
 use Rattle.room_history.specs.Item.{Starved, Unasked, Refused, Accepted, Detached, GameAnswer, Item, Left, Submitted, Took, number_after}
 use Rattle.wire_json.specs.declared.server.ServerMsg.{ServerMsg}
 use Rattle.room_history.specs.Piece.{Closed, End, Ended, Line, Mark, Open, Piece, State, counted_size, lines_to_mark, state_of, waiting_size}
-use Rattle.room_history.specs.Session.{Session, after_take, is_detached, is_looking, lines_handed_out, number_in, session_state, stream_of, with_item}
+use Rattle.room_history.specs.Session.{Session, is_detached, is_looking, lines_handed_out, number_in, session_state, stream_of, with_item}
 use Rattle.room_history.specs.Showing.{Showing, showings, snapshot_of_number, update_message}
-use Rattle.room_history.specs.Stream.{cut, item_pieces, line_or_end, long_list, most_waiting, public_reason_on, stream, verdict_pieces, with_piece}
+use Rattle.room_history.specs.Stream.{cut, item_pieces, long_list, most_waiting, public_reason_on, stream, verdict_pieces, with_piece}
+use Rattle.room_history.proofs.Names.{after_take, line_or_end}
 use Rattle.game_sheet.specs.Viewer.{Viewer}
 use Rattle.wire_json.specs.declared.submission.Submission.{Submission}
 use Rattle.room_history.proofs.Cutting.{grows_same, cut_grows, rest, parted, hands_rest}

@@ -4,14 +4,15 @@ use Rattle.game_trait.specs.Rules.{Rules}
 use Rattle.reducer.specs.Accepted.{Accepted as Deed}
 use Rattle.wire_json.specs.declared.reason.Reason.{Reason}
 use Rattle.room_history.specs.Course.{IsOpen, SameView}
-use Rattle.room_history.specs.Does.{after_action, after_submission}
+use Rattle.room_history.specs.Does.{after_submission}
 use Rattle.room_history.specs.Held.{attachment_after_action, attachment_after_submission, attachment_with, update_for}
 use Rattle.room_history.specs.Item.{Accepted, Item, Submitted, Unasked}
 use Rattle.room_history.specs.Match.{Match, number_of}
 use Rattle.wire_json.specs.declared.server.ServerMsg.TheVariants.{No, Ok as Yes}
 use Rattle.room_history.specs.Outbox.{Outbox, attachment_of, outbox_of, outbox_with, with_outbox, with_piece_in}
 use Rattle.room_history.specs.Piece.{Closed, Ended, Line, Open, Piece, State}
-use Rattle.room_history.specs.Reply.{Fate, Goes, Turned, Unheard, fate, fate_by, fate_in, game_answer, answer_by}
+use Rattle.room_history.specs.Reply.{Fate, Goes, Turned, Unheard, fate, fate_in, game_answer}
+use Rattle.room_history.proofs.Names.{after_action, fate_by, answer_by}
 use Rattle.room_history.specs.Session.{Session, is_detached, is_looking, number_in, session_state, with_item, with_latest}
 use Rattle.room_history.specs.Verdict.{game_reason, match_accepting, public_reason}
 use Rattle.room_history.specs.Shown.{snapshot}

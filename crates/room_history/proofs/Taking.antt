@@ -5,13 +5,14 @@ use Rattle.game_sheet.specs.declared.act.Bye.TheVariants as bye
 use Rattle.seat_roster.specs.Roster.{is_empty}
 use Rattle.wire_json.specs.declared.protocol.Protocol.{Protocol}
 use Rattle.room_history.specs.Course.{SameView}
-use Rattle.room_history.specs.Does.{after_leaving, is_left, new_session, left_where}
+use Rattle.room_history.specs.Does.{is_left, new_session, left_where}
 use Rattle.room_history.specs.Held.{attachment_after_leave, attachment_state, attachment_take_reply, attachment_with, new_attachment}
 use Rattle.room_history.specs.Item.{Left, Took}
 use Rattle.room_history.specs.Match.{Match}
 use Rattle.room_history.specs.Outbox.{Outbox, attachment_of, outbox_in, outbox_of, with_outbox, with_piece_in}
 use Rattle.room_history.specs.Piece.{Closed, End, Ended, Mark, Open, Piece, State}
-use Rattle.room_history.specs.Session.{Session, after_detach, after_take, handful, is_detached, is_looking, latest_state, latest_take_reply, number_in, session_state, stream_of, take_reply_in, with_latest}
+use Rattle.room_history.specs.Session.{Session, handful, is_detached, is_looking, latest_state, latest_take_reply, number_in, session_state, stream_of, take_reply_in, with_latest}
+use Rattle.room_history.proofs.Names.{after_leaving, after_detach, after_take}
 use Rattle.room_history.specs.Stream.{stream}
 use Rattle.game_sheet.specs.Viewer.{Viewer}
 use Rattle.room_history.proofs.Holding.{take_kept, detach_kept, leave_kept as left_session}

@@ -11,7 +11,8 @@ use Rattle.wire_json.specs.ServerText.{text}
 use Rattle.room_history.specs.Piece.{Closed, End, Ended, Line, Mark, Open, Piece, State, all_lines, counted_size, state_after_take, state_of, waiting_size, without_marks}
 use Rattle.room_history.specs.Session.{Session, stream_of}
 use Rattle.room_history.specs.Showing.{showings}
-use Rattle.room_history.specs.Stream.{cut, line_or_end, long_list, most_waiting, stream, with_piece}
+use Rattle.room_history.specs.Stream.{cut, long_list, most_waiting, stream, with_piece}
+use Rattle.room_history.proofs.Names.{line_or_end}
 use Rattle.room_history.proofs.Growing.{same_unmarked}
 use Rattle.room_history.proofs.Sessions.{Good, pieces_of}
 

@@ -111,19 +111,15 @@ module _ {X G : Type 0} (rules : X → Rules G) (room : ℕ) where
   -- the reply to a call, by the attachment of the pass that makes it
   abbrev pub reply_held : ℕ → Option (Match X G) → Option Attachment → RoomCall X → RoomReply
   reply_held serials standing a (Create game seats seed) = reply_by (λ (m : Match X G). reply.Created m.serial) (created_match rules serials standing game seats seed)
-  reply_held serials standing a (Join serial seat name key) =
-      reply_by (λ (m : Match X G). reply.Joined) (reseated_match (named_match standing serial) (λ roster. join roster seat name key))
-  reply_held serials standing a (Rename serial seat key name) =
-      reply_by (λ (m : Match X G). reply.Renamed) (reseated_match (named_match standing serial) (λ roster. rename roster seat key name))
-  reply_held serials standing a (Leave serial seat key) =
-      reply_by (λ (m : Match X G). reply.Left) (reseated_match (named_match standing serial) (λ roster. leave roster seat key))
+  reply_held serials standing a (Join serial seat name key) = reply_by (λ m. reply.Joined) (reseated_match (named_match standing serial) (λ roster. join roster seat name key))
+  reply_held serials standing a (Rename serial seat key name) = reply_by (λ m. reply.Renamed) (reseated_match (named_match standing serial) (λ roster. rename roster seat key name))
+  reply_held serials standing a (Leave serial seat key) = reply_by (λ m. reply.Left) (reseated_match (named_match standing serial) (λ roster. leave roster seat key))
   reply_held serials standing a (Look serial) = reply_by (λ m. reply.Looked (match_row rules room m)) (looked_match standing serial)
-  reply_held serials standing a (Attach serial viewer protocol) =
-      reply_by (λ (m : Match X G). reply.Attached) (attached_match standing (attachment_state a) serial viewer)
+  reply_held serials standing a (Attach serial viewer protocol) = reply_by (λ m. reply.Attached) (attached_match standing (attachment_state a) serial viewer)
   reply_held serials standing a (Submit s) = submit_reply (attachment_fate standing a s)
   reply_held serials standing a Take = attachment_take_reply a
   reply_held serials standing a Detach = detach_reply (attachment_state a)
-  reply_held serials standing a (Clear serial) = reply_by (λ (m : Match X G). reply.Cleared) (named_match standing serial)
+  reply_held serials standing a (Clear serial) = reply_by (λ m. reply.Cleared) (named_match standing serial)
 
   -- what is held of each pass is what its latest session's stream leaves waiting
   abbrev pub HoldsSessions : List (ℕ × Attachment) → List (Entry (RoomCall X)) → Type 0

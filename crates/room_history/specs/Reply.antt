@@ -62,20 +62,14 @@ roster_reply rule.SeatTaken = reply.SeatTaken
 roster_reply rule.BadName = reply.BadName
 roster_reply rule.Unauthorized = reply.Unauthorized
 
-abbrev pub with_roster : {X G : Type 0} → Match X G → Result Seats RosterNo → Result (Match X G) RoomReply
-with_roster m result = result_map_both (λ seats. record m { roster = seats }) roster_reply result
-
 -- the match that is named, with other players at its seats, as a Join, a Rename and a Leave make it
 abbrev pub reseated_match : {X G : Type 0} → Result (Match X G) RoomReply → (Seats → Result Seats RosterNo) → Result (Match X G) RoomReply
-reseated_match (Ok m) change = with_roster m (change m.roster)
+reseated_match (Ok m) change = result_map_both (λ seats. record m { roster = seats }) roster_reply (change m.roster)
 reseated_match (Err why) change = Err why
 
--- whether a match lets a viewer look: a player shows the key of the seat, a spectator needs none
-abbrev pub lets_in : Seats → Viewer → Bool
-lets_in roster viewer = option_map_or (λ claim. key_fits roster claim.0 claim.1) viewer true
-
+-- who may look at a match: a player shows the key of the seat, a spectator needs none
 abbrev pub open_match : {X G : Type 0} → Viewer → Result (Match X G) RoomReply → Result (Match X G) RoomReply
-open_match viewer (Ok m) = if lets_in m.roster viewer then Ok m else Err reply.Unauthorized
+open_match viewer (Ok m) = if option_map_or (λ claim. key_fits m.roster claim.0 claim.1) viewer true then Ok m else Err reply.Unauthorized
 open_match viewer (Err why) = Err why
 
 -- the match that an Attach lets the viewer look at, by how the pass's latest session stands
@@ -94,16 +88,10 @@ submit_reply Unheard = reply.NotAttached
 submit_reply (Turned n reason) = reply.Verdict (verdict.No n reason)
 submit_reply (Goes m) = reply.Verdict (verdict.Ok (number_of m))
 
-abbrev pub answer_by : Option Reason → GameAnswer
-answer_by broken = option_map_or Refused broken Accepted
-
 module _ {X G : Type 0} (rules : X → Rules G) (room : ℕ) where
-  abbrev pub fate_by : Match X G → Viewer → Submission → Option Reason → Fate X G
-  fate_by m viewer s broken = option_map_or (Turned (number_of m)) broken (Goes (match_accepting rules m viewer s))
-
   -- a session that goes on is heard by the match that stands
   abbrev pub fate_in : Option (Match X G) → State → Viewer → Submission → Fate X G
-  fate_in (Some m) Open viewer s = fate_by m viewer s (first_reason rules room m viewer s)
+  fate_in (Some m) Open viewer s = option_map_or (Turned (number_of m)) (first_reason rules room m viewer s) (Goes (match_accepting rules m viewer s))
   fate_in standing state viewer s = Unheard
 
   abbrev pub fate : Option (Match X G) → List Session → Submission → Fate X G
@@ -112,7 +100,7 @@ module _ {X G : Type 0} (rules : X → Rules G) (room : ℕ) where
 
   -- the game's answer to a session's submission; it is asked where no public rule is broken
   abbrev pub game_answer : Option (Match X G) → State → Viewer → Submission → GameAnswer
-  game_answer (Some m) Open viewer s = option_map_or (λ reason. Unasked) (public_reason rules room m viewer s) (answer_by (game_reason rules m viewer s))
+  game_answer (Some m) Open viewer s = option_map_or (λ reason. Unasked) (public_reason rules room m viewer s) (option_map_or Refused (game_reason rules m viewer s) Accepted)
   game_answer standing state viewer s = Unasked
 
   -- what everybody may see of a match

@@ -13,13 +13,6 @@ use Rattle.room_history.specs.declared.reply.RoomReply.{RoomReply}
 use Rattle.room_history.specs.declared.reply.RoomReply.TheVariants.{NoMemory}
 use Rattle.std.specs.Option.{option_map_or}
 
-abbrev pub match_in : {X G : Type 0} → ℕ → List (Match X G) → Option (Match X G)
-match_in serial matches = find (λ m. m.serial == serial) matches
-
--- the matches that were removed, and the one that stands
-abbrev pub all_matches : {X G : Type 0} → Option (Match X G) → List (Match X G) → List (Match X G)
-all_matches standing removed = option_map_or (λ m. m ∷ removed) standing removed
-
 -- the seat that a pass looks from, or none for a spectator, while its latest session goes on
 abbrev pub seat_in : State → Viewer → Option (Option ℕ)
 seat_in Open viewer = Some (seat_of viewer)
@@ -58,7 +51,7 @@ module _ {X G : Type 0} (rules : X → Rules G) (room : ℕ) where
 
   -- the match of a serial, whether it stands or was removed, with its accepted actions, the latest first
   abbrev pub match_of : List (Entry (RoomCall X)) → ℕ → Option (Match X G)
-  match_of h serial = match_in serial (all_matches (standing h) (room_of h).removed)
+  match_of h serial = find (λ m. m.serial == serial) (option_map_or (λ m. m ∷ (room_of h).removed) (standing h) (room_of h).removed)
 
   abbrev pub number : List (Entry (RoomCall X)) → Option ℕ
   number h = option_map (λ (m : Match X G). number_of m) (standing h)

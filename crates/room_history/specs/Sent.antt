@@ -12,15 +12,12 @@ use Rattle.room_history.specs.Session.{Session, stream_of, is_detached, handful,
 use Rattle.room_history.specs.declared.call.RoomCall.{RoomCall}
 use Rattle.room_history.specs.declared.call.RoomCall.TheVariants.{Take}
 
--- the lines of its stream up to the last mark, with the bye line at most at the end
-abbrev pub IsInOrder : Session → Type 0
-IsInOrder s = (s.sent ≡ message_lines_to_mark (stream_of s)) ⊎ ((why : Bye) × (s.sent ≡ message_lines_to_mark (stream_of s) ++ text (Farewell why) ∷ []))
-
 -- a session was sent the lines of its stream up to the last mark, and the other ones wait for the next Take, unless a Detach lost them
 pub record IsToldOf (s : Session) : Type 0 where
   pub sent : s.sent ≡ lines_to_mark (stream_of s)
   pub rest : is_detached s.own ≡ false → all_lines (stream_of s) ≡ s.sent ++ handful s
-  pub in_order : IsInOrder s
+  -- the bye line comes at most at the end
+  pub in_order : (s.sent ≡ message_lines_to_mark (stream_of s)) ⊎ ((why : Bye) × (s.sent ≡ message_lines_to_mark (stream_of s) ++ text (Farewell why) ∷ []))
 
 abbrev pub is_take : {X : Type 0} → RoomCall X → Bool
 is_take Take = true

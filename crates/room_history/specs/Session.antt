@@ -6,7 +6,7 @@ use Rattle.game_sheet.specs.declared.act.Bye.{Bye}
 use Rattle.game_sheet.specs.declared.sheet.Sheet.{Sheet}
 use Rattle.player_sight.specs.SnapshotData.{Snap}
 use Rattle.wire_json.specs.declared.protocol.Protocol.{Protocol}
-use Rattle.room_history.specs.Item.{Item, Took, Left, Detached}
+use Rattle.room_history.specs.Item.{Item, Left, Detached}
 use Rattle.wire_json.specs.declared.server.ServerMsg.TheVariants.{Bye as Farewell}
 use Rattle.wire_json.specs.ServerText.{text}
 use Rattle.room_history.specs.Piece.{Piece, State, Open, Ended, Closed, state_of, waiting_lines}
@@ -74,19 +74,10 @@ take_reply_in Closed pieces = reply.NotAttached
 abbrev pub handful : Session → List (List ℕ)
 handful s = lines_handed_out (session_state s) (stream_of s)
 
-abbrev pub take_reply : Session → RoomReply
-take_reply s = take_reply_in (session_state s) (stream_of s)
-
 -- the bytes that a reply hands out, those of the bye line included
 abbrev pub bytes_handed_out : RoomReply → List ℕ
 bytes_handed_out (reply.Taken bytes end) = bytes ++ concat (bye_lines end)
 bytes_handed_out other = []
-
-abbrev pub after_take : Session → Session
-after_take s = with_item (Took (number_in s.sight)) (record s { sent = s.sent ++ handful s })
-
-abbrev pub after_detach : Session → Session
-after_detach s = with_item (Detached (number_in s.sight)) s
 
 abbrev pub detach_reply : State → RoomReply
 detach_reply Closed = reply.NotAttached
@@ -103,4 +94,4 @@ latest_state (s ∷ before) = session_state s
 
 abbrev pub latest_take_reply : List Session → RoomReply
 latest_take_reply [] = reply.NotAttached
-latest_take_reply (s ∷ before) = take_reply s
+latest_take_reply (s ∷ before) = take_reply_in (session_state s) (stream_of s)

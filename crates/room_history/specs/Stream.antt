@@ -1,18 +1,18 @@
 -- The stream of a session, made of the match's name, the sheet, who looks with which key, the protocol, what that viewer was shown and
 -- what the session did, and of nothing else. Lists have the latest first.
-use Rattle.std.specs.Prelude.{ℕ, ◌+◌, ◌==◌, List, [], ◌∷◌, ◌++◌, Bool, ◌&&◌, nat_lt, Option, Some, None, if◌then◌else◌, map}
+use Rattle.std.specs.Prelude.{ℕ, ◌+◌, List, [], ◌∷◌, ◌++◌, nat_lt, Option, Some, None, if◌then◌else◌, map}
 use Rattle.game_sheet.specs.MatchName.{Name}
 use Rattle.game_sheet.specs.declared.act.Bye.TheVariants as bye
 use Rattle.game_sheet.specs.declared.sheet.Sheet.{Sheet}
 use Rattle.player_sight.specs.SnapshotData.{Snap}
 use Rattle.wire_json.specs.declared.protocol.Protocol.{Protocol}
 use Rattle.wire_json.specs.declared.reason.Reason.{Reason}
-use Rattle.room_history.specs.Item.{GameAnswer, Starved, Accepted, Refused, Item, Submitted, Took, Left, Detached, number_after}
-use Rattle.wire_json.specs.declared.server.ServerMsg.{ServerMsg}
+use Rattle.room_history.specs.Item.{GameAnswer, Starved, Unasked, Accepted, Refused, Item, Submitted, Took, Left, Detached, number_after}
 use Rattle.wire_json.specs.declared.server.ServerMsg.TheVariants.{Ok, No}
 use Rattle.room_history.specs.Piece.{Piece, Line, Mark, End, State, Open, state_of, counted_size, waiting_size}
 use Rattle.room_history.specs.Rule.{public, has_key}
 use Rattle.room_history.specs.Showing.{Showing, showings, showings_above, showings_up_to, snapshot_of_number}
+use Rattle.room_history.specs.Verdict.{is_named}
 use Rattle.game_sheet.specs.Viewer.{Viewer, seat_of}
 use Rattle.wire_json.specs.declared.submission.Submission.{Submission}
 
@@ -20,25 +20,18 @@ abbrev pub lines_of_showings : List Showing → List Piece
 lines_of_showings shown = map (λ t. Line t.message) shown
 
 module _ (name : Name) (sheet : Sheet) (viewer : Viewer) where
-  abbrev pub is_same : Name → Bool
-  is_same other = (other.room == name.room) && (other.serial == name.serial)
-
   -- the public rule that a submission breaks, found from a snapshot, the key and the line
   abbrev pub public_reason_on : Option Snap → Submission → Option Reason
   public_reason_on None s = None
-  public_reason_on (Some shown) s = public sheet shown.ctx shown.number (is_same s.name) (seat_of viewer) (has_key viewer s.key) s.asked s.number
+  public_reason_on (Some shown) s = public sheet shown.ctx shown.number (is_named name.room name.serial s.name) (seat_of viewer) (has_key viewer s.key) s.asked s.number
 
--- what the game's answer to a submission adds at a state number
-abbrev pub game_pieces : ℕ → ℕ → GameAnswer → List Piece
-game_pieces n ticket Accepted = Line (Ok (n + 1) ticket) ∷ []
-game_pieces n ticket (Refused reason) = Line (No n reason ticket) ∷ []
-game_pieces n ticket other = []
-
--- without memory there is no verdict; else the public rule that is broken comes before the game's answer
+-- what the verdict on a submission adds at a state number: without memory there is no verdict; else the public rule that is broken comes before the game's answer
 abbrev pub verdict_pieces : ℕ → ℕ → Option Reason → GameAnswer → List Piece
 verdict_pieces n ticket reason Starved = []
 verdict_pieces n ticket (Some reason) answer = Line (No n reason ticket) ∷ []
-verdict_pieces n ticket None answer = game_pieces n ticket answer
+verdict_pieces n ticket None Accepted = Line (Ok (n + 1) ticket) ∷ []
+verdict_pieces n ticket None (Refused reason) = Line (No n reason ticket) ∷ []
+verdict_pieces n ticket None Unasked = []
 
 module _ (name : Name) (sheet : Sheet) (viewer : Viewer) where
   -- what an item adds
@@ -58,15 +51,11 @@ module _ (name : Name) (sheet : Sheet) (viewer : Viewer) where
 abbrev pub most_waiting : ℕ
 most_waiting = 4194304
 
--- a line that would wait beyond the limit is left out, and ends the stream
-abbrev pub line_or_end : Bool → ServerMsg → List Piece → List Piece
-line_or_end is_full message pieces = if is_full then End bye.Lagging ∷ pieces else Line message ∷ pieces
-
--- after an end there are marks alone
+-- a line that would wait beyond the limit is left out, and ends the stream; after an end there are marks alone
 abbrev pub with_piece : State → Piece → List Piece → List Piece
 with_piece state Mark pieces = Mark ∷ pieces
 with_piece Open (End why) pieces = End why ∷ pieces
-with_piece Open (Line message) pieces = line_or_end (nat_lt most_waiting (waiting_size pieces + counted_size message)) message pieces
+with_piece Open (Line message) pieces = if nat_lt most_waiting (waiting_size pieces + counted_size message) then End bye.Lagging ∷ pieces else Line message ∷ pieces
 with_piece state piece pieces = pieces
 
 -- the cut of a long list

@@ -16,10 +16,11 @@ use Rattle.object_journal.specs.declared.replaying.Replayed.TheVariants as repla
 use Rattle.room_history.specs.Does.{Room, new_session, with_session}
 use Rattle.room_history.specs.Match.{Match, number_of}
 use Rattle.room_history.specs.Piece.{State, Open, Closed}
-use Rattle.room_history.specs.Reply.{attached_match, fate, fate_by, fate_in, lets_in, named_match, open_match, submit_reply}
+use Rattle.room_history.specs.Reply.{attached_match, fate, fate_in, named_match, open_match, submit_reply}
 use Rattle.room_history.specs.Room.{latest_seat, number, reply, room_of, seat_in, serials, standing, viewer_of}
 use Rattle.room_history.specs.Stream.{stream}
-use Rattle.room_history.specs.Session.{Session, after_detach, is_detached, latest_state, session_state, with_latest}
+use Rattle.room_history.specs.Session.{Session, is_detached, latest_state, session_state, with_latest}
+use Rattle.room_history.proofs.Names.{fate_by, lets_in, after_detach}
 use Rattle.room_history.specs.Verdict.{first_reason, match_accepting}
 use Rattle.room_history.specs.declared.call.RoomCall.TheVariants.{Attach, Detach, Submit, Take}
 use Rattle.room_history.specs.declared.reply.RoomReply.{RoomReply}

@@ -15,12 +15,14 @@ use Rattle.wire_json.specs.Resolve.{act_of}
 use Rattle.wire_json.specs.declared.asked.Asked.{Asked}
 use Rattle.wire_json.specs.declared.reason.Reason.{Reason}
 use Rattle.room_history.specs.Match.{Match}
-use Rattle.room_history.specs.Reply.{created_match, last_serial, looked_match, named_match, new_match, reply_by, reseated_match, seats_fit, with_roster}
+use Rattle.room_history.specs.Reply.{created_match, last_serial, looked_match, named_match, new_match, reply_by, reseated_match, seats_fit}
+use Rattle.room_history.proofs.Names.{with_roster}
 use Rattle.room_history.specs.Verdict.{first_reason, match_accepting, with_act}
 use Rattle.room_history.specs.declared.reply.RoomReply.{RoomReply}
 use Rattle.room_history.specs.declared.reply.RoomReply.TheVariants as answer
 use Rattle.room_changes.specs.ChangesOf.{is_accepted}
-use Rattle.room_changes.specs.Kept.{Kept, acted_by, claim, kept_with, submission, with_created, with_left, with_none, with_reseated}
+use Rattle.room_changes.proofs.Names.{with_created, with_left, with_none, with_reseated}
+use Rattle.room_changes.specs.Kept.{Kept, acted_by, claim, kept_with, submission}
 use Rattle.room_changes.specs.declared.change.Change.{Change}
 use Rattle.room_changes.specs.declared.change.Change.TheVariants as change
 use Rattle.room_journal.specs.Coming.{Fits, FitsMatch, key_at}

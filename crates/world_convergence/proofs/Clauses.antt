@@ -12,7 +12,8 @@ use Rattle.room_history.specs.Course.{IsFirstPart, IsOpen}
 use Rattle.room_history.specs.Match.{Match}
 use Rattle.room_history.specs.Outbox.{attachment_of, outbox_in, with_outbox}
 use Rattle.room_history.specs.Piece.{Open}
-use Rattle.room_history.specs.Room.{all_matches, latest_in, latest_session, match_in, match_of, room_of, session, standing}
+use Rattle.room_history.specs.Room.{latest_in, latest_session, match_of, room_of, session, standing}
+use Rattle.room_history.proofs.Names.{all_matches, match_in}
 use Rattle.room_history.specs.Session.{Session, handful, is_looking, session_state, stream_of}
 use Rattle.room_history.specs.Sight.{SeesMatch}
 use Rattle.room_history.proofs.Judging.{Latest, head_of, latest_is}

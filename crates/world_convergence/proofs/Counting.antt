@@ -13,7 +13,8 @@ use Rattle.wire_json.specs.ServerText.{text}
 use Rattle.room_history.specs.Piece.{Piece, Line, Mark, End, State, Open, Ended, Closed, all_lines, counted_size, lines_to_mark, message_lines, message_lines_to_mark, state_of, waiting_size}
 use Rattle.room_history.specs.Session.{Session, stream_of}
 use Rattle.room_history.specs.Showing.{Showing, showings, showings_above, showings_up_to, snapshot_of_number, update_message}
-use Rattle.room_history.specs.Stream.{cut, item_pieces, line_or_end, lines_of_showings, long_list, most_waiting, public_reason_on, stream, verdict_pieces, with_piece}
+use Rattle.room_history.specs.Stream.{cut, item_pieces, lines_of_showings, long_list, most_waiting, public_reason_on, stream, verdict_pieces, with_piece}
+use Rattle.room_history.proofs.Names.{line_or_end}
 use Rattle.wire_json.specs.Refusals.{Refusal}
 use Rattle.wire_json.specs.ServerReading.{server_read}
 use Rattle.wire_json.specs.declared.protocol.Protocol.{Protocol}

@@ -8,12 +8,13 @@ use Rattle.room_object.specs.Entry.{Entry, entry}
 use Rattle.seat_roster.specs.Roster.{is_empty, join, rename, leave}
 use Rattle.wire_json.specs.declared.protocol.Protocol.{Protocol}
 use Rattle.wire_json.specs.declared.submission.Submission.{Submission}
-use Rattle.room_history.specs.Does.{Room, room_after, room_after_want, with_new_match, with_match, with_left_seat, with_removed_if, with_session, with_fate, with_one, with_each, after_action, after_leaving, after_submission, after_want, new_session, is_left, left_where, with_cleared}
+use Rattle.room_history.specs.Does.{Room, room_after, room_after_want, with_new_match, with_match, with_left_seat, with_removed_if, with_session, with_fate, with_one, with_each, after_submission, new_session, is_left, left_where, with_cleared}
 use Rattle.room_history.specs.Item.{GameAnswer, Item, Submitted, Took, Left, Detached, Starved, Unasked, Accepted, Refused}
 use Rattle.room_history.specs.Match.{Match}
 use Rattle.room_history.specs.Reply.{Fate, Unheard, Turned, Goes, fate, game_answer, created_match, named_match, reseated_match, attached_match}
 use Rattle.room_history.specs.Room.{room_of}
-use Rattle.room_history.specs.Session.{Session, after_take, after_detach, is_detached, is_looking, number_in, session_state, with_item, with_latest, latest_state}
+use Rattle.room_history.specs.Session.{Session, is_detached, is_looking, number_in, session_state, with_item, with_latest, latest_state}
+use Rattle.room_history.proofs.Names.{after_action, after_leaving, after_want, after_take, after_detach}
 use Rattle.room_history.specs.Shown.{snapshot}
 use Rattle.room_history.specs.declared.call.RoomCall.{RoomCall}
 use Rattle.room_history.specs.declared.call.RoomCall.TheVariants.{Create, Join, Rename, Leave, Look, Attach, Submit, Take, Detach, Clear}

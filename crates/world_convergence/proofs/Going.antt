@@ -11,7 +11,7 @@ use Rattle.wire_json.specs.declared.server.ServerMsg.TheVariants.{Bye as Farewel
 use Rattle.wire_json.specs.ServerText.{text as server_text}
 use Rattle.room_history.specs.Piece.{message_lines_to_mark}
 use Rattle.room_history.specs.Room.{match_of}
-use Rattle.room_history.specs.Sent.{IsInOrder}
+use Rattle.room_history.proofs.Names.{IsInOrder}
 use Rattle.room_history.specs.Session.{Session, stream_of}
 use Rattle.room_history.proofs.Aside.{sent_aside}
 use Rattle.room_history.proofs.Clauses.{good_session}

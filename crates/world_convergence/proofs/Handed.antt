@@ -9,7 +9,8 @@ use Rattle.wire_json.specs.declared.server.ServerMsg.{ServerMsg}
 use Rattle.wire_json.specs.declared.server.ServerMsg.TheVariants.{Bye as Farewell}
 use Rattle.wire_json.specs.ServerText.{text, server_members}
 use Rattle.room_history.specs.Piece.{Piece, Line, Mark, End, State, Open, Ended, Closed, waiting_lines}
-use Rattle.room_history.specs.Session.{Session, bye_lines, bytes_handed_out, handful, lines_handed_out, session_state, stream_of, take_reply, take_reply_in}
+use Rattle.room_history.specs.Session.{Session, bye_lines, bytes_handed_out, handful, lines_handed_out, session_state, stream_of, take_reply_in}
+use Rattle.room_history.proofs.Names.{take_reply}
 use Rattle.serde_json.specs.Data.{object}
 use Rattle.serde_json.specs.Written.{compact_text}
 

@@ -10,7 +10,8 @@ use Rattle.room_history.specs.Course.{IsFirstPart}
 use Rattle.room_history.specs.Item.{Took}
 use Rattle.room_history.specs.Presence.{attached_after}
 use Rattle.room_history.specs.Room.{reply as reply_after, room_of}
-use Rattle.room_history.specs.Session.{Session, after_take, bytes_handed_out, handful, is_detached, latest_take_reply, number_in, take_reply, with_latest}
+use Rattle.room_history.specs.Session.{Session, bytes_handed_out, handful, is_detached, latest_take_reply, number_in, with_latest}
+use Rattle.room_history.proofs.Names.{after_take, take_reply}
 use Rattle.room_history.specs.declared.call.RoomCall.{RoomCall}
 use Rattle.room_history.specs.declared.call.RoomCall.TheVariants as call
 use Rattle.room_history.specs.declared.reply.RoomReply.{RoomReply}
