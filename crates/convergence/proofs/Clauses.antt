@@ -42,7 +42,7 @@ use Rattle.convergence.specs.Grounded.{IsGrounded}
 use Rattle.convergence.specs.Lines.{AllLines, IsShallow, ReadsBack}
 use Rattle.convergence.specs.Seeing.{SeesAt}
 use Rattle.convergence.specs.Shallow.{StatesAreShallow}
-use Rattle.convergence.specs.Views.{view_at}
+use Rattle.room_history.specs.Shown.{view_at}
 use Rattle.convergence.proofs.Grounding.{AllFit, SessionFits, grounded, sessions_fit, standing_grounded}
 use Rattle.convergence.proofs.Grounds.{StaysSound}
 use Rattle.convergence.proofs.Messages.{bye_reads}

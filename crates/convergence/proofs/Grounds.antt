@@ -17,7 +17,7 @@ use Rattle.room_history.specs.Match.{Match}
 use Rattle.room_history.specs.Shown.{entry_of, log_from}
 use Rattle.sight_reading.proofs.SnapshotLaws.{snapshot_again}
 use Rattle.convergence.specs.Grounded.{CanBeRead, IsGrounded, MayBeLogged}
-use Rattle.convergence.specs.Views.{view_at}
+use Rattle.room_history.specs.Shown.{view_at}
 use Rattle.convergence.proofs.Plains.{is_in, plain_ctx}
 
 -- what accepted actions come to is good

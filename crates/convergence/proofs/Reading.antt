@@ -27,7 +27,7 @@ use Rattle.wire_json.specs.declared.protocol.Protocol.TheVariants.{One, Two}
 use Rattle.wire_json.specs.declared.reason.Reason.{Reason}
 use Rattle.convergence.specs.Grounded.{IsGrounded}
 use Rattle.convergence.specs.Lines.{AllLines, IsShallow, ReadsBack}
-use Rattle.convergence.specs.Views.{view_at}
+use Rattle.room_history.specs.Shown.{view_at}
 use Rattle.convergence.proofs.Grounds.{StaysSound, view_plain}
 use Rattle.convergence.proofs.Messages.{change_reads, no_reads, ok_reads, sync_reads, update_reads}
 use Rattle.convergence.proofs.Pieces.{AllHave, ItemsFit, stream_have}

@@ -25,7 +25,7 @@ use Rattle.wire_json.specs.declared.reason.Reason.{Reason}
 use Rattle.convergence.specs.Grounded.{IsGrounded}
 use Rattle.convergence.specs.Lines.{IsShallow}
 use Rattle.convergence.specs.Shallow.{StatesAreShallow}
-use Rattle.convergence.specs.Views.{view_at}
+use Rattle.room_history.specs.Shown.{view_at}
 use Rattle.convergence.proofs.Grounds.{StaysSound, view_plain}
 use Rattle.convergence.proofs.Pieces.{AllHave}
 

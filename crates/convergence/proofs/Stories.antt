@@ -33,7 +33,7 @@ use Rattle.wire_json.specs.declared.protocol.Protocol.TheVariants.{One, Two}
 use Rattle.client_predict.specs.Following.{reads_all}
 use Rattle.convergence.specs.Grounded.{IsGrounded}
 use Rattle.convergence.specs.Lines.{ReadsBack}
-use Rattle.convergence.specs.Views.{view_at}
+use Rattle.room_history.specs.Shown.{view_at}
 use Rattle.convergence.proofs.Grounds.{StaysSound, view_plain, view_read}
 use Rattle.convergence.proofs.Steps.{last_has, map_last, newest_last, reads_change, reads_sync, reads_update, seeing}
 use Rattle.convergence.proofs.Texts.{leads_to_new}

@@ -1,5 +1,4 @@
 pub mod Calls
-pub mod Views
 pub mod Grounded
 pub mod Lines
 pub mod Seeing

@@ -8,7 +8,7 @@ use Rattle.game_trait.specs.Rules.{Rules}
 use Rattle.reducer.specs.Accepted.{Accepted}
 use Rattle.room_history.specs.Match.{Match}
 use Rattle.room_history.specs.Session.{Session}
-use Rattle.convergence.specs.Views.{view_at}
+use Rattle.room_history.specs.Shown.{view_at}
 
 pub record SeesAt {X G : Type 0} (rules : X → Rules G) (m : Match X G) (s : Session) (c : Client G) : Type 0 where
   pub later : List Accepted

@@ -26,7 +26,7 @@ ghost use Rattle.convergence.specs.Grounded.{CanBeRead, IsGrounded};
 ghost use Rattle.convergence.specs.Lines.{AllLines, IsShallow, ReadsBack};
 ghost use Rattle.convergence.specs.Seeing.{SeesAt};
 ghost use Rattle.convergence.specs.Shallow.{StatesAreShallow};
-ghost use Rattle.convergence.specs.Views.{view_at};
+ghost use Rattle.room_history.specs.Shown.{view_at};
 
 use any_game::AnyGame;
 use game_trait::Game;

@@ -55,14 +55,16 @@ all_lines (Line message ∷ pieces) = all_lines pieces ++ text message ∷ []
 all_lines (Mark ∷ pieces) = all_lines pieces
 all_lines (End why ∷ pieces) = all_lines pieces ++ text (Farewell why) ∷ []
 
--- those up to the last mark
-abbrev pub lines_to_mark : List Piece → List (List ℕ)
-lines_to_mark [] = []
-lines_to_mark (Line message ∷ pieces) = lines_to_mark pieces
-lines_to_mark (Mark ∷ pieces) = all_lines pieces
-lines_to_mark (End why ∷ pieces) = lines_to_mark pieces
+-- the pieces before the last mark
+abbrev pub to_mark : List Piece → List Piece
+to_mark [] = []
+to_mark (Mark ∷ pieces) = pieces
+to_mark (piece ∷ pieces) = to_mark pieces
 
--- the lines without the bye line, all of them and those up to the last mark
+abbrev pub lines_to_mark : List Piece → List (List ℕ)
+lines_to_mark pieces = all_lines (to_mark pieces)
+
+-- the lines without the bye line
 abbrev pub message_lines : List Piece → List (List ℕ)
 message_lines [] = []
 message_lines (Line message ∷ pieces) = message_lines pieces ++ text message ∷ []
@@ -70,9 +72,7 @@ message_lines (Mark ∷ pieces) = message_lines pieces
 message_lines (End why ∷ pieces) = message_lines pieces
 
 abbrev pub message_lines_to_mark : List Piece → List (List ℕ)
-message_lines_to_mark [] = []
-message_lines_to_mark (Mark ∷ pieces) = message_lines pieces
-message_lines_to_mark (piece ∷ pieces) = message_lines_to_mark pieces
+message_lines_to_mark pieces = message_lines (to_mark pieces)
 
 abbrev pub without_marks : List Piece → List Piece
 without_marks [] = []

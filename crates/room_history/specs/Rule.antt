@@ -5,7 +5,7 @@ use Rattle.std.specs.List.{list_any}
 use Rattle.game_sheet.specs.declared.act.Act.{Act}
 use Rattle.game_sheet.specs.declared.act.Act.TheVariants.{Move, Event, Undo, Redo}
 use Rattle.game_sheet.specs.declared.act.EventKind.{EventKind}
-use Rattle.game_sheet.specs.declared.act.EventKind.TheVariants.{EndTurn, EndPhase, SetPhase, EndStage, SetStage, EndGame}
+use Rattle.game_sheet.specs.EventNames.{event_text}
 use Rattle.game_sheet.specs.declared.ctx.Ctx.{Ctx}
 use Rattle.game_sheet.specs.declared.sheet.Sheet.{Sheet}
 use Rattle.wire_json.specs.declared.asked.Asked.{Asked}
@@ -43,14 +43,9 @@ is_alone_in rows seat = false
 abbrev pub is_alone : Ctx → ℕ → Bool
 is_alone ctx seat = option_map_or (λ rows. is_alone_in rows seat) ctx.active (seat == ctx.current)
 
+-- two kinds of events are the same where they have the same name
 abbrev pub is_kind : EventKind → EventKind → Bool
-is_kind EndTurn EndTurn = true
-is_kind EndPhase EndPhase = true
-is_kind SetPhase SetPhase = true
-is_kind EndStage EndStage = true
-is_kind SetStage SetStage = true
-is_kind EndGame EndGame = true
-is_kind kind other = false
+is_kind kind other = bytes_eq (event_text kind) (event_text other)
 
 -- whether the sheet allows players the event that is asked for
 abbrev pub is_allowed : Sheet → Asked → Bool

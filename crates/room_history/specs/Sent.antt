@@ -6,7 +6,7 @@ use Rattle.game_sheet.specs.declared.act.Bye.{Bye}
 use Rattle.room_object.specs.Entry.{Entry}
 use Rattle.wire_json.specs.declared.server.ServerMsg.TheVariants.{Bye as Farewell}
 use Rattle.wire_json.specs.ServerText.{text}
-use Rattle.room_history.specs.Piece.{all_lines, lines_to_mark, message_lines_to_mark}
+use Rattle.room_history.specs.Piece.{all_lines, message_lines, to_mark}
 use Rattle.room_history.specs.Room.{room_of, reply}
 use Rattle.room_history.specs.Session.{Session, stream_of, is_detached, handful, bytes_handed_out}
 use Rattle.room_history.specs.declared.call.RoomCall.{RoomCall}
@@ -14,10 +14,10 @@ use Rattle.room_history.specs.declared.call.RoomCall.TheVariants.{Take}
 
 -- a session was sent the lines of its stream up to the last mark, and the other ones wait for the next Take, unless a Detach lost them
 pub record IsToldOf (s : Session) : Type 0 where
-  pub sent : s.sent ≡ lines_to_mark (stream_of s)
+  pub sent : s.sent ≡ all_lines (to_mark (stream_of s))
   pub rest : is_detached s.own ≡ false → all_lines (stream_of s) ≡ s.sent ++ handful s
   -- the bye line comes at most at the end
-  pub in_order : (s.sent ≡ message_lines_to_mark (stream_of s)) ⊎ ((why : Bye) × (s.sent ≡ message_lines_to_mark (stream_of s) ++ text (Farewell why) ∷ []))
+  pub in_order : (s.sent ≡ message_lines (to_mark (stream_of s))) ⊎ ((why : Bye) × (s.sent ≡ message_lines (to_mark (stream_of s)) ++ text (Farewell why) ∷ []))
 
 abbrev pub is_take : {X : Type 0} → RoomCall X → Bool
 is_take Take = true

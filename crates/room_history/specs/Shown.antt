@@ -7,6 +7,7 @@ use Rattle.move_log.specs.declared.entry.Entry.{Entry}
 use Rattle.phase_flow.specs.Reached.{Reached}
 use Rattle.player_sight.specs.Seen.{seen, snap_of}
 use Rattle.player_sight.specs.SnapshotData.{Snap}
+use Rattle.player_sight.specs.declared.shown.Snapshot.{Snapshot}
 use Rattle.reducer.specs.Accepted.{Accepted}
 use Rattle.reducer.specs.Fold.{fold}
 use Rattle.room_history.specs.Match.{Match}
@@ -37,8 +38,11 @@ module _ {G : Type 0} (rules : Rules G) (first : Reached G) where
 
 module _ {G : Type 0} (rules : Rules G) (first : Reached G) (seat : Option ℕ) where
   -- what is seen once these actions are accepted
+  abbrev pub view_at : List Accepted → Snapshot G
+  view_at accepted = let now = fold rules first accepted in seen rules (length accepted) now.ctx now.g (log_from rules first accepted) seat
+
   abbrev pub snapshot_at : List Accepted → Snap
-  snapshot_at accepted = snap_of rules (seen rules (length accepted) (fold rules first accepted).ctx (fold rules first accepted).g (log_from rules first accepted) seat)
+  snapshot_at accepted = snap_of rules (view_at accepted)
 
   -- what is seen then, and what was seen at so many numbers before, the latest first
   abbrev pub snapshots : ℕ → List Accepted → List Snap
@@ -52,7 +56,7 @@ module _ {X G : Type 0} (rules : X → Rules G) where
 
   -- what the player of a seat sees of a match now, or a spectator
   abbrev pub snapshot : Match X G → Option ℕ → Snap
-  snapshot m seat = snapshot_at (rules m.game) m.first seat m.accepted
+  snapshot m seat = snap_of (rules m.game) (view_at (rules m.game) m.first seat m.accepted)
 
   -- and at so many numbers before
   abbrev pub snapshots_of : Match X G → Option ℕ → ℕ → List Snap

@@ -28,7 +28,7 @@ use Rattle.client_predict.specs.Following.{followed, has_sync, is_bye, told_line
 use Rattle.convergence.specs.Lines.{AllLines, IsShallow}
 use Rattle.convergence.specs.Seeing.{SeesAt}
 use Rattle.convergence.specs.Shallow.{StatesAreShallow}
-use Rattle.convergence.specs.Views.{view_at}
+use Rattle.room_history.specs.Shown.{view_at}
 use Rattle.convergence.proofs.Clauses.{are_shallow, present, settled}
 use Rattle.convergence.proofs.Grounds.{StaysSound}
 use Rattle.convergence.proofs.Streams.{told_append}

@@ -7,7 +7,7 @@ use Rattle.player_sight.specs.declared.shown.Snapshot.{Snapshot}
 use Rattle.reducer.specs.Accepted.{Accepted}
 use Rattle.room_history.specs.Match.{Match}
 use Rattle.room_history.specs.Session.{Session}
-use Rattle.convergence.specs.Views.{view_at}
+use Rattle.room_history.specs.Shown.{view_at}
 use Rattle.world_history.specs.Words.{of_client}
 use Rattle.world_history.specs.WorldScript.{shown_text, shows, snapshot_text}
 use Rattle.world_convergence.specs.Settling.{Settles}

@@ -18,7 +18,7 @@ use Rattle.wire_json.specs.declared.protocol.Protocol.{Protocol}
 use Rattle.wire_json.specs.declared.server.ServerMsg.TheVariants.{Sync}
 use Rattle.convergence.specs.Doing.{KnowsWhere, ticket_in}
 use Rattle.client_predict.specs.Following.{is_bye}
-use Rattle.convergence.specs.Views.{view_at}
+use Rattle.room_history.specs.Shown.{view_at}
 use Rattle.world_history.specs.Words.{of_client}
 use Rattle.world_history.specs.World.{World}
 use Rattle.world_history.specs.WorldScript.{shows, snapshot_text}

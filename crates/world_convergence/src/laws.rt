@@ -21,7 +21,7 @@ ghost use Rattle.convergence.specs.Calls.{CallsFit};
 ghost use Rattle.convergence.specs.Doing.{KnowsWhere, ticket_in};
 ghost use Rattle.client_predict.specs.Following.{is_bye};
 ghost use Rattle.convergence.specs.Shallow.{StatesAreShallow};
-ghost use Rattle.convergence.specs.Views.{view_at};
+ghost use Rattle.room_history.specs.Shown.{view_at};
 ghost use Rattle.hall_history.specs.Mark.{Mark};
 ghost use Rattle.hall_history.specs.Rooms.{history_of};
 ghost use Rattle.world_history.specs.Words.{of_client};
