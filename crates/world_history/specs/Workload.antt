@@ -186,5 +186,5 @@ module _ {X G : Type 0} (rules : X → Rules G) where
 
 module _ {X G : Type 0} (named : List ℕ → Option X) (rules : X → Rules G) (tape words : ℕ → List ℕ) where
   unfoldable pub transcript : ℕ → ℕ → List ℕ
-  transcript rooms steps = let fresh = record { world = new_world rooms; places = []; drawn = 0; held = 0; read = 0 } in
+  transcript rooms steps = let fresh : Workload X G = record { world = new_world rooms; places = []; drawn = 0; held = 0; read = 0 } in
       summary rules steps (steps_from named rules tape words 0 steps (begins_round named rules tape fresh))
