@@ -5,11 +5,7 @@ use Rattle.any_game.specs.AnyRules.{any_rules}
 use Rattle.any_game.specs.GameKind.{GameKind, TicTacToe, Countdown, Pig, HighHand, BlindBid, Captions}
 use Rattle.any_game.specs.Values.{any_value, as_bids, as_board, as_cards, as_heap, as_points, as_texts}
 use Rattle.any_game.specs.declared.any_g.AnyG.{AnyG}
-use Rattle.card_games.specs.BlindBid.{bidding_value, bids_value, own_bids, sealed_bid_value}
-use Rattle.card_games.specs.Captions.{own_texts, sealed_text_value, shown_value, texts_value}
-use Rattle.card_games.specs.HighHand.{cards_value, deck_value, hand_value, own_state, table_value}
-use Rattle.card_games.specs.Json.{list_value, number_value, option_value, split_value, text_value}
-use Rattle.card_games.specs.Sealed.{no_secret_value}
+use Rattle.card_games.specs.Parts.{bidding_value, bids_value, cards_value, deck_value, hand_value, list_value, no_secret_value, number_value, option_value, own_bids, own_state, own_texts, sealed_bid_value, sealed_text_value, shown_value, split_value, table_value, text_value, texts_value}
 use Rattle.open_game.specs.Forms.{seat_value}
 use Rattle.serde_json.specs.Data.{Data, depth, items_depth}
 use Rattle.serde_json.specs.View.{items_of}

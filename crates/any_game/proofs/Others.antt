@@ -5,9 +5,7 @@ use Rattle.any_game.specs.AnyRules.{any_rules}
 use Rattle.any_game.specs.GameKind.{GameKind, TicTacToe, Countdown, Pig, HighHand, BlindBid, Captions}
 use Rattle.any_game.specs.Values.{any_value, as_bids, as_board, as_cards, as_heap, as_points, as_texts}
 use Rattle.any_game.specs.declared.any_g.AnyG.{AnyG}
-use Rattle.card_games.specs.BlindBid.{bids_value, own_bids}
-use Rattle.card_games.specs.Captions.{own_texts, texts_value}
-use Rattle.card_games.specs.HighHand.{cards_value, own_state}
+use Rattle.card_games.specs.Parts.{bids_value, cards_value, own_bids, own_state, own_texts, texts_value}
 use Rattle.serde_json.specs.Data.{Data}
 use Rattle.table_states.specs.StateForms.{board_form, heap_form, points_form}
 use Rattle.std.specs.Option.{option_map_or}

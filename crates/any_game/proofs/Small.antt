@@ -9,13 +9,13 @@ use Rattle.any_game.specs.AnyRules.{any_rules}
 use Rattle.any_game.specs.GameKind.{GameKind, TicTacToe, Countdown, Pig, HighHand, BlindBid, Captions}
 use Rattle.any_game.specs.Values.{any_value, as_bids, as_board, as_cards, as_heap, as_points, as_texts}
 use Rattle.any_game.specs.declared.any_g.AnyG.{AnyG}
-use Rattle.card_games.specs.BlindBid.{Bids, bidding_value, bids_value, have_bidders, own_bidding, own_bids, own_sealed_bid, sealed_bid_value}
-use Rattle.card_games.specs.Captions.{Texts, have_writers, own_sealed_text, own_shown, own_texts, sealed_text_value, shown_value, texts_value}
-use Rattle.card_games.specs.HighHand.{Cards, cards_value, deck_value, from_scores, hand_value, have_places, own_deck, own_hand, own_state, own_table, table_value}
-use Rattle.card_games.specs.Json.{from_players, is_count, list_value, lone_value, number_value, option_value, own_option, split_value, text_value}
+use Rattle.card_games.specs.BlindBid.{Bids, have_bidders}
+use Rattle.card_games.specs.Captions.{Texts, have_writers}
+use Rattle.card_games.specs.HighHand.{Cards, have_places}
 use Rattle.card_games.specs.OwnLaws.{parts_of}
 use Rattle.card_games.specs.Pack.{are_cards, are_few, is_card}
-use Rattle.card_games.specs.Sealed.{are_seats, no_secret_value, own_no_secret}
+use Rattle.card_games.specs.Parts.{bidding_value, bids_value, cards_value, deck_value, from_players, from_scores, hand_value, is_count, list_value, lone_value, no_secret_value, number_value, option_value, own_bidding, own_bids, own_deck, own_hand, own_no_secret, own_option, own_sealed_bid, own_sealed_text, own_shown, own_state, own_table, own_texts, sealed_bid_value, sealed_text_value, shown_value, split_value, table_value, text_value, texts_value}
+use Rattle.card_games.specs.Sealed.{are_seats}
 use Rattle.card_games.specs.declared.sealed.Sealed.{Sealed}
 use Rattle.card_games.specs.declared.cards.Deck.{Deck}
 use Rattle.card_games.specs.declared.cards.Hand.{Hand}

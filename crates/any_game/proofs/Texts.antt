@@ -12,7 +12,7 @@ use Rattle.serde_json.specs.Data.{Data, null, number, unsigned, array, object, M
 use Rattle.serde_json.specs.View.{items_of}
 use Rattle.serde_json.specs.Written.{comma_if, compact_text, items_text, members_text}
 use Rattle.game_sheet.specs.Short.{is_plain, is_short}
-use Rattle.card_games.specs.Json.{list_value, lone_value, number_value, option_value, own_option, text_value}
+use Rattle.card_games.specs.Parts.{list_value, lone_value, number_value, option_value, own_option, text_value}
 
 -- the text of each own value has at most so many bytes
 abbrev pub AtMost : {A : Type 0} → ℕ → (A → Data) → (A → Bool) → Type 0

@@ -2,9 +2,9 @@
 use Rattle.std.specs.Prelude.{◌≡◌, Option, Some, None, IfSome, refl}
 use Rattle.any_game.specs.declared.any_g.AnyG.{AnyG}
 use Rattle.any_game.specs.declared.any_g.AnyG.TheVariants.{TicTacToe, Countdown, Pig, HighHand, BlindBid, Captions}
-use Rattle.card_games.specs.BlindBid.{Bids, bids_value}
-use Rattle.card_games.specs.Captions.{Texts, texts_value}
-use Rattle.card_games.specs.HighHand.{Cards, cards_value}
+use Rattle.card_games.specs.BlindBid.{Bids, bids_form}
+use Rattle.card_games.specs.Captions.{Texts, texts_form}
+use Rattle.card_games.specs.HighHand.{Cards, cards_form}
 use Rattle.serde_json.specs.Data.{Data}
 use Rattle.table_states.specs.Points.{Points}
 use Rattle.table_states.specs.StateForms.{board_form, heap_form, points_form}
@@ -15,9 +15,9 @@ abbrev pub any_value : AnyG → Data
 any_value (TicTacToe board) = board_form.value board
 any_value (Countdown heap) = heap_form.value heap
 any_value (Pig points) = points_form.value points
-any_value (HighHand cards) = cards_value cards
-any_value (BlindBid bids) = bids_value bids
-any_value (Captions texts) = texts_value texts
+any_value (HighHand cards) = cards_form.value cards
+any_value (BlindBid bids) = bids_form.value bids
+any_value (Captions texts) = texts_form.value texts
 
 -- a state as one of tic-tac-toe, if it is one
 abbrev pub as_board : AnyG → Option Board

@@ -1,7 +1,7 @@
 -- A list that is read item by item, and two lists that are compared item by item.
 use Rattle.std.proofs.Common.{◌≡◌, ℕ, zero, suc, ◌+◌, ◌<◌, List, [], ◌∷◌, ◌++◌, length, drop, get_or, Option, Some, None, refl, ap, ◌∙◌, sym, arith, append_assoc}
 use Rattle.std.proofs.lemmas.List.{get_or_default}
-use Rattle.card_games.specs.Json.{first_of, read_items}
+use Rattle.card_games.specs.Parts.{first_of, read_items}
 use Rattle.serde_json.specs.Data.{Data}
 use Rattle.serde_json.specs.View.{items_view, view}
 use Rattle.serde_json.specs.declared.value.Value.{Value}

@@ -4,12 +4,12 @@ use Rattle.std.specs.List.{AllByRecursion, list_all}
 use Rattle.std.proofs.Common.{◌∙◌, ap, eq-eqb, lit<, lit≤}
 use Rattle.std.proofs.lemmas.Bool.{and_parts}
 use Rattle.std.proofs.lemmas.List.{length-replicate, length-set}
-use Rattle.card_games.specs.BlindBid.{Bids, bid, bid_move, bid_offers, bid_sheet, bidding_names, bidding_value, bids_value, blind_bid, boast, have_bidders, is_bid, no_bids, offered_bids, offered_boasts, own_bidding, own_bids, own_sealed_bid, read_bidding, read_bids, read_sealed_bid, revealed, sealed_bid_value, with_bids}
-use Rattle.card_games.specs.Json.{apply, is_count, list_value, number_value, option_value, own_option, own_split, read_count, read_list, read_member, read_option, read_split}
+use Rattle.card_games.specs.BlindBid.{Bids, bid, bid_move, bid_offers, bid_sheet, blind_bid, boast, have_bidders, is_bid, no_bids, offered_bids, offered_boasts, revealed, with_bids}
 use Rattle.card_games.specs.Offers.{offers}
 use Rattle.card_games.specs.OwnLaws.{OwnSplit, all_copies, all_if, all_joined, all_set, count_seen, either_gives, either_keeps, move_own, of_parts, offers_known, parts_of, view_own}
-use Rattle.card_games.specs.PartLaws.{IsMemberFrom, IsPart, IsReadFrom, IsRow, applied, both_true, count_part, counts_part, list_part, member_from, object_back, object_from, option_part, passing_part, read_from, small_is_count, split_part}
-use Rattle.card_games.specs.Sealed.{are_seats, have_all, may_seal, no_secret_value, own_no_secret, read_no_secret, shown_items}
+use Rattle.card_games.specs.PartLaws.{IsMemberFrom, IsPart, IsReadFrom, IsRow, both_read, both_true, count_part, counts_part, list_part, member_from, object_back, object_from, option_part, passing_part, read_from, small_is_count, split_part}
+use Rattle.card_games.specs.Parts.{bidding_names, bidding_value, bids_value, is_count, list_value, no_secret_value, number_value, option_value, own_bidding, own_bids, own_no_secret, own_option, own_sealed_bid, own_split, read_bidding, read_bids, read_count, read_list, read_member, read_no_secret, read_option, read_sealed_bid, read_split, sealed_bid_value}
+use Rattle.card_games.specs.Sealed.{are_seats, have_all, may_seal, shown_items}
 use Rattle.card_games.specs.SealedLaws.{count_unsealed, first_seats, greatest_ends, no_secrets_part, seal_keeps, seal_own, sealed_part, seats_shown, shown_own, unsealed_own}
 use Rattle.card_games.specs.declared.bids.Bidding.{Bidding}
 use Rattle.card_games.specs.declared.sealed.Sealed.{Sealed}
@@ -24,6 +24,7 @@ use Rattle.game_trait.specs.Queues.{KeepsToSheet, QueuesInSheet}
 use Rattle.json_tree.proofs.WritableRows.{fixed}
 use Rattle.json_tree.specs.Canonical.{MembersAreCanonical}
 use Rattle.json_tree.specs.Writable.{IsWritable}
+use Rattle.open_game.specs.Forms.{both}
 use Rattle.secret_strip.specs.Strip.{strip}
 use Rattle.secret_strip.proofs.PlayersLemmas.{strip_twice}
 use Rattle.serde_json.specs.Data.{Data, null, boolean, number, string, array, object, Members, no_members, member}
@@ -44,7 +45,7 @@ abbrev bidding_of : List ℕ → Option (List ℕ) → Bidding
 bidding_of boasts revealed = record { boasts = boasts; revealed = revealed }
 
 abbrev pick_bidding : Data → Option Bidding
-pick_bidding d = apply (apply (Some bidding_of) (read_member (codes "boasts") (read_list read_count) d)) (read_member (codes "revealed") (read_option (read_list read_count)) d)
+pick_bidding d = both bidding_of (read_member (codes "boasts") (read_list read_count) d) (read_member (codes "revealed") (read_option (read_list read_count)) d)
 
 abbrev BiddingFrom : Members → Bidding → Type 0
 BiddingFrom ms b = IsTrue (own_bidding b) × (MembersAreCanonical ms → AllByRecursion (λ name. get_member name ms ≡ get_member name (bidding_members b)) bidding_names)
@@ -54,17 +55,16 @@ ShownFrom ms = IsMemberFrom (codes "revealed") (option_value (list_value number_
 
 bidding_row_from : (ms : Members) → IfSome (pick_bidding (object ms)) (BiddingFrom ms)
 bidding_row_from ms =
-    applied (ShownFrom ms) (BiddingFrom ms) _ _
-    (applied (IsMemberFrom (codes "boasts") (list_value number_value) (list_all is_count) ms) (λ f. (shown : Option (List ℕ)) → ShownFrom ms shown → BiddingFrom ms (f shown)) (Some bidding_of) _
+    both_read (IsMemberFrom (codes "boasts") (list_value number_value) (list_all is_count) ms) (ShownFrom ms) (BiddingFrom ms) bidding_of _ _
     (λ boasts h shown k. (both_true (list_all is_count boasts) (own_option (list_all is_count) shown) h.0 k.0, λ canonical. (h.1 canonical, (k.1 canonical, tt))))
-    (member_from (codes "boasts") (list_value number_value) (read_list read_count) (list_all is_count) counts_part ms))
+    (member_from (codes "boasts") (list_value number_value) (read_list read_count) (list_all is_count) counts_part ms)
     (member_from (codes "revealed") (option_value (list_value number_value)) (read_option (read_list read_count)) (own_option (list_all is_count)) shown_part ms)
 
 bidding_row_back : (b : Bidding) → IsTrue (own_bidding b) → pick_bidding (object (bidding_members b)) ≡ Some b
 bidding_row_back b own =
     let parts = and_parts (list_all is_count b.boasts) (own_option (list_all is_count) b.revealed) own in
-    ap (λ o. apply (apply (Some bidding_of) o) (read_option (read_list read_count) (option_value (list_value number_value) b.revealed))) (counts_part.back b.boasts parts.0)
-    ∙ ap (apply (Some (bidding_of b.boasts))) (shown_part.back b.revealed parts.1)
+    ap (λ o. both bidding_of o (read_option (read_list read_count) (option_value (list_value number_value) b.revealed))) (counts_part.back b.boasts parts.0)
+    ∙ ap (both bidding_of (Some b.boasts)) (shown_part.back b.revealed parts.1)
 
 bidding_row : IsRow bidding_names bidding_members pick_bidding own_bidding
 bidding_row = record {

@@ -1,11 +1,9 @@
 -- Blind Bid: two to eight seats seal one bid each, and the greatest wins when all have bid.
 use Rattle.std.specs.Prelude.{ℕ, ◌==◌, ◌&&◌, nat_eq, nat_le, nat_lt, true, false, Bool, if◌then◌else◌, pos, List, [], ◌∷◌, ◌++◌, length, replicate, slice_get, slice_set, codes, option_map, Option, Some, None}
-use Rattle.std.specs.List.{list_all}
-use Rattle.card_games.specs.Json.{apply, is_count, list_value, lone_value, number_value, option_value, own_option, own_split, passing, read_count, read_list, read_lone, read_member, read_object, read_option, read_split, split_value}
+use Rattle.card_games.specs.Json.{count_form, each, or_none, split_form, where_holds}
 use Rattle.card_games.specs.Offers.{offers}
-use Rattle.card_games.specs.Sealed.{Sealing, are_seats, no_secret_value, own_no_secret, read_no_secret, seal, seal_offers, sealed_end, sealing_specs, sealing_stages, sealing_turn, shown_items, unsealed}
+use Rattle.card_games.specs.Sealed.{Sealing, are_seats, no_secret_form, seal, seal_offers, sealed_end, sealed_form, sealing_specs, sealing_stages, sealing_turn, shown_items, unsealed}
 use Rattle.card_games.specs.declared.bids.Bidding.{Bidding}
-use Rattle.card_games.specs.declared.sealed.Sealed.{Sealed}
 use Rattle.game_sheet.specs.declared.act.Outcome.{Outcome}
 use Rattle.game_sheet.specs.declared.args.Arg.{Arg}
 use Rattle.game_sheet.specs.declared.args.Arg.TheVariants.{Whole}
@@ -13,8 +11,9 @@ use Rattle.game_sheet.specs.declared.sheet.Sheet.{Sheet}
 use Rattle.game_trait.specs.Deed.{Barred, Deed, Done, GaveUp, Invalid}
 use Rattle.game_trait.specs.Offers.{offered}
 use Rattle.game_trait.specs.Rules.{Rules, plain}
+use Rattle.open_game.specs.Form.{Form}
+use Rattle.open_game.specs.Forms.{object_of_two}
 use Rattle.secret_strip.specs.Strip.{strip}
-use Rattle.serde_json.specs.Data.{Data, object, member, no_members}
 use Rattle.std.specs.Option.{option_map_or}
 
 -- everybody sees the boasts and, at the end, the bids; each seat alone sees its own bid before
@@ -80,42 +79,19 @@ offered_boasts = Whole (pos 0) ∷ Whole (pos 1) ∷ Whole (pos 2) ∷ Whole (po
 abbrev pub bid_offers : Bids → ℕ → List (ℕ × List Arg)
 bid_offers g seat = seal_offers (slice_get g.players seat) (offers 0 offered_bids ++ offers 1 offered_boasts)
 
-abbrev pub bidding_names : List (List ℕ)
-bidding_names = codes "boasts" ∷ codes "revealed" ∷ []
-
-abbrev pub bidding_value : Bidding → Data
-bidding_value b = object (member (codes "boasts") (list_value number_value b.boasts) (member (codes "revealed") (option_value (list_value number_value) b.revealed) no_members))
-
-abbrev pub read_bidding : Data → Option Bidding
-read_bidding v = read_object bidding_names (λ d. apply (apply (Some (λ boasts revealed. record { boasts = boasts; revealed = revealed })) (read_member (codes "boasts") (read_list read_count) d)) (read_member (codes "revealed") (read_option (read_list read_count)) d)) v
-
-abbrev pub own_bidding : Bidding → Bool
-own_bidding b = list_all is_count b.boasts && own_option (list_all is_count) b.revealed
-
-abbrev pub sealed_bid_value : Sealed ℕ → Data
-sealed_bid_value entry = lone_value (codes "bid") (option_value number_value) entry.item
-
-abbrev pub read_sealed_bid : Data → Option (Sealed ℕ)
-read_sealed_bid v = option_map (λ bid. record { item = bid }) (read_lone (codes "bid") (read_option read_count) v)
-
-abbrev pub own_sealed_bid : Sealed ℕ → Bool
-own_sealed_bid entry = own_option is_count entry.item
-
-abbrev pub bids_value : Bids → Data
-bids_value g = split_value bidding_value no_secret_value sealed_bid_value g
-
 -- one to eight seats have a boast each, an entry each, and a bid each where the bids are shown
 abbrev pub have_bidders : Bids → Bool
 have_bidders g = (length g.common.boasts == length g.players) && are_seats 8 (length g.players) (option_map (λ bids. length bids) g.common.revealed)
 
-abbrev pub read_bids : Data → Option Bids
-read_bids v = passing have_bidders (read_split read_bidding read_no_secret read_sealed_bid v)
+abbrev pub bidding_form : Form Bidding
+bidding_form = object_of_two (codes "boasts") (each count_form) (codes "revealed") (or_none (each count_form))
+    (λ boasts revealed. record { boasts = boasts; revealed = revealed }) (λ b. b.boasts) (λ b. b.revealed)
 
-abbrev pub own_bids : Bids → Bool
-own_bids g = have_bidders g && own_split own_bidding own_no_secret own_sealed_bid g
+abbrev pub bids_form : Form Bids
+bids_form = where_holds have_bidders (split_form bidding_form (each (or_none (sealed_form (codes "bid") count_form))) (or_none no_secret_form))
 
 abbrev pub blind_bid : Rules Bids
-blind_bid = record (plain bid_sheet (λ seats words. Done (no_bids seats) words []) (λ g ctx seat id args words. bid_move g seat id args words) own_bids bids_value read_bids) {
+blind_bid = record (plain bid_sheet (λ seats words. Done (no_bids seats) words []) (λ g ctx seat id args words. bid_move g seat id args words) bids_form.own bids_form.value bids_form.read) {
   end_if = λ g ctx. bid_end g;
   game_end = λ g ctx words. Done (revealed g) words [];
   view = λ g ctx viewer. strip g viewer;

@@ -3,12 +3,13 @@ use Rattle.std.specs.Prelude.{◌≡◌, ℕ, ◌<◌, ◌≤◌, ◌&&◌, nat_
 use Rattle.std.specs.List.{AllByRecursion, list_all}
 use Rattle.std.proofs.Common.{◌∙◌, ap, lit<}
 use Rattle.std.proofs.lemmas.Bool.{and_parts}
-use Rattle.card_games.specs.Captions.{Texts, caption_offers, caption_sheet, captions, have_writers, no_texts, offered_texts, own_sealed_text, own_shown, own_texts, read_sealed_text, read_shown, read_texts, sealed_text_value, shown_value, texts_revealed, texts_value, write}
-use Rattle.card_games.specs.Json.{list_value, lone_value, option_value, own_option, own_split, read_list, read_lone, read_option, read_split, read_text, text_value}
+use Rattle.card_games.specs.Captions.{Texts, caption_offers, caption_sheet, captions, have_writers, no_texts, texts_revealed, write}
+use Rattle.card_games.specs.Json.{read_text}
 use Rattle.card_games.specs.Offers.{offers}
 use Rattle.card_games.specs.OwnLaws.{all_if, count_seen, of_parts, offers_known, parts_of, view_own}
 use Rattle.card_games.specs.PartLaws.{IsPart, list_part, lone_part, option_part, passing_part, read_from, split_part, text_part, wrapped_part}
-use Rattle.card_games.specs.Sealed.{are_seats, have_all, may_seal, no_secret_value, own_no_secret, read_no_secret, shown_items}
+use Rattle.card_games.specs.Parts.{list_value, no_secret_value, offered_texts, option_value, own_no_secret, own_option, own_sealed_text, own_shown, own_split, own_texts, read_list, read_no_secret, read_option, read_sealed_text, read_shown, read_split, read_texts, sealed_text_value, shown_value, text_value, texts_value}
+use Rattle.card_games.specs.Sealed.{are_seats, have_all, may_seal, shown_items}
 use Rattle.card_games.specs.SealedLaws.{count_unsealed, first_seats, greatest_ends, no_secrets_part, seal_keeps, seal_own, sealed_part, seats_shown, shown_own, unsealed_own}
 use Rattle.card_games.specs.declared.sealed.Sealed.{Sealed}
 use Rattle.card_games.specs.declared.texts.Shown.{Shown}
@@ -33,7 +34,7 @@ abbrev shown_with : Option (List (List ℕ)) → Shown
 shown_with texts = record { revealed = texts }
 
 shown_part : IsPart shown_value read_shown own_shown
-shown_part = wrapped_part (lone_value (codes "revealed") (option_value (list_value text_value))) (read_lone (codes "revealed") (read_option (read_list read_text))) (own_option (list_all is_short)) shown_with (λ s. s.revealed) (λ s. refl) (λ texts. refl)
+shown_part = wrapped_part (codes "revealed") (option_value (list_value text_value)) (read_option (read_list read_text)) (own_option (list_all is_short)) shown_with (λ s. s.revealed) (λ s. refl) (λ texts. refl)
     (lone_part (codes "revealed") (λ d. refl) (λ d. refl) (λ d. refl) (option_value (list_value text_value)) (read_option (read_list read_text)) (own_option (list_all is_short))
     (option_part (list_value text_value) (read_list read_text) (list_all is_short) (list_part text_value read_text is_short text_part) (λ texts own. refl)))
 

@@ -8,11 +8,12 @@ use Rattle.std.proofs.lemmas.List.{length-replicate, length-set}
 use Rattle.std.proofs.lemmas.List.Edits.{length-swap}
 use Rattle.std.proofs.lemmas.List.Folds.{list_all-append}
 use Rattle.card_games.specs.Greatest.{first_greatest}
-use Rattle.card_games.specs.HighHand.{Cards, after_turn, are_places, before_draws, card_move, card_offers, cards_value, deck_in, deck_value, draw, draw_to, hand_in, hand_of, hand_value, have_places, height, high_hand, high_hand_sheet, is_free, is_full, is_played, laid, lay, lay_card, lay_from, lay_offers, lays, one_more, opened, own_deck, own_hand, own_state, own_table, point_at, read_card, read_cards, read_deck, read_hand, read_state, read_table, scored, set_up, table_names, table_of, table_value, with_deck, with_hand}
-use Rattle.card_games.specs.Json.{apply, is_count, list_value, lone_value, number_value, option_value, own_option, own_split, read_count, read_list, read_lone, read_member, read_option}
+use Rattle.card_games.specs.HighHand.{Cards, after_turn, are_places, before_draws, card_move, card_offers, draw, draw_to, hand_in, hand_of, have_places, height, high_hand, high_hand_sheet, is_free, is_full, is_played, laid, lay, lay_card, lay_from, lay_offers, lays, opened, point_at, scored, set_up, with_deck, with_hand}
+use Rattle.card_games.specs.Json.{apply}
 use Rattle.card_games.specs.OwnLaws.{OwnSplit, all_copies, all_if, all_joined, all_set, count_seen, either_gives, either_keeps, either_own, move_own, of_parts, parts_of, view_own}
 use Rattle.card_games.specs.Pack.{are_cards, are_few, is_card, pack}
 use Rattle.card_games.specs.PartLaws.{IsMemberFrom, IsPart, IsReadFrom, IsRow, applied, both_true, count_part, counts_part, list_part, lone_part, member_from, number_part, object_back, object_from, option_part, passing_part, read_from, small_is_count, split_part, wrapped_part}
+use Rattle.card_games.specs.Parts.{cards_value, deck_in, deck_value, hand_value, is_count, list_value, number_value, one_more, option_value, own_deck, own_hand, own_option, own_split, own_state, own_table, read_card, read_cards, read_count, read_deck, read_hand, read_list, read_member, read_option, read_state, read_table, table_names, table_of, table_value}
 use Rattle.card_games.specs.SealedLaws.{greatest_ends}
 use Rattle.card_games.specs.declared.cards.CardTable.{CardTable}
 use Rattle.card_games.specs.declared.cards.Deck.{Deck}
@@ -50,14 +51,14 @@ abbrev hand_with : List ℕ → Hand
 hand_with cards = record { cards = cards }
 
 hand_part : IsPart hand_value read_hand own_hand
-hand_part = wrapped_part (lone_value (codes "hand") (list_value number_value)) (read_lone (codes "hand") read_cards) are_cards hand_with (λ h. h.cards) (λ h. refl) (λ cards. refl)
+hand_part = wrapped_part (codes "hand") (list_value number_value) read_cards are_cards hand_with (λ h. h.cards) (λ h. refl) (λ cards. refl)
     (lone_part (codes "hand") (λ d. refl) (λ d. refl) (λ d. refl) (list_value number_value) read_cards are_cards pile_part)
 
 abbrev deck_with : List ℕ → Deck
 deck_with cards = record { cards = cards }
 
 deck_part : IsPart deck_value read_deck own_deck
-deck_part = wrapped_part (lone_value (codes "deck") (list_value number_value)) (read_lone (codes "deck") read_cards) are_cards deck_with (λ d. d.cards) (λ d. refl) (λ cards. refl)
+deck_part = wrapped_part (codes "deck") (list_value number_value) read_cards are_cards deck_with (λ d. d.cards) (λ d. refl) (λ cards. refl)
     (lone_part (codes "deck") (λ d. refl) (λ d. refl) (λ d. refl) (list_value number_value) read_cards are_cards pile_part)
 
 abbrev table_members : CardTable → Members

@@ -1,10 +1,9 @@
 -- No part of these games' states has a float: the proofs that each part keeps this law, which no other definition cites.
 use Rattle.std.specs.Prelude.{◌≡◌, ℕ, Bool, false, ◌||◌, List, [], ◌∷◌, map, codes, Option, Some, None, refl}
-use Rattle.card_games.specs.BlindBid.{Bids, bids_value, bidding_value, sealed_bid_value}
-use Rattle.card_games.specs.Captions.{Texts, sealed_text_value, shown_value, texts_value}
-use Rattle.card_games.specs.HighHand.{Cards, cards_value, deck_value, hand_value, table_value}
-use Rattle.card_games.specs.Json.{list_value, lone_value, number_value, option_value, split_value, text_value}
-use Rattle.card_games.specs.Sealed.{no_secret_value}
+use Rattle.card_games.specs.BlindBid.{Bids}
+use Rattle.card_games.specs.Captions.{Texts}
+use Rattle.card_games.specs.HighHand.{Cards}
+use Rattle.card_games.specs.Parts.{bidding_value, bids_value, cards_value, deck_value, hand_value, list_value, lone_value, no_secret_value, number_value, option_value, sealed_bid_value, sealed_text_value, shown_value, split_value, table_value, text_value, texts_value}
 use Rattle.card_games.specs.declared.bids.Bidding.{Bidding}
 use Rattle.card_games.specs.declared.cards.CardTable.{CardTable}
 use Rattle.card_games.specs.declared.cards.Deck.{Deck}

@@ -1,9 +1,9 @@
 -- High Hand: two to four seats draw two cards each and lay them one by one; the highest card on a full table scores a point, and the greatest score wins.
-use Rattle.std.specs.Prelude.{ℕ, ◌+◌, ◌-◌, ◌^◌, ◌==◌, ◌&&◌, min, nat_eq, nat_le, nat_lt, true, false, Bool, if◌then◌else◌, pos, List, [], ◌∷◌, ◌++◌, length, replicate, remove, slice_get, slice_index, slice_set, codes, is_some, is_none, option_map, unwrap_or, Option, Some, None, zero, suc}
+use Rattle.std.specs.Prelude.{ℕ, ◌+◌, ◌-◌, ◌^◌, ◌==◌, ◌&&◌, min, nat_eq, nat_le, nat_lt, true, false, Bool, if◌then◌else◌, pos, List, [], ◌∷◌, ◌++◌, length, replicate, remove, slice_get, slice_index, slice_set, codes, is_some, is_none, unwrap_or, Option, Some, None, zero, suc}
 use Rattle.std.specs.List.{list_all}
 use Rattle.card_games.specs.Greatest.{first_greatest, one_greatest}
-use Rattle.card_games.specs.Json.{apply, is_count, list_value, lone_value, number_value, option_value, own_option, own_split, passing, read_count, read_list, read_lone, read_member, read_number, read_object, read_option, read_split, split_value}
-use Rattle.card_games.specs.Pack.{are_cards, are_few, is_card, pack}
+use Rattle.card_games.specs.Json.{apply, count_form, each, or_none, read_object, split_form, where_holds}
+use Rattle.card_games.specs.Pack.{are_few, pack}
 use Rattle.card_games.specs.declared.cards.CardTable.{CardTable}
 use Rattle.card_games.specs.declared.cards.Deck.{Deck}
 use Rattle.card_games.specs.declared.cards.Hand.{Hand}
@@ -18,9 +18,11 @@ use Rattle.game_sheet.specs.declared.sheet.Sheet.{Sheet}
 use Rattle.game_trait.specs.Deed.{Barred, Deed, Done, GaveUp, Invalid, Lack, Spent}
 use Rattle.game_trait.specs.Offers.{offered}
 use Rattle.game_trait.specs.Rules.{Rules, plain}
+use Rattle.open_game.specs.Form.{Form}
+use Rattle.open_game.specs.Forms.{member_read, natural, object_of_one}
 use Rattle.secret_strip.specs.Strip.{strip}
 use Rattle.secret_strip.specs.declared.split.Split.{Split}
-use Rattle.serde_json.specs.Data.{Data, object, Members, member, no_members}
+use Rattle.serde_json.specs.Data.{object, member, no_members}
 use Rattle.std.specs.Option.{option_map_or}
 
 -- everybody sees the table, each seat its own hand, and nobody the deck
@@ -73,9 +75,6 @@ hand_in _ = None
 abbrev pub hand_of : Cards → ℕ → Option (List ℕ)
 hand_of g seat = hand_in (slice_get g.players seat)
 
-abbrev pub deck_in : Option Deck → List ℕ
-deck_in secret = option_map_or (λ deck. deck.cards) secret []
-
 -- the state in which a seat has this hand, of which everybody sees the count
 abbrev pub with_hand : Cards → ℕ → List ℕ → Cards
 with_hand g seat hand = record g {
@@ -94,7 +93,7 @@ draw_to g seat (Some hand) [] words = GaveUp Invalid
 draw_to g seat (Some hand) (card ∷ deck) words = if are_few (hand ++ card ∷ []) && are_few deck then Done (with_deck (with_hand g seat (hand ++ card ∷ [])) deck) words [] else GaveUp Invalid
 
 abbrev pub draw : Cards → ℕ → List Arg → List ℕ → Deed Cards Barred
-draw g seat [] words = draw_to g seat (hand_of g seat) (deck_in g.secret) words
+draw g seat [] words = draw_to g seat (hand_of g seat) (option_map_or (λ deck. deck.cards) g.secret []) words
 draw g seat (_ ∷ _) words = GaveUp Invalid
 
 -- a seat's place on the table is free
@@ -126,12 +125,9 @@ lay g seat _ words = GaveUp Invalid
 abbrev pub card_move : Cards → ℕ → ℕ → List Arg → List ℕ → Deed Cards Barred
 card_move g seat id args words = if nat_lt seat 4 then (if nat_eq id 0 then draw g seat args words else lay g seat args words) else GaveUp Invalid
 
--- a point more, unless that is past what 32 bits hold
-abbrev pub one_more : ℕ → ℕ
-one_more score = min (score + 1) (2 ^ 32 - 1)
-
+-- a point more at a place, unless that is past what 32 bits hold
 abbrev pub point_at : Option ℕ → List ℕ → List ℕ
-point_at found scores = option_map_or (λ place. slice_set scores place (one_more (slice_index scores place))) found scores
+point_at found scores = option_map_or (λ place. slice_set scores place (min (slice_index scores place + 1) (2 ^ 32 - 1))) found scores
 
 -- what a place of the table counts for, or 0
 abbrev pub height : Option ℕ → ℕ
@@ -176,57 +172,6 @@ abbrev pub card_offers : Cards → ℕ → Option ℕ → List (ℕ × List Arg)
 card_offers g seat None = []
 card_offers g seat (Some phase) = if nat_eq phase 0 then (0, []) ∷ [] else (if nat_eq phase 1 then lay_offers g seat (hand_of g seat) else [])
 
-abbrev pub table_names : List (List ℕ)
-table_names = codes "hands" ∷ codes "left" ∷ codes "scores" ∷ codes "table" ∷ []
-
--- the members of a table from its scores on
-abbrev pub from_scores : List ℕ → List (Option ℕ) → Members
-from_scores scores places = member (codes "scores") (list_value number_value scores) (member (codes "table") (list_value (option_value number_value) places) no_members)
-
-abbrev pub table_value : CardTable → Data
-table_value t = object (member (codes "hands") (list_value number_value t.hands) (member (codes "left") (number_value t.left) (from_scores t.scores t.places)))
-
-abbrev pub table_of : List ℕ → ℕ → List ℕ → List (Option ℕ) → CardTable
-table_of hands left scores places = record { hands = hands; left = left; scores = scores; places = places }
-
-abbrev pub read_card : Data → Option ℕ
-read_card d = read_number 51 d
-
--- the table of these counts whose scores and places an object holds
-abbrev pub rest_of_table : List ℕ → ℕ → Data → Option CardTable
-rest_of_table hands left d = apply (apply (Some (table_of hands left)) (read_member (codes "scores") (read_list read_count) d)) (read_member (codes "table") (read_list (read_option read_card)) d)
-
-abbrev pub read_table : Data → Option CardTable
-read_table v = read_object table_names (λ d. apply (apply (apply (apply (Some table_of) (read_member (codes "hands") (read_list read_count) d)) (read_member (codes "left") read_count d)) (read_member (codes "scores") (read_list read_count) d)) (read_member (codes "table") (read_list (read_option read_card)) d)) v
-
-abbrev pub own_table : CardTable → Bool
-own_table t = list_all is_count t.hands && is_count t.left && list_all is_count t.scores && list_all (own_option is_card) t.places
-
--- the cards of a hand or a deck
-abbrev pub read_cards : Data → Option (List ℕ)
-read_cards d = passing are_few (read_list read_card d)
-
-abbrev pub hand_value : Hand → Data
-hand_value h = lone_value (codes "hand") (list_value number_value) h.cards
-
-abbrev pub read_hand : Data → Option Hand
-read_hand v = option_map (λ cards. record { cards = cards }) (read_lone (codes "hand") read_cards v)
-
-abbrev pub own_hand : Hand → Bool
-own_hand h = are_cards h.cards
-
-abbrev pub deck_value : Deck → Data
-deck_value d = lone_value (codes "deck") (list_value number_value) d.cards
-
-abbrev pub read_deck : Data → Option Deck
-read_deck v = option_map (λ cards. record { cards = cards }) (read_lone (codes "deck") read_cards v)
-
-abbrev pub own_deck : Deck → Bool
-own_deck d = are_cards d.cards
-
-abbrev pub cards_value : Cards → Data
-cards_value g = split_value table_value deck_value hand_value g
-
 -- one to eight seats have an entry, a count of cards, a score and a place on the table each
 abbrev pub are_places : ℕ → ℕ → ℕ → ℕ → Bool
 are_places players hands scores places = nat_le 1 players && nat_le players 8 && (hands == players) && (scores == players) && (places == players)
@@ -234,15 +179,36 @@ are_places players hands scores places = nat_le 1 players && nat_le players 8 &&
 abbrev pub have_places : Cards → Bool
 have_places g = are_places (length g.players) (length g.common.hands) (length g.common.scores) (length g.common.places)
 
-abbrev pub read_state : Data → Option Cards
-read_state v = passing have_places (read_split read_table read_deck read_hand v)
+abbrev pub card_form : Form ℕ
+card_form = natural 51
 
-abbrev pub own_state : Cards → Bool
-own_state g = have_places g && own_split own_table own_deck own_hand g
+-- the cards of a hand or a deck
+abbrev pub pile_form : Form (List ℕ)
+pile_form = where_holds are_few (each card_form)
+
+abbrev pub hand_form : Form Hand
+hand_form = object_of_one (codes "hand") pile_form (λ cards. record { cards = cards }) (λ h. h.cards)
+
+abbrev pub deck_form : Form Deck
+deck_form = object_of_one (codes "deck") pile_form (λ cards. record { cards = cards }) (λ d. d.cards)
+
+abbrev pub table_form : Form CardTable
+table_form = record {
+  own = λ t. (each count_form).own t.hands && count_form.own t.left && (each count_form).own t.scores && (each (or_none card_form)).own t.places;
+  value = λ t. object (member (codes "hands") ((each count_form).value t.hands) (member (codes "left") (count_form.value t.left)
+      (member (codes "scores") ((each count_form).value t.scores) (member (codes "table") ((each (or_none card_form)).value t.places) no_members))));
+  read = read_object (codes "hands" ∷ codes "left" ∷ codes "scores" ∷ codes "table" ∷ []) (λ v. apply (apply (apply (apply
+      (Some (λ hands left scores places. record { hands = hands; left = left; scores = scores; places = places }))
+      (member_read (each count_form).read (codes "hands") v)) (member_read count_form.read (codes "left") v))
+      (member_read (each count_form).read (codes "scores") v)) (member_read (each (or_none card_form)).read (codes "table") v));
+}
+
+abbrev pub cards_form : Form Cards
+cards_form = where_holds have_places (split_form table_form (each (or_none hand_form)) (or_none deck_form))
 
 -- the game of a deck in a fixed order, or of shuffled packs
 abbrev pub high_hand : Option Dealt → Rules Cards
-high_hand deck = record (plain high_hand_sheet (set_up deck) (λ g ctx seat id args words. card_move g seat id args words) own_state cards_value read_state) {
+high_hand deck = record (plain high_hand_sheet (set_up deck) (λ g ctx seat id args words. card_move g seat id args words) cards_form.own cards_form.value cards_form.read) {
   turn_end = λ g ctx words. Done (after_turn g) words [];
   end_if = λ g ctx. card_end g ctx.phase;
   view = λ g ctx viewer. strip g viewer;

@@ -11,5 +11,6 @@ pub mod Offers
 pub mod OwnLaws
 pub mod Pack
 pub mod PartLaws
+pub mod Parts
 pub mod Sealed
 pub mod SealedLaws

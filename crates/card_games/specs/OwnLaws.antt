@@ -5,9 +5,9 @@ use Rattle.std.proofs.Common.{◌∙◌, ap}
 use Rattle.std.proofs.lemmas.Bool.{and_parts}
 use Rattle.std.proofs.lemmas.List.Elements.{All-replicate, All-set}
 use Rattle.std.proofs.lemmas.List.Sums.{AllPass-from_list_all, list_all-from_AllPass}
-use Rattle.card_games.specs.Json.{own_option, own_split}
 use Rattle.card_games.specs.Offers.{offers}
 use Rattle.card_games.specs.PartLaws.{both_true}
+use Rattle.card_games.specs.Parts.{own_option, own_split}
 use Rattle.game_sheet.specs.declared.args.Arg.{Arg}
 use Rattle.game_sheet.specs.declared.sheet.Sheet.{Sheet}
 use Rattle.game_trait.specs.Deed.{Deed, Done, GaveUp, Invalid}

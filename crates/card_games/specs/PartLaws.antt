@@ -5,13 +5,15 @@ use Rattle.std.proofs.Common.{◌∙◌, ap, lit<, subst, sym}
 use Rattle.std.proofs.Math.Nat.{le_trans, lt_of_le_of_lt}
 use Rattle.std.proofs.lemmas.Bool.{and_parts, le-leb, leb-true}
 use Rattle.std.proofs.lemmas.Str.{IsUtf8-from_is_utf8}
-use Rattle.card_games.specs.Json.{apply, first_of, is_count, list_value, lone_value, number_value, option_value, own_option, own_split, passing, read_count, read_items, read_list, read_lone, read_member, read_number, read_object, read_option, read_split, read_text, split_names, split_of, split_value, text_value}
+use Rattle.card_games.specs.Json.{apply, read_object, read_text}
+use Rattle.card_games.specs.Parts.{first_of, is_count, list_value, lone_value, number_value, option_value, own_option, own_split, passing, read_count, read_items, read_list, read_lone, read_member, read_number, read_option, read_split, split_names, split_of, split_value, text_value}
 use Rattle.game_sheet.specs.Short.{is_plain, is_short}
 use Rattle.json_tree.specs.Canonical.{IsCanonical, IsOrdered, ItemsAreCanonical, MembersAreCanonical}
-use Rattle.json_tree.specs.Names.{has_extra}
+use Rattle.json_tree.specs.Names.{extra_in, has_extra}
 use Rattle.json_tree.specs.Writable.{IsWritable, ItemsAreWritable}
 use Rattle.json_tree.proofs.Rows.{canonical_member, row_is}
 use Rattle.json_tree.proofs.WritableRows.{all_rise, fixed}
+use Rattle.open_game.specs.Forms.{both}
 use Rattle.secret_strip.specs.declared.split.Split.{Split}
 use Rattle.serde_json.specs.Data.{Data, null, boolean, number, string, array, object, unsigned, negative, float, Items, no_items, item, Members, no_members, member}
 use Rattle.serde_json.specs.Find.{as_null, get_member}
@@ -48,6 +50,11 @@ pub applied : {A B : Type 0} (P : A → Type 0) (Q : B → Type 0) (f : Option (
 applied P Q None o h k = tt
 applied P Q (Some f) None h k = tt
 applied P Q (Some f) (Some x) h k = h x k
+
+pub both_read : {A B G : Type 0} (P : A → Type 0) (Q : B → Type 0) (R : G → Type 0) (make : A → B → G) (o : Option A) (p : Option B) → ((x : A) → P x → (y : B) → Q y → R (make x y)) → IfSome o P → IfSome p Q → IfSome (both make o p) R
+both_read P Q R make None p more h k = tt
+both_read P Q R make (Some x) None more h k = tt
+both_read P Q R make (Some x) (Some y) more h k = more x h y k
 
 passed : {A : Type 0} (P : A → Type 0) (test : A → Bool) (x : A) (passes : Bool) → test x ≡ passes → P x → IfSome (if passes then Some x else None) (λ y. (test y ≡ true) × P y)
 passed P test x true is h = (is, h)
@@ -202,14 +209,22 @@ weaker : {A : Type 0} (P Q : A → Type 0) (o : Option A) → ((x : A) → P x �
 weaker P Q None more h = tt
 weaker P Q (Some x) more h = more x h
 
--- a part inside another type of the same content
-pub wrapped_part : {A R : Type 0} (value : A → Data) (read : Data → Option A) (own : A → Bool) (wrap : A → R) (inner : R → A) → ((r : R) → wrap (inner r) ≡ r) → ((x : A) → inner (wrap x) ≡ x)
-    → IsPart value read own → IsPart (λ r. value (inner r)) (λ v. option_map wrap (read v)) (λ r. own (inner r))
-wrapped_part value read own wrap inner wraps unwraps part = record {
-  back = λ r own_r. ap (option_map wrap) (part.back (inner r) own_r) ∙ ap Some (wraps r);
-  from = λ v. mapped (IsReadFrom value own v) (IsReadFrom (λ r. value (inner r)) (λ r. own (inner r)) v) wrap (read v) (λ x h. (ap own (unwraps x) ∙ h.0, λ canonical. ap value (unwraps x) ∙ h.1 canonical)) (part.from v);
-  written = λ r own_r. part.written (inner r) own_r;
-}
+inside : {A R : Type 0} (wrap : A → R) (extra : Bool) (o : Option A) → option_map wrap (if extra then None else o) ≡ (if extra then None else option_map wrap o)
+inside wrap true o = refl
+inside wrap false o = refl
+
+-- an object with one part, inside another type of the same content
+pub wrapped_part : {A R : Type 0} (name : List ℕ) (value : A → Data) (read : Data → Option A) (own : A → Bool) (wrap : A → R) (inner : R → A) → ((r : R) → wrap (inner r) ≡ r) → ((x : A) → inner (wrap x) ≡ x)
+    → IsPart (lone_value name value) (read_lone name read) own → IsPart (λ r. lone_value name value (inner r)) (read_object (name ∷ []) (λ v. option_map wrap (read_member name read v))) (λ r. own (inner r))
+wrapped_part name value read own wrap inner wraps unwraps part =
+    let same : (v : Data) → option_map wrap (read_lone name read v) ≡ read_object (name ∷ []) (λ d. option_map wrap (read_member name read d)) v = λ v. inside wrap (extra_in (name ∷ []) v) (read_member name read v) in
+    record {
+      back = λ r own_r. sym (same (lone_value name value (inner r))) ∙ ap (option_map wrap) (part.back (inner r) own_r) ∙ ap Some (wraps r);
+      from = λ v. subst (λ o. IfSome o (IsReadFrom (λ r. lone_value name value (inner r)) (λ r. own (inner r)) v)) (same v)
+          (mapped (IsReadFrom (lone_value name value) own v) (IsReadFrom (λ r. lone_value name value (inner r)) (λ r. own (inner r)) v) wrap (read_lone name read v)
+          (λ x h. (ap own (unwraps x) ∙ h.0, λ canonical. ap (lone_value name value) (unwraps x) ∙ h.1 canonical)) (part.from v));
+      written = λ r own_r. part.written (inner r) own_r;
+    }
 
 -- an object with one member of a name, in which that member is found and no other
 module _ {A : Type 0} (name : List ℕ) (no_more : (d : Data) → has_extra (name ∷ []) (member name d no_members) ≡ false) (found : (d : Data) → get_member name (member name d no_members) ≡ Some d)

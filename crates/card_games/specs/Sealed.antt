@@ -3,6 +3,7 @@ use Rattle.std.specs.Prelude.{ℕ, ◌==◌, ◌&&◌, nat_le, Bool, false, if�
 use Rattle.std.specs.List.{filter_map, list_all}
 use Rattle.std.specs.Option.{option_map_or}
 use Rattle.card_games.specs.Greatest.{one_greatest}
+use Rattle.card_games.specs.Json.{or_none}
 use Rattle.card_games.specs.declared.sealed.NoSecret.{NoSecret}
 use Rattle.card_games.specs.declared.sealed.Sealed.{Sealed}
 use Rattle.game_sheet.specs.declared.act.Outcome.{Outcome}
@@ -12,8 +13,10 @@ use Rattle.game_sheet.specs.declared.sheet.SpecRow.{SpecRow}
 use Rattle.game_sheet.specs.declared.sheet.StageRow.{StageRow}
 use Rattle.game_sheet.specs.declared.sheet.TurnRow.{TurnRow}
 use Rattle.game_trait.specs.Deed.{Barred, Deed, Done, GaveUp, Invalid}
+use Rattle.open_game.specs.Form.{Form}
+use Rattle.open_game.specs.Forms.{object_of_one}
 use Rattle.secret_strip.specs.declared.split.Split.{Split}
-use Rattle.serde_json.specs.Data.{Data, null}
+use Rattle.serde_json.specs.Data.{null}
 
 -- what everybody sees, and for each seat an entry that it alone sees; nothing is hidden from everybody
 abbrev pub Sealing : Type 0 → Type 0 → Type 0
@@ -78,13 +81,12 @@ shown_items players = if have_all players then Some (filter_map item_of players)
 abbrev pub are_seats : ℕ → ℕ → Option ℕ → Bool
 are_seats most players shown = nat_le 1 players && nat_le players most && (unwrap_or shown players == players)
 
--- ---- nothing is hidden from everybody
+-- ---- how entries are written
 
-abbrev pub no_secret_value : NoSecret → Data
-no_secret_value _ = null
+-- an object whose one member is the item, or null
+abbrev pub sealed_form : {A : Type 0} → List ℕ → Form A → Form (Sealed A)
+sealed_form name form = object_of_one name (or_none form) (λ item. record { item = item }) (λ entry. entry.item)
 
-abbrev pub read_no_secret : Data → Option NoSecret
-read_no_secret _ = None
-
-abbrev pub own_no_secret : NoSecret → Bool
-own_no_secret _ = false
+-- nothing is hidden from everybody
+abbrev pub no_secret_form : Form NoSecret
+no_secret_form = record { own = λ _. false; value = λ _. null; read = λ _. None }

@@ -6,10 +6,11 @@ use Rattle.std.proofs.Math.Nat.{le_trans}
 use Rattle.std.proofs.lemmas.Bool.{and_parts, false≢true, le-leb}
 use Rattle.std.proofs.lemmas.List.{length-replicate, length-set}
 use Rattle.card_games.specs.Greatest.{count_greatest, first_greatest, one_greatest}
-use Rattle.card_games.specs.Json.{lone_value, option_value, own_option, own_split, read_lone, read_option}
+use Rattle.card_games.specs.Json.{read_object}
 use Rattle.card_games.specs.OwnLaws.{all_copies, all_set, either_keeps, move_own, of_parts, parts_of}
 use Rattle.card_games.specs.PartLaws.{IsNeverNull, IsPart, both_true, lone_part, option_part, wrapped_part}
-use Rattle.card_games.specs.Sealed.{Sealing, are_seats, have_all, item_of, may_seal, no_secret_value, own_no_secret, read_no_secret, seal, shown_items, unsealed, with_item}
+use Rattle.card_games.specs.Parts.{lone_value, no_secret_value, option_value, own_no_secret, own_option, own_split, read_member, read_no_secret, read_option}
+use Rattle.card_games.specs.Sealed.{Sealing, are_seats, have_all, item_of, may_seal, seal, shown_items, unsealed, with_item}
 use Rattle.card_games.specs.declared.sealed.Sealed.{Sealed}
 use Rattle.game_sheet.specs.declared.act.Outcome.{Outcome}
 use Rattle.game_sheet.specs.declared.act.Outcome.TheVariants.{Winner, Draw}
@@ -38,9 +39,9 @@ sealed_with item = record { item = item }
 -- a sealed entry of an item that is read so, as an object with a member of a name
 pub sealed_part : {A : Type 0} (name : List ℕ) → ((d : Data) → has_extra (name ∷ []) (member name d no_members) ≡ false) → ((d : Data) → get_member name (member name d no_members) ≡ Some d) → ((d : Data) → all_rise (member name d no_members) ≡ true)
     → (value : A → Data) (read : Data → Option A) (own : A → Bool) → IsPart value read own → IsNeverNull value own
-    → IsPart (λ (entry : Sealed A). lone_value name (option_value value) entry.item) (λ v. option_map sealed_with (read_lone name (read_option read) v)) (λ entry. own_option own entry.item)
+    → IsPart (λ (entry : Sealed A). lone_value name (option_value value) entry.item) (read_object (name ∷ []) (λ v. option_map sealed_with (read_member name (read_option read) v))) (λ entry. own_option own entry.item)
 sealed_part {A = A} name no_more found rises value read own part never =
-    wrapped_part {R = Sealed A} (lone_value name (option_value value)) (read_lone name (read_option read)) (own_option own) sealed_with (λ entry. entry.item) (λ entry. refl) (λ item. refl)
+    wrapped_part {R = Sealed A} name (option_value value) (read_option read) (own_option own) sealed_with (λ entry. entry.item) (λ entry. refl) (λ item. refl)
     (lone_part name no_more found rises (option_value value) (read_option read) (own_option own) (option_part value read own part never))
 
 -- ---- seats

@@ -1,7 +1,7 @@
 //! The state of Blind Bid.
 
 ghost use Rattle.std.specs.Prelude.{◌≡◌, OnOk};
-ghost use Rattle.card_games.specs.BlindBid.{bidding_value, read_bidding, read_sealed_bid, sealed_bid_value};
+ghost use Rattle.card_games.specs.Parts.{bidding_value, read_bidding, read_sealed_bid, sealed_bid_value};
 ghost use Rattle.serde_json.specs.Data.{no_members, object};
 ghost use Rattle.serde_json.specs.View.{members_view};
 

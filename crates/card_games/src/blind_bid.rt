@@ -1,7 +1,8 @@
 //! Blind Bid for two to eight seats.
 
 ghost use Rattle.std.specs.Prelude.{◌≡◌, ◌<◌, ◌++◌, ℕ, List as Items, [], length, slice_get, unwrap_or, IfOk, OnOk, Some};
-ghost use Rattle.card_games.specs.BlindBid.{Bids, bid, bid_end, bid_offers, bid_sheet, boast, have_bidders, is_bid, no_bids, read_bids, revealed, with_bids};
+ghost use Rattle.card_games.specs.BlindBid.{Bids, bid, bid_end, bid_offers, bid_sheet, boast, have_bidders, is_bid, no_bids, revealed, with_bids};
+ghost use Rattle.card_games.specs.Parts.{read_bids};
 ghost use Rattle.card_games.specs.Sealed.{seal};
 ghost use Rattle.game_trait.specs.Gives.{Gives};
 ghost use Rattle.serde_json.specs.View.{view};

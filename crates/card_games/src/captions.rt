@@ -1,8 +1,9 @@
 //! Captions for two to sixteen seats.
 
 ghost use Rattle.std.specs.Prelude.{◌≡◌, ◌∷◌, ◌++◌, ℕ, List as Items, [], true, unwrap_or, IfOk, OnOk};
-ghost use Rattle.card_games.specs.Captions.{Texts, caption_offers, caption_sheet, have_writers, no_texts, read_texts, texts_revealed, write};
+ghost use Rattle.card_games.specs.Captions.{Texts, caption_offers, caption_sheet, have_writers, no_texts, texts_revealed, write};
 ghost use Rattle.card_games.specs.Offers.{offers};
+ghost use Rattle.card_games.specs.Parts.{read_texts};
 ghost use Rattle.game_sheet.specs.Short.{is_short};
 ghost use Rattle.game_sheet.specs.declared.args.Arg.TheVariants.{Text as IsText};
 ghost use Rattle.game_trait.specs.Gives.{Gives};

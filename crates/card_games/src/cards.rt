@@ -1,11 +1,11 @@
 //! The state of High Hand.
 
 ghost use Rattle.std.specs.Prelude.{◌≡◌, ◌++◌, true, IfOk, OnOk};
-ghost use Rattle.card_games.specs.Json.{read_lone};
 ghost use Rattle.serde_json.specs.Data.{no_members, object};
 ghost use Rattle.serde_json.specs.View.{members_view, view};
 ghost use Rattle.serde_json.specs.Written.{members_text};
-ghost use Rattle.card_games.specs.HighHand.{deck_value, from_scores, hand_value, height, read_cards, read_deck, read_hand, read_table, rest_of_table, table_value};
+ghost use Rattle.card_games.specs.HighHand.{height};
+ghost use Rattle.card_games.specs.Parts.{deck_value, from_scores, hand_value, read_cards, read_deck, read_hand, read_lone, read_table, rest_of_table, table_value};
 
 use crate::greatest::Worth;
 use crate::parts::{Part, lone_member, lone_to_json, member, put_part};

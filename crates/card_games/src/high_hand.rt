@@ -1,8 +1,9 @@
 //! High Hand for two to four seats.
 
 ghost use Rattle.std.specs.Prelude.{◌≡◌, ◌<◌, ◌≤◌, ◌∷◌, ◌++◌, ℕ, List as Items, [], length, remove, slice_get, unwrap_or, option_map, IfOk, IsPermutation, None, OnOk, Some};
-ghost use Rattle.card_games.specs.HighHand.{after_turn, are_empty, before_draws, card_end, card_offers, draw, draw_to, hand_of, have_places, high_hand_sheet, is_clear, is_free, is_full, is_played, laid, lay, lay_card, lay_down, lay_from, lay_offers, lays, opened, read_state, point_at, scored, with_deck, with_hand};
+ghost use Rattle.card_games.specs.HighHand.{after_turn, are_empty, before_draws, card_end, card_offers, draw, draw_to, hand_of, have_places, high_hand_sheet, is_clear, is_free, is_full, is_played, laid, lay, lay_card, lay_down, lay_from, lay_offers, lays, opened, point_at, scored, with_deck, with_hand};
 ghost use Rattle.card_games.specs.Pack.{pack};
+ghost use Rattle.card_games.specs.Parts.{read_state};
 ghost use Rattle.dice_words.specs.Dice.{shuffled};
 ghost use Rattle.dice_words.specs.Strip.{Follows};
 ghost use Rattle.game_trait.specs.Gives.{Gives, Opens};

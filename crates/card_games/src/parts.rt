@@ -1,7 +1,8 @@
 //! The parts of a state: as JSON, as its text, read back, and compared.
 
 ghost use Rattle.std.specs.Prelude.{◌≡◌, ◌++◌, ◌↔◌, codes, false, true, length, option_map, IfOk, IsTrue, OnOk};
-ghost use Rattle.card_games.specs.Json.{list_value, number_value, option_value, read_count, read_items, read_list, read_lone, read_member, read_number, read_option, read_split, read_text, from_players, lone_value, split_of, split_value, text_value};
+ghost use Rattle.card_games.specs.Json.{read_text};
+ghost use Rattle.card_games.specs.Parts.{from_players, list_value, lone_value, number_value, option_value, read_count, read_items, read_list, read_lone, read_member, read_number, read_option, read_split, split_of, split_value, text_value};
 ghost use Rattle.serde_json.specs.Data.{no_members, object, put};
 ghost use Rattle.serde_json.specs.View.{items_view, members_view, view};
 ghost use Rattle.serde_json.specs.Written.{comma_if, compact_text, has_float, members_text};

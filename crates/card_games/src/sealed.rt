@@ -2,7 +2,8 @@
 
 ghost use Rattle.std.specs.Prelude.{◌≡◌, ◌++◌, ℕ, List as Items, [], slice_get, slice_set, IfOk, OnOk};
 ghost use Rattle.std.specs.List.{filter_map};
-ghost use Rattle.card_games.specs.Sealed.{are_seats, have_all, item_of, may_seal, no_secret_value, read_no_secret, seal, sealed_end, sealing_specs, sealing_stages, sealing_turn, shown_items, unsealed, with_item};
+ghost use Rattle.card_games.specs.Parts.{no_secret_value, read_no_secret};
+ghost use Rattle.card_games.specs.Sealed.{are_seats, have_all, item_of, may_seal, seal, sealed_end, sealing_specs, sealing_stages, sealing_turn, shown_items, unsealed, with_item};
 ghost use Rattle.game_trait.specs.Gives.{Gives};
 
 use crate::greatest::{Worth, one_greatest};

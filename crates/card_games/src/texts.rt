@@ -1,6 +1,6 @@
 //! The state of Captions.
 
-ghost use Rattle.card_games.specs.Captions.{read_sealed_text, read_shown, sealed_text_value, shown_value};
+ghost use Rattle.card_games.specs.Parts.{read_sealed_text, read_shown, sealed_text_value, shown_value};
 
 use crate::parts::{Part, lone_member, lone_to_json};
 use crate::sealed::Sealed;

@@ -6,8 +6,9 @@ use Rattle.std.proofs.Common.{◌∙◌, subst, arith}
 use Rattle.std.proofs.lemmas.Bool.{and_parts, leb-true}
 use Rattle.std.proofs.lemmas.List.{length-replicate, length-set}
 use Rattle.std.proofs.lemmas.List.Edits.{length-swap}
-use Rattle.card_games.specs.HighHand.{Cards, after_turn, before_draws, card_move, deck_in, draw, draw_to, hand_in, hand_of, is_free, is_full, laid, lay, lay_card, lay_from, opened, scored, set_up, with_deck, with_hand}
+use Rattle.card_games.specs.HighHand.{Cards, after_turn, before_draws, card_move, draw, draw_to, hand_in, hand_of, is_free, is_full, laid, lay, lay_card, lay_from, opened, scored, set_up, with_deck, with_hand}
 use Rattle.card_games.specs.Pack.{are_few, is_card, pack}
+use Rattle.card_games.specs.Parts.{deck_in}
 use Rattle.card_games.specs.declared.cards.Hand.{Hand}
 use Rattle.card_games.specs.declared.dealt.Dealt.{Dealt}
 use Rattle.dice_words.specs.Dice.{die, shuffled, shuffled_from}

@@ -5,14 +5,14 @@ use Rattle.std.specs.Str.{chars, is_utf8}
 use lib.Utf8.{encode}
 use Rattle.std.proofs.Common.{sym, subst, arith}
 use Rattle.std.proofs.lemmas.Bool.{false≢true, le-leb, leb-true, and_from, and_parts, eqb-true}
-use Rattle.card_games.specs.BlindBid.{Bids, bid, bid_move, bid_offers, boast, have_bidders, is_bid, offered_bids, offered_boasts, own_bids, own_bidding, own_sealed_bid}
-use Rattle.card_games.specs.Captions.{Texts, caption_offers, have_writers, own_sealed_text, own_shown, own_texts, write}
-use Rattle.card_games.specs.HighHand.{Cards, card_move, card_offers, deck_in, draw, draw_to, hand_of, is_free, lay, lay_card, lay_from, lay_offers, lays}
-use Rattle.card_games.specs.Json.{own_split}
+use Rattle.card_games.specs.BlindBid.{Bids, bid, bid_move, bid_offers, boast, have_bidders, is_bid, offered_bids, offered_boasts}
+use Rattle.card_games.specs.Captions.{Texts, caption_offers, have_writers, write}
+use Rattle.card_games.specs.HighHand.{Cards, card_move, card_offers, draw, draw_to, hand_of, is_free, lay, lay_card, lay_from, lay_offers, lays}
 use Rattle.card_games.specs.Offers.{offers}
 use Rattle.card_games.specs.OwnLaws.{all_joined}
 use Rattle.card_games.specs.Pack.{are_few}
-use Rattle.card_games.specs.Sealed.{Sealing, are_seats, may_seal, own_no_secret, seal, with_item}
+use Rattle.card_games.specs.Parts.{deck_in, own_bidding, own_bids, own_no_secret, own_sealed_bid, own_sealed_text, own_shown, own_split, own_texts}
+use Rattle.card_games.specs.Sealed.{Sealing, are_seats, may_seal, seal, with_item}
 use Rattle.card_games.specs.declared.sealed.Sealed.{Sealed}
 use Rattle.game_sheet.specs.Short.{is_short}
 use Rattle.game_sheet.specs.declared.args.Arg.{Arg}

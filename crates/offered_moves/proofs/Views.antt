@@ -8,9 +8,9 @@ use Rattle.any_game.specs.GameKind.{GameKind, TicTacToe, Countdown, Pig, HighHan
 use Rattle.any_game.specs.declared.any_g.AnyG.{AnyG}
 use Rattle.any_game.specs.declared.any_g.AnyG.TheVariants.{TicTacToe as OfTicTacToe, Countdown as OfCountdown, Pig as OfPig, HighHand as OfHighHand, BlindBid as OfBlindBid, Captions as OfCaptions}
 use Rattle.card_games.specs.BlindBid.{offered_boasts, offered_bids}
-use Rattle.card_games.specs.Captions.{offered_texts}
 use Rattle.card_games.specs.HighHand.{Cards, card_offers, hand_in, lay_offers}
 use Rattle.card_games.specs.Offers.{offers}
+use Rattle.card_games.specs.Parts.{offered_texts}
 use Rattle.card_games.specs.Sealed.{seal_offers}
 use Rattle.card_games.specs.declared.dealt.Dealt.{Dealt}
 use Rattle.game_sheet.specs.declared.ctx.Ctx.{Ctx}

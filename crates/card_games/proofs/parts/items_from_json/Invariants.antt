@@ -1,6 +1,6 @@
 use Rattle.std.proofs.Common.{◌≡◌, drop}
 use Rattle.serde_json.specs.View.{items_view}
-use Rattle.card_games.specs.Json.{read_items}
+use Rattle.card_games.specs.Parts.{read_items}
 use Rattle.card_games.proofs.ReadLemmas.{after}
 use Rattle.card_games.proofs.parts.items_from_json.Given as goal
 
