@@ -2,7 +2,7 @@
 use Rattle.std.specs.Prelude.{ℕ, ◌==◌, ◌&&◌, nat_eq, nat_le, nat_lt, true, false, Bool, if◌then◌else◌, pos, List, [], ◌∷◌, ◌++◌, length, replicate, slice_get, slice_set, codes, option_map, Option, Some, None}
 use Rattle.card_games.specs.Json.{count_form, each, or_none, split_form, where_holds}
 use Rattle.card_games.specs.Offers.{offers}
-use Rattle.card_games.specs.Sealed.{Sealing, are_seats, no_secret_form, seal, seal_offers, sealed_end, sealed_form, sealing_specs, sealing_stages, sealing_turn, shown_items, unsealed}
+use Rattle.card_games.specs.Sealed.{Sealing, are_seats, no_secret_form, seal, seal_offers, sealed_end, sealed_form, sealing_sheet, shown_items, unsealed}
 use Rattle.card_games.specs.declared.bids.Bidding.{Bidding}
 use Rattle.game_sheet.specs.declared.act.Outcome.{Outcome}
 use Rattle.game_sheet.specs.declared.args.Arg.{Arg}
@@ -22,20 +22,12 @@ Bids = Sealing Bidding ℕ
 
 -- every seat stands in the one stage of a turn until it has bid once
 abbrev pub bid_sheet : Sheet
-bid_sheet = record {
-  name = codes "blind-bid";
-  min_seats = 2;
-  max_seats = 8;
+bid_sheet = record (sealing_sheet (codes "blind-bid") 8 (codes "bid")) {
   moves =
       record { name = codes "bid"; redact = true; client = true; no_limit = false; ignore_stale = true }
       ∷ record { name = codes "boast"; redact = false; client = true; no_limit = true; ignore_stale = false }
       ∷ [];
   base = 0 ∷ 1 ∷ [];
-  turn = sealing_turn;
-  phases = [];
-  stages = sealing_stages (codes "bid");
-  specs = sealing_specs;
-  events = [];
 }
 
 abbrev pub no_bids : ℕ → Bids

@@ -2,7 +2,7 @@
 use Rattle.std.specs.Prelude.{ℕ, ◌&&◌, nat_le, nat_lt, true, false, Bool, List, [], ◌∷◌, length, slice_get, codes, option_map, Some, None}
 use Rattle.card_games.specs.Json.{each, or_none, split_form, text_form, where_holds}
 use Rattle.card_games.specs.Offers.{offers}
-use Rattle.card_games.specs.Sealed.{Sealing, are_seats, no_secret_form, seal, seal_offers, sealed_end, sealed_form, sealing_specs, sealing_stages, sealing_turn, shown_items, unsealed}
+use Rattle.card_games.specs.Sealed.{Sealing, are_seats, no_secret_form, seal, seal_offers, sealed_end, sealed_form, sealing_sheet, shown_items, unsealed}
 use Rattle.card_games.specs.declared.texts.Shown.{Shown}
 use Rattle.game_sheet.specs.Short.{is_short}
 use Rattle.game_sheet.specs.declared.args.Arg.{Arg}
@@ -22,17 +22,9 @@ Texts = Sealing Shown (List ℕ)
 
 -- every seat stands in the one stage of a turn until it has written once
 abbrev pub caption_sheet : Sheet
-caption_sheet = record {
-  name = codes "captions";
-  min_seats = 2;
-  max_seats = 16;
+caption_sheet = record (sealing_sheet (codes "captions") 16 (codes "write")) {
   moves = record { name = codes "write"; redact = true; client = true; no_limit = false; ignore_stale = true } ∷ [];
   base = 0 ∷ [];
-  turn = sealing_turn;
-  phases = [];
-  stages = sealing_stages (codes "write");
-  specs = sealing_specs;
-  events = [];
 }
 
 abbrev pub no_texts : ℕ → Texts

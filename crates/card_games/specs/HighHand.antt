@@ -19,6 +19,7 @@ use Rattle.game_trait.specs.Deed.{Barred, Deed, Done, GaveUp, Invalid, Lack, Spe
 use Rattle.game_trait.specs.Offers.{offered}
 use Rattle.game_trait.specs.Rules.{Rules, plain}
 use Rattle.open_game.specs.Form.{Form}
+use Rattle.open_game.specs.Sheets.{blank_sheet}
 use Rattle.open_game.specs.Forms.{member_read, natural, object_of_one}
 use Rattle.secret_strip.specs.Strip.{strip}
 use Rattle.secret_strip.specs.declared.split.Split.{Split}
@@ -31,22 +32,15 @@ Cards = Split CardTable Deck Hand
 
 -- in the first phase each seat draws twice, once round; in the second they lay
 abbrev pub high_hand_sheet : Sheet
-high_hand_sheet = record {
-  name = codes "high-hand";
-  min_seats = 2;
-  max_seats = 4;
+high_hand_sheet = record (blank_sheet (codes "high-hand") 2 4 (record { order = Default; min_moves = 0; max_moves = None; active = None })) {
   moves =
       record { name = codes "draw"; redact = false; client = false; no_limit = false; ignore_stale = false }
       ∷ record { name = codes "lay"; redact = false; client = true; no_limit = false; ignore_stale = false }
       ∷ [];
-  base = [];
-  turn = record { order = Default; min_moves = 0; max_moves = None; active = None };
   phases =
       record { name = codes "draw"; start = true; next = Some 1; moves = Some (0 ∷ []); turn = Some (record { order = Once; min_moves = 2; max_moves = Some 2; active = None }) }
       ∷ record { name = codes "play"; start = false; next = None; moves = Some (1 ∷ []); turn = Some (record { order = Reset; min_moves = 1; max_moves = None; active = None }) }
       ∷ [];
-  stages = [];
-  specs = [];
   events = EndTurn ∷ [];
 }
 

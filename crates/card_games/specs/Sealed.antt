@@ -9,12 +9,14 @@ use Rattle.card_games.specs.declared.sealed.Sealed.{Sealed}
 use Rattle.game_sheet.specs.declared.act.Outcome.{Outcome}
 use Rattle.game_sheet.specs.declared.args.Arg.{Arg}
 use Rattle.game_sheet.specs.declared.sheet.Order.TheVariants.{Default}
+use Rattle.game_sheet.specs.declared.sheet.Sheet.{Sheet}
 use Rattle.game_sheet.specs.declared.sheet.SpecRow.{SpecRow}
 use Rattle.game_sheet.specs.declared.sheet.StageRow.{StageRow}
 use Rattle.game_sheet.specs.declared.sheet.TurnRow.{TurnRow}
 use Rattle.game_trait.specs.Deed.{Barred, Deed, Done, GaveUp, Invalid}
 use Rattle.open_game.specs.Form.{Form}
 use Rattle.open_game.specs.Forms.{object_of_one}
+use Rattle.open_game.specs.Sheets.{blank_sheet}
 use Rattle.secret_strip.specs.declared.split.Split.{Split}
 use Rattle.serde_json.specs.Data.{null}
 
@@ -32,6 +34,10 @@ sealing_stages name = record { name = name; next = None; moves = None } ∷ []
 
 abbrev pub sealing_specs : List SpecRow
 sealing_specs = record { current = None; others = None; all = Some (record { stage = Some 0 }); value = []; min_moves = 1; max_moves = Some 1; revert = false; next = None } ∷ []
+
+-- for two seats at least
+abbrev pub sealing_sheet : List ℕ → ℕ → List ℕ → Sheet
+sealing_sheet name most stage = record (blank_sheet name 2 most sealing_turn) { stages = sealing_stages stage; specs = sealing_specs }
 
 -- ---- entries
 
