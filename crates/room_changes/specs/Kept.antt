@@ -43,7 +43,8 @@ module _ {X G : Type 0} (rules : X → Rules G) (room : ℕ) where
       option_map (λ m. record { serials = m.serial; standing = Some m }) (result_ok (created_match rules k.serials k.standing game seats seed))
   kept_with k (change.Join seat name key) = option_map (λ m. record k { standing = Some m }) (reseated k.standing (λ roster. join roster seat name key))
   kept_with k (change.Rename seat key name) = option_map (λ m. record k { standing = Some m }) (reseated k.standing (λ roster. rename roster seat key name))
-  kept_with k (change.Leave seat key) = option_map (λ m. record k { standing = if is_empty m.roster then None else Some m }) (reseated k.standing (λ roster. leave roster seat key))
+  kept_with k (change.Leave seat key) =
+      option_map (λ m. record k { standing = if is_empty m.roster then None else Some m }) (reseated k.standing (λ roster. leave roster seat key))
   kept_with k change.Clear = option_map (λ m. record k { standing = None }) (result_ok (looked_match k.standing None))
   kept_with k (change.Act seat asked) =
       option_map (λ m. record k { standing = Some m }) (option_and_then (λ m. acted_by m seat asked (player_at m.roster seat)) k.standing)

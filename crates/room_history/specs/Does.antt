@@ -81,7 +81,8 @@ module _ {X G : Type 0} (rules : X → Rules G) (room : ℕ) where
 
   -- the snapshot after an accepted action is shown to each session that looks
   abbrev pub with_fate : Room X G → Fate X G → Room X G
-  with_fate r (Goes m) = with_each (λ s. if is_looking s.own then record s { sight = snapshot rules m (seat_of s.viewer) ∷ s.sight } else s) (record r { standing = Some m })
+  with_fate r (Goes m) = with_each (λ s. if is_looking s.own then record s { sight = snapshot rules m (seat_of s.viewer) ∷ s.sight } else s)
+      (record r { standing = Some m })
   with_fate r other = r
 
   -- a submission is written down with the number at which it fell and the game's answer
@@ -108,7 +109,8 @@ module _ {X G : Type 0} (rules : X → Rules G) (room : ℕ) where
   abbrev pub reply_to : Room X G → ℕ → RoomCall X → RoomReply
   reply_to r pass (Create game seats seed) = reply_by (λ (m : Match X G). reply.Created m.serial) (created_match rules r.serials r.standing game seats seed)
   reply_to r pass (Join serial seat name key) = reply_by (λ m. reply.Joined) (reseated_match (named_match r.standing serial) (λ roster. join roster seat name key))
-  reply_to r pass (Rename serial seat key name) = reply_by (λ m. reply.Renamed) (reseated_match (named_match r.standing serial) (λ roster. rename roster seat key name))
+  reply_to r pass (Rename serial seat key name) =
+      reply_by (λ m. reply.Renamed) (reseated_match (named_match r.standing serial) (λ roster. rename roster seat key name))
   reply_to r pass (Leave serial seat key) = reply_by (λ m. reply.Left) (reseated_match (named_match r.standing serial) (λ roster. leave roster seat key))
   reply_to r pass (Look serial) = reply_by (λ m. reply.Looked (match_row rules room m)) (looked_match r.standing serial)
   reply_to r pass (Attach serial viewer protocol) = reply_by (λ m. reply.Attached) (attached_match r.standing (latest_state (r.sessions pass)) serial viewer)

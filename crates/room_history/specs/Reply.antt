@@ -100,7 +100,8 @@ module _ {X G : Type 0} (rules : X → Rules G) (room : ℕ) where
 
   -- the game's answer to a session's submission; it is asked where no public rule is broken
   abbrev pub game_answer : Option (Match X G) → State → Viewer → Submission → GameAnswer
-  game_answer (Some m) Open viewer s = option_map_or (λ reason. Unasked) (public_reason rules room m viewer s) (option_map_or Refused (game_reason rules m viewer s) Accepted)
+  game_answer (Some m) Open viewer s =
+      option_map_or (λ reason. Unasked) (public_reason rules room m viewer s) (option_map_or Refused (game_reason rules m viewer s) Accepted)
   game_answer standing state viewer s = Unasked
 
   -- what everybody may see of a match

@@ -23,9 +23,11 @@ module _ (name : Name) (sheet : Sheet) (viewer : Viewer) where
   -- the public rule that a submission breaks, found from a snapshot, the key and the line
   abbrev pub public_reason_on : Option Snap → Submission → Option Reason
   public_reason_on None s = None
-  public_reason_on (Some shown) s = public sheet shown.ctx shown.number (is_named name.room name.serial s.name) (seat_of viewer) (has_key viewer s.key) s.asked s.number
+  public_reason_on (Some shown) s =
+      public sheet shown.ctx shown.number (is_named name.room name.serial s.name) (seat_of viewer) (has_key viewer s.key) s.asked s.number
 
--- what the verdict on a submission adds at a state number: without memory there is no verdict; else the public rule that is broken comes before the game's answer
+-- what a submission adds at a state number: without memory there is no verdict; else the public rule that is broken comes before the game's
+-- answer
 abbrev pub verdict_pieces : ℕ → ℕ → Option Reason → GameAnswer → List Piece
 verdict_pieces n ticket reason Starved = []
 verdict_pieces n ticket (Some reason) answer = Line (No n reason ticket) ∷ []
