@@ -26,7 +26,8 @@ use Rattle.sight_reading.specs.EntryReading.{entry_in}
 use Rattle.json_tree.specs.Names.{extra_in}
 use Rattle.sight_reading.specs.CtxReading.{ctx_in}
 use Rattle.sight_reading.specs.Reading.{natural_at}
-use Rattle.sight_reading.specs.SnapshotReading.{log_in, snapshot_in, snapshot_names}
+use Rattle.sight_reading.proofs.SnapshotLaws.{snapshot_names}
+use Rattle.sight_reading.specs.SnapshotReading.{log_in, snapshot_in}
 use Rattle.sight_reading.proofs.NumberLaws.{natural_is}
 use Rattle.sight_reading.proofs.PartLaws.{past, step}
 use Rattle.stage_map.specs.Moves.{may, moves}
