@@ -20,7 +20,7 @@ use Rattle.wire_json.specs.Refusals.{Refusal}
 use Rattle.wire_json.specs.ServerReading.{server_read}
 use Rattle.wire_json.specs.declared.server.ServerMsg.{ServerMsg}
 use Rattle.wire_json.specs.declared.server.ServerMsg.TheVariants as message
-use Rattle.client_predict.specs.Following.{followed, is_told, reads_all, tells, told_lines}
+use Rattle.client_predict.specs.Following.{followed, is_told, reads_all, told_lines}
 use Rattle.bot_sitter.specs.Hears.{begins_by, client_after, clients_after}
 use Rattle.bot_sitter.specs.Seen.{Agrees, sees, sees_in}
 use Rattle.std.specs.Option.{option_map_or}
@@ -79,7 +79,7 @@ module _ {G : Type 0} (rules : Rules G) where
   unstarted_change None ctx gone put number = refl
   unstarted_change (Some entry) ctx gone put number = refl
 
-  told_seen : (g : Bool) (playing : Option (Playing G)) (m : ServerMsg) → tells m ≡ true → sees (hears rules (client g playing) m).client ≡ see m (sees (client g playing))
+  told_seen : (g : Bool) (playing : Option (Playing G)) (m : ServerMsg) → is_told (Ok m) ≡ true → sees (hears rules (client g playing) m).client ≡ see m (sees (client g playing))
   told_seen g playing (message.Sync name seat protocol snapshot) t = synced_seen (client g playing) name seat (snapshot_in rules snapshot)
   told_seen true playing (message.Update ctx entry g number) t = refl
   told_seen false None (message.Update ctx entry g number) t = unstarted_seen (change_in rules ctx entry g) number
@@ -120,7 +120,7 @@ module _ {G : Type 0} (rules : Rules G) where
   only_seen true playing told s e = cc
   only_seen false playing told s e = e
 
-  untold_seen : (g : Bool) (playing : Option (Playing G)) (m : ServerMsg) → tells m ≡ false → (s : Snapshot G) → sees (hears rules (client g playing) m).client ≡ Some s → sees (client g playing) ≡ Some s
+  untold_seen : (g : Bool) (playing : Option (Playing G)) (m : ServerMsg) → is_told (Ok m) ≡ false → (s : Snapshot G) → sees (hears rules (client g playing) m).client ≡ Some s → sees (client g playing) ≡ Some s
   untold_seen g playing (message.Ok number ticket) t s e = verdict_seen g playing ticket (told.Accepted ticket) s e
   untold_seen g playing (message.No number reason ticket) t s e = verdict_seen g playing ticket (told.Refused ticket reason) s e
   untold_seen g playing (message.Again None) t s e = only_seen g playing (told.Again None) s e
@@ -146,7 +146,7 @@ module _ {G : Type 0} (rules : Rules G) where
   more_settled next None b h s e = cc
   more_settled next (Some x) b h s e = ap (option_and_then next) (h x refl) ∙ e
 
-  see_more : (m : ServerMsg) → tells m ≡ true → (a b : Option (Snapshot G)) → ((s : Snapshot G) → a ≡ Some s → b ≡ Some s) → (s : Snapshot G) → see m a ≡ Some s → see m b ≡ Some s
+  see_more : (m : ServerMsg) → is_told (Ok m) ≡ true → (a b : Option (Snapshot G)) → ((s : Snapshot G) → a ≡ Some s → b ≡ Some s) → (s : Snapshot G) → see m a ≡ Some s → see m b ≡ Some s
   see_more (message.Sync name seat protocol snapshot) t a b h s e = e
   see_more (message.Update ctx entry g number) t a b h s e = more_settled (λ (s : Snapshot G). option_and_then (λ change. if number == s.number + 1 then Some (settled_by s change number) else None) (change_in rules ctx entry g)) a b h s e
   see_more (message.Change ctx entry gone put number) t a b h s e = more_settled (change_seen (entry_in rules.sheet entry) ctx gone put number) a b h s e
@@ -168,7 +168,7 @@ module _ {G : Type 0} (rules : Rules G) where
   abbrev passes : Client G → Bool → List ℕ → Client G
   passes d test line = if test then (reads rules d line).client else d
 
-  by_told : (b : Bool) (c d : Client G) (m : ServerMsg) → tells m ≡ b → Agrees (Some c) d
+  by_told : (b : Bool) (c d : Client G) (m : ServerMsg) → is_told (Ok m) ≡ b → Agrees (Some c) d
       → Agrees (Some (hears rules c m).client) (if b then (hears rules d m).client else d)
   by_told true c d m t h s e =
       told_seen d.gone d.playing m t ∙ see_more m t (sees c) (sees d) h s (sym (told_seen c.gone c.playing m t) ∙ e)
@@ -180,7 +180,7 @@ module _ {G : Type 0} (rules : Rules G) where
 
   by_read : (read : Result ServerMsg Refusal) (c d : Client G) → Agrees (Some c) d
       → Agrees (Some (hears_line rules c read).client) (if is_told read then (hears_line rules d read).client else d)
-  by_read (Ok m) c d h s e = by_told (tells m) c d m refl h s e
+  by_read (Ok m) c d h s e = by_told (is_told (Ok m)) c d m refl h s e
   by_read (Err fault) c d h s e = absurd (bad_seen c.gone c.playing s e)
 
   begun_seen : (read : Result ServerMsg Refusal) (s : Snapshot G) → sees_in {G = G} (begins_by read) ≡ Some s → ⊥

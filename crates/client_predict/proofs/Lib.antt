@@ -1,3 +1,4 @@
+pub mod Pieces
 pub mod Stacks
 pub mod Keeping
 pub mod Acted

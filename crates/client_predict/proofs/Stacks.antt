@@ -10,12 +10,13 @@ use Rattle.move_log.specs.declared.entry.Entry.{Entry}
 use Rattle.player_sight.specs.declared.shown.Snapshot.{Snapshot}
 use Rattle.wire_json.specs.Resolve.{act_of, ignores_number}
 use Rattle.client_predict.specs.Acting.{predicted}
-use Rattle.client_predict.specs.Prediction.{guessed, one_further}
-use Rattle.client_predict.specs.Shown.{counts_on, shown, taken_on}
+use Rattle.client_predict.specs.Prediction.{guessed}
+use Rattle.client_predict.specs.Shown.{counts_on, shown}
 use Rattle.client_predict.specs.Stack.{after, ahead, guess_of, guesses, tried}
 use Rattle.client_predict.specs.declared.guess.Guess.{Guess}
 use Rattle.client_predict.specs.declared.waiting.Waiting.{Waiting}
 use Rattle.std.specs.Prelude.{unwrap_or}
+use Rattle.client_predict.proofs.Pieces.{one_further, taken_on}
 
 one : {G : Type 0} (s : Snapshot G) (counts : Bool) (guess : Option G)
     → ahead s (if counts then option_map (guess_of s) guess else None) ≡ (if counts then unwrap_or (option_map (one_further s) guess) s else s)

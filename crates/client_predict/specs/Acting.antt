@@ -1,18 +1,16 @@
 -- What a client makes of an action: why it makes none, or the line that it sends, whether the action is guessed, and that it waits.
 use Rattle.std.specs.Prelude.{◌≡◌, ℕ, ◌+◌, ◌==◌, List, [], ◌∷◌, ◌++◌, Bool, length, replicate, if◌then◌else◌, Option, Some, None}
 use Rattle.game_trait.specs.Rules.{Rules}
-use Rattle.player_sight.specs.declared.shown.Snapshot.{Snapshot}
 use Rattle.wire_json.specs.ClientText.{client_text}
 use Rattle.wire_json.specs.declared.asked.Asked.{Asked}
 use Rattle.wire_json.specs.declared.client.ClientMsg.TheVariants.{Act}
 use Rattle.wire_json.specs.declared.submission.Submission.{Submission}
-use Rattle.client_predict.specs.Client.{Client, Held, Playing, shown_of}
+use Rattle.client_predict.specs.Client.{Held, Playing, shown_of}
 use Rattle.client_predict.specs.Prediction.{predict}
 use Rattle.client_predict.specs.declared.told.ActNo.{ActNo}
 use Rattle.client_predict.specs.declared.told.ActNo.TheVariants as no
 use Rattle.client_predict.specs.declared.told.Predicted.{Predicted}
 use Rattle.client_predict.specs.declared.told.Predicted.TheVariants.{Guessed, Sent}
-use Rattle.client_predict.specs.declared.waiting.Waiting.{Waiting}
 use Rattle.std.specs.Option.{option_map_or}
 
 -- at most so many actions wait
@@ -35,9 +33,6 @@ next_ticket ticket = if ticket == 4294967295 then 1 else ticket + 1
 abbrev pub predicted : {S : Type 0} → Option S → Predicted
 predicted guess = option_map_or (λ s. Guessed) guess Sent
 
-abbrev pub waits_for : {G : Type 0} → Rules G → Playing G → Asked → Waiting
-waits_for rules p asked = record { ticket = p.ticket; number = (shown_of rules p).number; asked = asked }
-
 abbrev pub submitted : {G : Type 0} → Rules G → Option (List ℕ) → Playing G → Asked → Submission
 submitted rules key p asked = record { name = p.name; key = line_key key p.seat; number = (shown_of rules p).number; ticket = p.ticket; asked = asked }
 
@@ -50,7 +45,7 @@ with_act rules p asked = record {
   name = p.name;
   seat = p.seat;
   settled = p.settled;
-  waiting = p.waiting ++ waits_for rules p asked ∷ [];
+  waiting = p.waiting ++ record { ticket = p.ticket; number = (shown_of rules p).number; asked = asked } ∷ [];
   ticket = next_ticket p.ticket;
 }
 

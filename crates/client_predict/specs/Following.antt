@@ -9,17 +9,14 @@ use Rattle.wire_json.specs.ServerReading.{server_read}
 use Rattle.wire_json.specs.declared.server.ServerMsg.{ServerMsg}
 use Rattle.wire_json.specs.declared.server.ServerMsg.TheVariants as message
 
--- the messages that tell of a match: a snapshot, what an accepted action led to, and that the stream has ended
-abbrev pub tells : ServerMsg → Bool
-tells (message.Sync name seat protocol snapshot) = true
-tells (message.Update ctx entry g number) = true
-tells (message.Change ctx entry gone put number) = true
-tells (message.Bye why) = true
-tells other = false
-
--- a line that is no message isn't passed over
+-- the messages that tell of a match: a snapshot, what an accepted action led to, and that the stream has ended; and a line that is no
+-- message isn't passed over
 abbrev pub is_told : Result ServerMsg Refusal → Bool
-is_told (Ok m) = tells m
+is_told (Ok (message.Sync name seat protocol snapshot)) = true
+is_told (Ok (message.Update ctx entry g number)) = true
+is_told (Ok (message.Change ctx entry gone put number)) = true
+is_told (Ok (message.Bye why)) = true
+is_told (Ok other) = false
 is_told (Err fault) = true
 
 abbrev pub told_lines : List (List ℕ) → List (List ℕ)

@@ -41,9 +41,6 @@ guessed_act rules s seat other = None
 abbrev pub guessed : {G : Type 0} → Rules G → Snapshot G → Option ℕ → Asked → Option G
 guessed rules s viewer asked = option_and_then (λ seat. guessed_act rules s seat (act_of rules.sheet asked)) viewer
 
-abbrev pub one_further : {G : Type 0} → Snapshot G → G → Snapshot G
-one_further s g = record { number = s.number + 1; ctx = s.ctx; g = g; log = s.log }
-
--- the snapshot that the action is guessed to lead to
+-- the snapshot that the action is guessed to lead to, one number further
 abbrev pub predict : {G : Type 0} → Rules G → Snapshot G → Option ℕ → Asked → Option (Snapshot G)
-predict rules s seat asked = option_map (one_further s) (guessed rules s seat asked)
+predict rules s seat asked = option_map (λ g. record { number = s.number + 1; ctx = s.ctx; g = g; log = s.log }) (guessed rules s seat asked)

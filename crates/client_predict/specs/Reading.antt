@@ -116,9 +116,6 @@ verdict c (Some p) ticket told = option_map_or (λ place. goes_on c told (answer
 
 -- ---- any line
 
-abbrev pub again : {G : Type 0} → Client G → Option ℕ → Heard G
-again c ticket = option_map_or (λ ticket. verdict c c.playing ticket (Again (Some ticket))) ticket (only_told c (Again None))
-
 abbrev pub unless_gone : {G : Type 0} → Client G → Heard G → Heard G
 unless_gone c heard = if c.gone then lost c no.Gone else heard
 
@@ -129,7 +126,7 @@ hears rules c (message.Update ctx entry g number) = unless_gone c (updated c c.p
 hears rules c (message.Change ctx entry gone put number) = unless_gone c (changed rules c c.playing (entry_in rules.sheet entry) ctx gone put number)
 hears rules c (message.Ok number ticket) = unless_gone c (verdict c c.playing ticket (Accepted ticket))
 hears rules c (message.No number reason ticket) = unless_gone c (verdict c c.playing ticket (Refused ticket reason))
-hears rules c (message.Again ticket) = unless_gone c (again c ticket)
+hears rules c (message.Again ticket) = unless_gone c (option_map_or (λ t. verdict c c.playing t (Again (Some t))) ticket (only_told c (Again None)))
 hears rules c (message.Bye why) = unless_gone c (ended c (Ended why))
 hears rules c other = unless_gone c (only_told c Other)
 

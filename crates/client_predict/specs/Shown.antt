@@ -11,9 +11,5 @@ use Rattle.client_predict.specs.declared.waiting.Waiting.{Waiting}
 abbrev pub counts_on : {G : Type 0} → Sheet → Snapshot G → Waiting → Bool
 counts_on sheet s w = (w.number == s.number) || ignores_number sheet (act_of sheet w.asked)
 
--- one waiting action more
-abbrev pub taken_on : {G : Type 0} → Rules G → Option ℕ → Snapshot G → Waiting → Snapshot G
-taken_on rules seat s w = if counts_on rules.sheet s w then unwrap_or (predict rules s seat w.asked) s else s
-
 abbrev pub shown : {G : Type 0} → Rules G → Option ℕ → Snapshot G → List Waiting → Snapshot G
-shown rules seat settled waiting = fold (taken_on rules seat) settled waiting
+shown rules seat settled waiting = fold (λ s w. if counts_on rules.sheet s w then unwrap_or (predict rules s seat w.asked) s else s) settled waiting

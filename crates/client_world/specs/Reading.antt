@@ -15,7 +15,6 @@ use Rattle.wire_json.specs.KeyText.{lower_hex}
 use Rattle.wire_json.specs.MatchText.{match_from, number_from}
 use Rattle.wire_json.specs.declared.asked.Asked.{Asked}
 use Rattle.wire_json.specs.declared.asked.Asked.TheVariants.{Move, Event}
-use Rattle.wire_json.specs.declared.asked.AskedTo.{AskedTo}
 use Rattle.wire_json.specs.declared.asked.AskedTo.TheVariants.{Name as Named}
 use Rattle.wire_json.specs.declared.protocol.Protocol.{Protocol}
 use Rattle.wire_json.specs.declared.protocol.Protocol.TheVariants.{One, Two}
@@ -72,21 +71,14 @@ attaching rest = option_and_then (λ p. option_and_then (λ client. option_and_t
 
 -- ---- an act: a client, and the act as the member of a client's line has it
 
-abbrev pub aim_is_utf8 : AskedTo → Bool
-aim_is_utf8 (Named name) = is_utf8 name
-aim_is_utf8 to = true
-
 -- the names in an act are UTF-8, as every text of JSON is
 abbrev pub asked_is_utf8 : Asked → Bool
 asked_is_utf8 (Move name args) = is_utf8 name
-asked_is_utf8 (Event kind to) = aim_is_utf8 to
+asked_is_utf8 (Event kind (Named name)) = is_utf8 name
 asked_is_utf8 asked = true
 
-abbrev pub in_utf8 : Asked → Option Asked
-in_utf8 asked = if asked_is_utf8 asked then Some asked else None
-
 abbrev pub asked_by : Result Members LineFault → Option Asked
-asked_by (Ok ms) = option_and_then in_utf8 (asked_in (object ms))
+asked_by (Ok ms) = option_and_then (λ asked. if asked_is_utf8 asked then Some asked else None) (asked_in (object ms))
 asked_by (Err fault) = None
 
 abbrev pub asked_of : List ℕ → Option Asked

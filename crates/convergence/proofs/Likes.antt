@@ -1,8 +1,9 @@
 -- Acts, verdicts and direct answers change nothing that is settled.
 use Rattle.std.proofs.Common.{◌≡◌, ◌⊎◌, inl, inr, ◌+◌, ◌==◌, ℕ, Bool, true, false, if◌then◌else◌, List, [], ◌∷◌, Option, Some, None, option_map, Ok, Err, refl, sym, ap, ◌∙◌, subst}
 use Rattle.std.specs.Prelude.{Result}
+use Rattle.client_predict.proofs.Pieces.{again}
 use Rattle.client_predict.specs.Client.{Client, Playing, settled_in}
-use Rattle.client_predict.specs.Reading.{Heard, again, change_by, change_in, changed, ended, hears, hears_line, in_step, lost, only_told, patched_by, reads, settled_by, synced, taken, unless_gone, updated, verdict, answered, goes_on}
+use Rattle.client_predict.specs.Reading.{Heard, change_by, change_in, changed, ended, hears, hears_line, in_step, lost, only_told, patched_by, reads, settled_by, synced, taken, unless_gone, updated, verdict, answered, goes_on}
 use Rattle.client_predict.specs.declared.told.FeedNo.TheVariants as no
 use Rattle.client_predict.specs.declared.told.Told.{Told}
 use Rattle.client_predict.specs.declared.told.Told.TheVariants.{Accepted, Refused, Again, Ended, Other}
@@ -19,7 +20,7 @@ use Rattle.wire_json.specs.declared.asked.Asked.{Asked}
 use Rattle.wire_json.specs.declared.server.ServerMsg.{ServerMsg}
 use Rattle.wire_json.specs.declared.server.ServerMsg.TheVariants as message
 use Rattle.convergence.specs.Doing.{Acts, AnswersAll, Doing, Face, IsLike, Knows, KnowsWhere, Reads, acts_in, does_all, face, lines_in, ticket_in, ticket_of}
-use Rattle.client_predict.specs.Following.{is_told, reads_all, tells, told_lines}
+use Rattle.client_predict.specs.Following.{is_told, reads_all, told_lines}
 use Rattle.std.specs.Option.{option_map_or}
 
 one : {A : Type 0} (x y : A) → Some x ≡ Some y → x ≡ y
@@ -107,7 +108,7 @@ module _ {G : Type 0} (rules : Rules G) where
   changed_alike c d o r (Some entry) ctx gone put n l e =
       step_alike c d o r n (patched_by rules c o entry ctx gone put n) (patched_by rules d r entry ctx gone put n) l e (patched_alike c d o r entry ctx gone put n l e)
 
-  hears_alike : (c d : Client G) (m : ServerMsg) → IsLike c d → tells m ≡ true → IsLike (hears rules c m).client (hears rules d m).client
+  hears_alike : (c d : Client G) (m : ServerMsg) → IsLike c d → is_told (Ok m) ≡ true → IsLike (hears rules c m).client (hears rules d m).client
   hears_alike c d (message.Sync name seat protocol snapshot) l t = synced_alike c d name seat (snapshot_in rules snapshot) l
   hears_alike c d (message.Update ctx entry g number) l t =
       gone_alike c d (updated c c.playing (change_in rules ctx entry g) number) (updated d d.playing (change_in rules ctx entry g) number) l (updated_alike c d c.playing d.playing (change_in rules ctx entry g) number l l.sees)
@@ -147,7 +148,7 @@ module _ {G : Type 0} (rules : Rules G) where
   again_stays c None k here = like c
   again_stays c (Some t) k here = verdict_stays c t (Again (Some t)) k here
 
-  hears_stays : (c : Client G) (m : ServerMsg) → tells m ≡ false → KnowsWhere c (ticket_of m) → IsLike (hears rules c m).client c
+  hears_stays : (c : Client G) (m : ServerMsg) → is_told (Ok m) ≡ false → KnowsWhere c (ticket_of m) → IsLike (hears rules c m).client c
   hears_stays c (message.Sync name seat protocol snapshot) t k = absurd (no_both (sym t))
   hears_stays c (message.Update ctx entry g number) t k = absurd (no_both (sym t))
   hears_stays c (message.Change ctx entry gone put number) t k = absurd (no_both (sym t))

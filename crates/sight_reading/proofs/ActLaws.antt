@@ -30,7 +30,7 @@ use Rattle.sheet_json.proofs.ArgumentLaws.{arguments_are, arguments_again}
 use Rattle.sheet_json.proofs.EventLaws.{kind_is}
 use Rattle.sheet_json.proofs.SeatLaws as seats
 use Rattle.sheet_json.proofs.SeatLaws.{null_is, Holds, or_null_is}
-use Rattle.sight_reading.specs.EntryReading.{args_from, move_with, shown, move_in, aimless, alone_in, event_of, event_by, event_in, deed_by, deed_in}
+use Rattle.sight_reading.specs.EntryReading.{args_in, move_with, move_in, aimless, alone_in, event_of, event_by, event_in, deed_in}
 use Rattle.player_sight.specs.Parts.{move_name, phase_name}
 use Rattle.player_sight.specs.Plain.{EventFits, ActFits}
 use Rattle.sight_reading.specs.Reading.{text_at}
@@ -41,6 +41,9 @@ use Rattle.std.specs.Result.{result_ok}
 
 -- ---- arguments
 
+abbrev args_from : Data → Option (Option (List Arg))
+args_from d = args_in (Some d)
+
 args_again : (args : List Arg) → AreArguments args → args_from (array (arguments args)) ≡ Some (Some args)
 args_again args h = ap (option_map (λ x. Some x)) (arguments_again args h)
 
@@ -48,6 +51,9 @@ args_again args h = ap (option_map (λ x. Some x)) (arguments_again args h)
 
 abbrev pub deed_as : Bool → Act → Deed
 deed_as hidden act = record { act = act; hidden = hidden }
+
+abbrev shown : Act → Deed
+shown act = deed_as false act
 
 move_again : (sheet : Sheet) (id : ℕ) → SheetFits sheet → id < length sheet.moves → option_and_then (move_of sheet) (text_at (Some (move_name sheet id))) ≡ Some id
 move_again sheet id fit h = name_again (λ (row : MoveRow). row.name) sheet.moves id fit.move_names h
@@ -239,7 +245,7 @@ deed_as_event sheet ms x c kind e =
 deed_is : (sheet : Sheet) (ms : Members) (x : Deed) → MembersAreCanonical ms → deed_in sheet (object ms) ≡ Some x → IsDeed sheet ms x
 unfolding deed_in
 deed_is sheet ms x c e =
-    let kind = step (text_at (get_member (codes "kind") ms)) (λ k. deed_by sheet k (object ms)) x e in
+    let kind = step (text_at (get_member (codes "kind") ms)) _ x e in
     elim (either (bytes_eq kind.0 (codes "move")) _ _ x kind.2) [
       | inl p ↦ move_is sheet ms x c (as_kind ms kind.0 _ kind.1 p.0) p.1
       | inr r1 ↦ elim (either (bytes_eq kind.0 (codes "event")) _ _ x r1) [

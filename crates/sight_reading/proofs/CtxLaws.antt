@@ -15,7 +15,7 @@ use Rattle.game_sheet.specs.declared.act.Outcome.TheVariants.{Winner, Draw, Ende
 use Rattle.game_sheet.specs.declared.ctx.Ctx.{Ctx}
 use Rattle.game_sheet.specs.declared.sheet.Sheet.{Sheet}
 use Rattle.player_sight.specs.CtxData.{active_data, outcome_data, over_data, ctx_data}
-use Rattle.sight_reading.specs.CtxReading.{active_from, active_in, over_from, over_in, is_flag, outcome_in, winner_in, order_in, phase_in, counts_in, ctx_names, ctx_from, ctx_in}
+use Rattle.sight_reading.specs.CtxReading.{Rows, active_from, active_in, over_in, is_flag, outcome_in, winner_in, order_in, phase_in, counts_in, ctx_in}
 use Rattle.sheet_json.specs.Seats.{natural}
 use Rattle.player_sight.specs.Parts.{naturals, phase_or_null}
 use Rattle.player_sight.specs.Plain.{OverFits, IsPlainCtx}
@@ -27,6 +27,9 @@ use Rattle.sight_reading.proofs.PartLaws.{step, chained, mapped, past, naturals_
 use Rattle.sight_reading.proofs.RowLaws.{active_again}
 use Rattle.sight_reading.proofs.RowsAre.{active_is}
 use Rattle.std.specs.Option.{option_map_or}
+
+abbrev over_from : Data → Option (Option Outcome)
+over_from d = over_in (Some d)
 
 over_again : (over : Option Outcome) → OverFits over → over_from (over_data over) ≡ Some over
 unfolding outcome_in winner_in
@@ -156,6 +159,14 @@ order_is o order e =
 
 abbrev pub Reads : Sheet → Data → Ctx → Type 0
 Reads sheet d ctx = (d ≡ ctx_data sheet ctx) × IsPlainCtx sheet ctx
+
+abbrev ctx_names : List (List ℕ)
+ctx_names = codes "activePlayers" ∷ codes "currentPlayer" ∷ codes "gameover" ∷ codes "numMoves" ∷ codes "numPlayers" ∷ codes "phase"
+    ∷ codes "playOrder" ∷ codes "playOrderPos" ∷ codes "turn" ∷ []
+
+abbrev ctx_from : Option Rows → Option Outcome → Option ℕ → List ℕ → Counts → Ctx
+ctx_from active over phase order n =
+    record { seats = n.seats; turn = n.turn; current = n.current; order = order; pos = n.pos; phase = phase; active = active; moves = n.moves; over = over }
 
 -- the members of an object with these values
 ctx_row : Data → Data → Data → Data → Counts → Members

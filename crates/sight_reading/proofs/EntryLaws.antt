@@ -1,5 +1,5 @@
 -- An entry that may stand in a plain snapshot reads back from its value, and what reads as an entry is its value.
-use Rattle.std.proofs.Common.{◌≡◌, ℕ, length, Option, Some, None, codes, refl, sym, ap, ◌∙◌, subst}
+use Rattle.std.proofs.Common.{◌≡◌, ℕ, List, [], ◌∷◌, length, Option, Some, None, codes, refl, sym, ap, ◌∙◌, subst}
 use Rattle.serde_json.specs.Data.{Data, null, boolean, number, string, array, object, Members, no_members, member}
 use Rattle.serde_json.specs.Find.{get_member}
 use Rattle.json_tree.specs.Canonical.{IsCanonical, MembersAreCanonical}
@@ -13,10 +13,11 @@ use Rattle.sight_reading.specs.CtxReading.{phase_in}
 use Rattle.player_sight.specs.EntryData.{act_data, entry_data}
 use Rattle.game_sheet.specs.SheetNames.{phase_of}
 use Rattle.sheet_json.specs.Seats.{natural}
-use Rattle.sight_reading.specs.EntryReading.{deed_in, entry_names, entry_from, entry_in}
+use Rattle.sight_reading.specs.EntryReading.{deed_in, entry_in}
 use Rattle.player_sight.specs.Parts.{phase_or_null}
 use Rattle.player_sight.specs.Plain.{IsIn, IsPlainEntry}
 use Rattle.sight_reading.specs.Reading.{id_or_null}
+use Rattle.sight_reading.specs.declared.entry_read.Deed.{Deed}
 use Rattle.sight_reading.proofs.NumberLaws.{natural_is, natural_again}
 use Rattle.sight_reading.proofs.PartLaws.{name_or_null, step, chained, past, id_is, id_again}
 use Rattle.sight_reading.proofs.ActLaws.{deed_as, deed_again, deed_shown}
@@ -24,6 +25,9 @@ use Rattle.sight_reading.proofs.ActLaws.{deed_as, deed_again, deed_shown}
 pub phase_again : (sheet : Sheet) (o : Option ℕ) → SheetFits sheet → IsIn (length sheet.phases) o → id_or_null (phase_of sheet) (phase_or_null sheet o) ≡ Some o
 phase_again sheet None fit h = refl
 phase_again sheet (Some id) fit h = id_again (λ (row : PhaseRow). row.name) sheet.phases (Some id) fit.phase_names h
+
+abbrev entry_from : Deed → ℕ → Option ℕ → ℕ → ℕ → Entry
+entry_from deed at phase seat turn = record { seat = seat; act = deed.act; hidden = deed.hidden; number = at; turn = turn; phase = phase; words = 0 }
 
 no_words : (e : Entry) → e.words ≡ 0 → entry_from (deed_as e.hidden e.act) e.number e.phase e.seat e.turn ≡ e
 no_words e h = ap (λ w. record e { words = w }) (sym h)
@@ -44,6 +48,9 @@ phase_is sheet o phase e =
     let d = chained (id_or_null (phase_of sheet)) o phase e in
     let is = id_is (λ (row : PhaseRow). row.name) sheet.phases d.0 phase d.2 in
     (d.1 ∙ ap (λ x. Some x) (is.0 ∙ phase_same sheet phase), is.1)
+
+abbrev entry_names : List (List ℕ)
+entry_names = codes "act" ∷ codes "number" ∷ codes "phase" ∷ codes "seat" ∷ codes "turn" ∷ []
 
 entry_row : Data → ℕ → Data → ℕ → ℕ → Members
 entry_row act at phase seat turn =

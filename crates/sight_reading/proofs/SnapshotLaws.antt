@@ -24,7 +24,7 @@ use Rattle.player_sight.specs.Plain.{IsPlainEntry}
 use Rattle.player_sight.specs.PlainSnapshot.{IsPlain}
 use Rattle.player_sight.specs.Seen.{snap_of}
 use Rattle.player_sight.specs.SnapshotData.{snapshot_data}
-use Rattle.sight_reading.specs.SnapshotReading.{entries_from, log_in, snapshot_names, snapshot_in}
+use Rattle.sight_reading.specs.SnapshotReading.{entries_from, log_in, snapshot_in}
 use Rattle.player_sight.specs.declared.shown.Snapshot.{Snapshot}
 use Rattle.sight_reading.proofs.CtxLaws.{ctx_again, ctx_is, list_is}
 use Rattle.sight_reading.proofs.EntryLaws.{entry_again, entry_is}
@@ -70,6 +70,9 @@ log_is sheet ms log c e =
 
 abbrev Reads : {G : Type 0} → Rules G → Data → Snapshot G → Type 0
 Reads rules d s = IsPlain rules s × (snapshot_data rules.sheet (snap_of rules s) ≡ d)
+
+abbrev pub snapshot_names : List (List ℕ)
+snapshot_names = codes "ctx" ∷ codes "g" ∷ codes "log" ∷ codes "number" ∷ []
 
 snapshot_row : Data → Data → Data → ℕ → Members
 snapshot_row ctx g log n = member (codes "ctx") ctx (member (codes "g") g (member (codes "log") log (member (codes "number") (natural n) no_members)))

@@ -57,11 +57,9 @@ unfoldable pub outcome_in : Data → Option Outcome
 outcome_in d = option_map_or (λ seat. Some (Winner seat)) (winner_in d)
     (if is_flag (codes "draw") d then Some Draw else if is_flag (codes "ended") d then Some Ended else None)
 
-abbrev pub over_from : Data → Option (Option Outcome)
-over_from d = if is_some (as_null d) then Some None else if is_some (as_object d) then option_map Some (outcome_in d) else None
-
+-- null, or an object of an outcome
 abbrev pub over_in : Option Data → Option (Option Outcome)
-over_in found = option_and_then over_from found
+over_in found = option_and_then (λ d. if is_some (as_null d) then Some None else if is_some (as_object d) then option_map Some (outcome_in d) else None) found
 
 abbrev pub order_in : Option Data → Option (List ℕ)
 order_in found = option_and_then naturals_from (result_ok (list_in found))
@@ -74,19 +72,13 @@ counts_in d = natural_at 255 (get (codes "currentPlayer") d) >>= λ current. nat
     natural_at 255 (get (codes "numPlayers") d) >>= λ seats. natural_at 255 (get (codes "playOrderPos") d) >>= λ pos.
     natural_at 4294967295 (get (codes "turn") d) >>= λ turn. Some (record { current = current; moves = moves; seats = seats; pos = pos; turn = turn })
 
-abbrev pub ctx_names : List (List ℕ)
-ctx_names = codes "activePlayers" ∷ codes "currentPlayer" ∷ codes "gameover" ∷ codes "numMoves" ∷ codes "numPlayers" ∷ codes "phase"
-    ∷ codes "playOrder" ∷ codes "playOrderPos" ∷ codes "turn" ∷ []
-
-abbrev pub ctx_from : Option Rows → Option Outcome → Option ℕ → List ℕ → Counts → Ctx
-ctx_from active over phase order n =
-    record { seats = n.seats; turn = n.turn; current = n.current; order = order; pos = n.pos; phase = phase; active = active; moves = n.moves; over = over }
-
 -- the context of these parts, with the active players that a value has
 abbrev pub from_order : Sheet → Data → Option Outcome → Option ℕ → Counts → List ℕ → Option Ctx
-from_order sheet d over phase counts order = active_in sheet (get (codes "activePlayers") d) >>= λ active. Some (ctx_from active over phase order counts)
+from_order sheet d over phase n order = active_in sheet (get (codes "activePlayers") d) >>= λ active.
+    Some (record { seats = n.seats; turn = n.turn; current = n.current; order = order; pos = n.pos; phase = phase; active = active; moves = n.moves; over = over })
 
 unfoldable pub ctx_in : Sheet → Data → Option Ctx
-ctx_in sheet d = of_members ctx_names d
+ctx_in sheet d = of_members (codes "activePlayers" ∷ codes "currentPlayer" ∷ codes "gameover" ∷ codes "numMoves" ∷ codes "numPlayers" ∷ codes "phase"
+    ∷ codes "playOrder" ∷ codes "playOrderPos" ∷ codes "turn" ∷ []) d
     (over_in (get (codes "gameover") d) >>= λ over. phase_in sheet (get (codes "phase") d) >>= λ phase. counts_in d >>= λ counts.
     order_in (get (codes "playOrder") d) >>= λ order. from_order sheet d over phase counts order)

@@ -24,18 +24,12 @@ use Rattle.sight_reading.specs.CtxReading.{phase_in}
 use Rattle.sight_reading.specs.declared.entry_read.Deed.{Deed}
 
 -- the arguments, or none where they are hidden
-abbrev pub args_from : Data → Option (Option (List Arg))
-args_from d = unless_null d (option_and_then arguments_in (as_array d))
-
 abbrev pub args_in : Option Data → Option (Option (List Arg))
-args_in found = option_and_then args_from found
+args_in found = option_and_then (λ d. unless_null d (option_and_then arguments_in (as_array d))) found
 
 abbrev pub move_with : ℕ → Option (List Arg) → Deed
 move_with id None = record { act = Move id []; hidden = true }
 move_with id (Some args) = record { act = Move id args; hidden = false }
-
-abbrev pub shown : Act → Deed
-shown act = record { act = act; hidden = false }
 
 unfoldable pub move_in : Sheet → Data → Option Deed
 move_in sheet d = of_members (codes "args" ∷ codes "kind" ∷ codes "move" ∷ []) d
@@ -62,25 +56,17 @@ event_in sheet d = of_members (codes "event" ∷ codes "kind" ∷ codes "to" ∷
     (text_at (get (codes "event") d) >>= λ name. event_by sheet name (get (codes "to") d))
 
 abbrev pub alone_in : Act → Data → Option Deed
-alone_in act d = of_members (codes "kind" ∷ []) d (Some (shown act))
+alone_in act d = of_members (codes "kind" ∷ []) d (Some (record { act = act; hidden = false }))
 
-abbrev pub deed_by : Sheet → List ℕ → Data → Option Deed
-deed_by sheet kind d = if bytes_eq kind (codes "move") then move_in sheet d
-    else if bytes_eq kind (codes "event") then option_map (λ e. shown (Event e)) (event_in sheet d)
+unfoldable pub deed_in : Sheet → Data → Option Deed
+deed_in sheet d = text_at (get (codes "kind") d) >>= λ kind. if bytes_eq kind (codes "move") then move_in sheet d
+    else if bytes_eq kind (codes "event") then option_map (λ e. record { act = Event e; hidden = false }) (event_in sheet d)
     else if bytes_eq kind (codes "undo") then alone_in Undo d
     else if bytes_eq kind (codes "redo") then alone_in Redo d else None
 
-unfoldable pub deed_in : Sheet → Data → Option Deed
-deed_in sheet d = text_at (get (codes "kind") d) >>= λ kind. deed_by sheet kind d
-
-abbrev pub entry_names : List (List ℕ)
-entry_names = codes "act" ∷ codes "number" ∷ codes "phase" ∷ codes "seat" ∷ codes "turn" ∷ []
-
-abbrev pub entry_from : Deed → ℕ → Option ℕ → ℕ → ℕ → Entry
-entry_from deed at phase seat turn = record { seat = seat; act = deed.act; hidden = deed.hidden; number = at; turn = turn; phase = phase; words = 0 }
-
 unfoldable pub entry_in : Sheet → Data → Option Entry
-entry_in sheet d = of_members entry_names d
+entry_in sheet d = of_members (codes "act" ∷ codes "number" ∷ codes "phase" ∷ codes "seat" ∷ codes "turn" ∷ []) d
     (natural_at 4294967295 (get (codes "number") d) >>= λ at. phase_in sheet (get (codes "phase") d) >>= λ phase.
     natural_at 255 (get (codes "seat") d) >>= λ seat. natural_at 4294967295 (get (codes "turn") d) >>= λ turn.
-    option_and_then (deed_in sheet) (get (codes "act") d) >>= λ deed. Some (entry_from deed at phase seat turn))
+    option_and_then (deed_in sheet) (get (codes "act") d) >>= λ deed.
+    Some (record { seat = seat; act = deed.act; hidden = deed.hidden; number = at; turn = turn; phase = phase; words = 0 }))

@@ -19,9 +19,6 @@ entries_from sheet ds = read_each (entry_in sheet) ds
 abbrev pub log_in : Sheet → Option Data → Option (List Entry)
 log_in sheet found = option_and_then (entries_from sheet) (result_ok (list_in found))
 
-abbrev pub snapshot_names : List (List ℕ)
-snapshot_names = codes "ctx" ∷ codes "g" ∷ codes "log" ∷ codes "number" ∷ []
-
 -- the snapshot of these parts, with the log that a value has; and with its state too
 abbrev pub from_state : {G : Type 0} → Sheet → Data → ℕ → Ctx → G → Option (Snapshot G)
 from_state sheet d number ctx g = log_in sheet (get (codes "log") d) >>= λ log. Some (record { number = number; ctx = ctx; g = g; log = log })
@@ -30,6 +27,6 @@ abbrev pub from_ctx : {G : Type 0} → Rules G → Sheet → Data → ℕ → Ct
 from_ctx rules sheet d number ctx = option_and_then rules.read (get (codes "g") d) >>= λ g. from_state sheet d number ctx g
 
 unfoldable pub snapshot_in : {G : Type 0} → Rules G → Data → Option (Snapshot G)
-snapshot_in rules d = of_members snapshot_names d
+snapshot_in rules d = of_members (codes "ctx" ∷ codes "g" ∷ codes "log" ∷ codes "number" ∷ []) d
     (natural_at 4294967295 (get (codes "number") d) >>= λ number. option_and_then (ctx_in rules.sheet) (get (codes "ctx") d) >>= λ ctx.
     from_ctx rules rules.sheet d number ctx)

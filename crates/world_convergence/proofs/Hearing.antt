@@ -4,11 +4,12 @@ use Rattle.std.specs.Prelude.{Result, slice_get, position, unwrap_or}
 use Rattle.std.specs.List.{remove, position_or_len, list_any}
 use Rattle.std.proofs.lemmas.Bool.Decides.{nat_tests}
 use Rattle.std.proofs.lemmas.List.Quantifiers.{position-Some}
-use Rattle.client_predict.specs.Acting.{next_ticket, waits_for, with_act}
+use Rattle.client_predict.proofs.Pieces.{again, one_further, taken_on, waits_for}
+use Rattle.client_predict.specs.Acting.{next_ticket, with_act}
 use Rattle.client_predict.specs.Client.{Client, Playing}
-use Rattle.client_predict.specs.Prediction.{guessed, guessed_act, last_number, made, may_guess, one_further, predict, runs_on_client}
-use Rattle.client_predict.specs.Reading.{Heard, again, answered, begun, change_by, change_in, changed, ended, has_ticket, hears, hears_line, in_step, lost, only_told, patched_by, reads, settled_by, settles, synced, taken, unless_gone, updated, verdict, goes_on}
-use Rattle.client_predict.specs.Shown.{counts_on, shown, taken_on}
+use Rattle.client_predict.specs.Prediction.{guessed, guessed_act, last_number, made, may_guess, predict, runs_on_client}
+use Rattle.client_predict.specs.Reading.{Heard, answered, begun, change_by, change_in, changed, ended, has_ticket, hears, hears_line, in_step, lost, only_told, patched_by, reads, settled_by, settles, synced, taken, unless_gone, updated, verdict, goes_on}
+use Rattle.client_predict.specs.Shown.{counts_on, shown}
 use Rattle.client_predict.specs.declared.told.FeedNo.TheVariants as no
 use Rattle.client_predict.specs.declared.told.Told.{Told}
 use Rattle.client_predict.specs.declared.told.Told.TheVariants.{Accepted, Refused, Again, Ended, Other}
@@ -26,7 +27,8 @@ use Rattle.sight_reading.specs.EntryReading.{entry_in}
 use Rattle.json_tree.specs.Names.{extra_in}
 use Rattle.sight_reading.specs.CtxReading.{ctx_in}
 use Rattle.sight_reading.specs.Reading.{natural_at}
-use Rattle.sight_reading.specs.SnapshotReading.{log_in, snapshot_in, snapshot_names}
+use Rattle.sight_reading.proofs.SnapshotLaws.{snapshot_names}
+use Rattle.sight_reading.specs.SnapshotReading.{log_in, snapshot_in}
 use Rattle.sight_reading.proofs.NumberLaws.{natural_is}
 use Rattle.sight_reading.proofs.PartLaws.{past, step}
 use Rattle.stage_map.specs.Moves.{may, moves}

@@ -29,7 +29,8 @@ use Rattle.serde_json.specs.Data.{Data}
 use Rattle.serde_json.specs.Find.{get}
 use Rattle.sight_reading.specs.CtxReading.{ctx_in}
 use Rattle.sight_reading.specs.Reading.{natural_at, ◌>>=◌}
-use Rattle.sight_reading.specs.SnapshotReading.{from_ctx, from_state, snapshot_in, snapshot_names}
+use Rattle.sight_reading.proofs.SnapshotLaws.{snapshot_names}
+use Rattle.sight_reading.specs.SnapshotReading.{from_ctx, from_state, snapshot_in}
 use Rattle.wire_json.specs.Refusals.{Refusal}
 use Rattle.wire_json.specs.ServerReading.{server_read}
 use Rattle.wire_json.specs.declared.protocol.Protocol.{Protocol}

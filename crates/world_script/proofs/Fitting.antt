@@ -19,17 +19,17 @@ use Rattle.sheet_json.specs.Seats.{IsWithin}
 use Rattle.wire_json.proofs.ActLaws.{asked_is}
 use Rattle.wire_json.proofs.MatchTexts.{match_is}
 use Rattle.wire_json.specs.Acts.{asked_in}
-use Rattle.wire_json.specs.Asking.{AimIsUtf8, AskedFits, AskedIsUtf8}
+use Rattle.wire_json.specs.Asking.{AskedFits, AskedIsUtf8}
 use Rattle.wire_json.specs.KeyText.{lower_hex}
 use Rattle.wire_json.specs.MatchText.{IsName, match_from, number_from}
 use Rattle.wire_json.specs.declared.asked.Asked.{Asked}
 use Rattle.wire_json.specs.declared.asked.Asked.TheVariants.{Move, Event, Undo, Redo}
-use Rattle.wire_json.specs.declared.asked.AskedTo.{AskedTo}
 use Rattle.wire_json.specs.declared.asked.AskedTo.TheVariants as aim
 use Rattle.wire_json.specs.declared.protocol.Protocol.{Protocol}
 use Rattle.wire_json.specs.declared.protocol.Protocol.TheVariants.{One, Two}
 use Rattle.world_history.specs.World.{Step, Nothing, Seeds, Opens, Attaches, Acts, Arrives, Takes, Reads, Drops, Leaves, Shows}
-use Rattle.client_world.specs.Reading.{acting, aim_is_utf8, asked_by, asked_is_utf8, asked_of, at_most, attaching, attaching_as, by_client, by_word, claim_in, client_in, client_step, cut, in_utf8, is_played, leaving, looker_in, looking, looking_in, opening, opening_of, seat_in, step_in, world_step_of}
+use Rattle.client_world.proofs.Askable.{in_utf8}
+use Rattle.client_world.specs.Reading.{acting, asked_by, asked_is_utf8, asked_of, at_most, attaching, attaching_as, by_client, by_word, claim_in, client_in, client_step, cut, is_played, leaving, looker_in, looking, looking_in, opening, opening_of, seat_in, step_in, world_step_of}
 use Rattle.world_convergence.specs.Steps.{StepFits}
 use Rattle.line_runner.specs.Play.{steps_of}
 use Rattle.std.specs.Option.{option_map_or}
@@ -109,14 +109,11 @@ claims rest = any Claims (λ p. option_and_then (λ name. option_map (λ l. (nam
 abbrev IsAct : Asked → Type 0
 IsAct a = AskedFits a × AskedIsUtf8 a
 
-aims : (to : AskedTo) → aim_is_utf8 to ≡ true → AimIsUtf8 to
-aims aim.Nothing e = tt
-aims (aim.Seat s) e = tt
-aims (aim.Name n) e = IsUtf8-from_is_utf8 n e
-
 texts : (a : Asked) → asked_is_utf8 a ≡ true → AskedIsUtf8 a
 texts (Move n args) e = IsUtf8-from_is_utf8 n e
-texts (Event kind to) e = aims to e
+texts (Event kind aim.Nothing) e = tt
+texts (Event kind (aim.Seat s)) e = tt
+texts (Event kind (aim.Name n)) e = IsUtf8-from_is_utf8 n e
 texts Undo e = tt
 texts Redo e = tt
 

@@ -1,7 +1,7 @@
 use Rattle.std.proofs.Common.{Some, option_and_then, sym, ap, ◌∙◌}
 use Rattle.wire_json.specs.Acts.{asked_in}
-use Rattle.client_world.specs.Reading.{asked_by, asked_of, in_utf8}
-use Rattle.client_world.proofs.Askable.{askable, kept}
+use Rattle.client_world.specs.Reading.{asked_by, asked_of}
+use Rattle.client_world.proofs.Askable.{askable, in_utf8, kept}
 use Rattle.client_world.proofs.act_text.act_of.Goals as goal
 
 pub returns-in-Some-clause-act : goal.returns-in-Some-clause-act
