@@ -41,10 +41,7 @@ act_told rules p asked = predicted (predict rules (shown_of rules p) p.seat aske
 
 -- the action waits for its verdict
 abbrev pub with_act : {G : Type 0} → Rules G → Playing G → Asked → Playing G
-with_act rules p asked = record {
-  name = p.name;
-  seat = p.seat;
-  settled = p.settled;
+with_act rules p asked = record p {
   waiting = p.waiting ++ record { ticket = p.ticket; number = (shown_of rules p).number; asked = asked } ∷ [];
   ticket = next_ticket p.ticket;
 }
