@@ -1,5 +1,5 @@
 -- Names of parts of what a client reads, makes and shows, for the proofs.
-use Rattle.std.specs.Prelude.{ℕ, ◌+◌, if◌then◌else◌, Option, Some, unwrap_or}
+use Rattle.std.specs.Prelude.{None, ℕ, ◌+◌, if◌then◌else◌, Option, Some, unwrap_or}
 use Rattle.std.specs.Option.{option_map_or}
 use Rattle.game_trait.specs.Rules.{Rules}
 use Rattle.player_sight.specs.declared.shown.Snapshot.{Snapshot}
