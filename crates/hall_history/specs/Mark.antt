@@ -7,7 +7,7 @@ use Rattle.room_history.specs.declared.call.RoomCall.{RoomCall}
 use Rattle.room_history.specs.declared.call.RoomCall.TheVariants.{Create, Look, Attach, Submit}
 use Rattle.room_history.specs.declared.reply.RoomReply.{RoomReply}
 use Rattle.room_history.specs.declared.reply.RoomReply.TheVariants.{NoMemory, Busy, Looked}
-use Rattle.room_object.specs.Entry.{Entry, entry}
+use Rattle.room_object.specs.Entry.{entry}
 use Rattle.hall_history.specs.Rooms.{Rooms, with_entry, reply_in}
 use Rattle.std.specs.Option.{option_map_or}
 

@@ -5,7 +5,6 @@ use Rattle.std.specs.List.{flat_map}
 use Rattle.game_sheet.specs.Lines.{lines}
 use Rattle.game_trait.specs.Rules.{Rules}
 use Rattle.game_hall.specs.Answers.{line_of}
-use Rattle.game_hall.specs.declared.answer.Answer.{Answer}
 use Rattle.game_hall.specs.declared.answer.Answer.TheVariants as answer
 use Rattle.room_history.specs.Session.{bytes_handed_out}
 use Rattle.room_history.specs.declared.call.RoomCall.TheVariants.{Take, Detach}

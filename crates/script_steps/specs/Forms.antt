@@ -1,6 +1,6 @@
 -- The lines of a script that are in form, and the step that each asks for. Words are parted by exactly one blank, and numbers are decimal,
 -- without sign and without leading zeros. Empty lines and lines that begin with # ask for nothing.
-use Rattle.std.specs.Prelude.{ℕ, ◌+◌, ◌-◌, ◌*◌, ◌==◌, ◌&&◌, nat_le, Bool, false, List, [], ◌∷◌, length, take, drop, position, Option, Some, None, option_map, option_and_then, codes, bytes_eq, if◌then◌else◌}
+use Rattle.std.specs.Prelude.{ℕ, ◌+◌, ◌-◌, ◌*◌, ◌==◌, ◌&&◌, nat_le, List, [], ◌∷◌, length, take, drop, position, Option, Some, None, option_map, option_and_then, codes, bytes_eq, if◌then◌else◌}
 use Rattle.std.specs.Str.Lossy.{utf8_valid_len}
 use Rattle.any_game.specs.Names.{may_open}
 use Rattle.wire_json.specs.KeyText.{lower_hex}
