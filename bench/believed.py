@@ -13,7 +13,6 @@ CRATES = Path(__file__).resolve().parent.parent / "crates"
 OF_RUN = ["board_commands.specs.Run." + name for name in ("RunsAs", "IfUnread", "IfNothing", "Stream")] + ["board_commands.specs.Words.command_of"]
 HEAD = re.compile(r"(?:(?:abbrev|unfoldable|pub) )*(?:(data|record) )?([^\s({:]+)[^=]*?:(?:\s|$)")
 WORD = re.compile(r"[^\s(){}\[\],;]+")
-PLAIN = re.compile(r"[a-z]\w*$")
 
 
 def without_comment(line):
@@ -63,25 +62,13 @@ class Module:
             self.aliases[alias] = whole.removeprefix("Rattle.")
 
 
-def bound_in(name, text):
-    """The names that a line of a definition binds: by a pattern at its left, by λ, by let, by a parameter."""
-    names = set()
-    for found in re.findall(r"λ ([^.]*)\.", text) + re.findall(r"let (\S+)", text) + re.findall(r"[({]([^(){}:]*?) :", text):
-        names.update(WORD.findall(found))
-    if text.startswith(name + " ") and " = " in text:
-        names.update(word for word in WORD.findall(text.split(" = ", 1)[0])[1:] if PLAIN.match(word))
-    return names
-
-
-def named_in(name, text):
-    """The names that a line of a definition cites; of a name with dots its first part, and its first two together."""
-    bound = bound_in(name, text)
+def named_in(text):
+    """The names that a line has, those that it binds too; of a name with dots its first part, and its first two together."""
     for word in WORD.findall(re.sub(r"\b\w+ = ", " = ", text) if "record" in text else text):
         first, _, rest = word.partition(".")
         if rest:
             yield first, rest.split(".")[0]
-        if word not in bound and first not in bound:
-            yield first, None
+        yield first, None
 
 
 def main():
@@ -103,7 +90,7 @@ def main():
         scopes, lines = here.lines[name]
         words = set()
         for text in scopes + lines:
-            words.update(named_in(name, text))
+            words.update(named_in(text))
         plain = {first for first, rest in words if rest is None}
         for first, rest in words:
             yield found(here.aliases[first], rest) if rest and first in here.aliases else found(module, first) if rest is None else None
