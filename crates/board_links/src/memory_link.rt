@@ -23,7 +23,7 @@ pub enum Scripted {
 }
 
 /// What a link in memory says after its script.
-#[derive(Clone, Copy, PartialEq, Eq, Debug)]
+#[derive(Clone, Copy, PartialEq, Eq)]
 pub enum AtEnd {
     /// It has ended.
     Ended,

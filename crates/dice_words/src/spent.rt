@@ -1,5 +1,5 @@
 //! The one refusal of a tape.
 
 /// The action has no word left: it drew 256 already, or its tape is blank.
-#[derive(Clone, Copy, PartialEq, Eq, Debug)]
+#[derive(Clone, Copy, PartialEq, Eq)]
 pub struct Spent;

@@ -9,7 +9,7 @@ use record_file::LONGEST;
 use std::alloc::Global;
 
 /// Why the bytes of a source weren't read.
-#[derive(Clone, Copy, PartialEq, Eq, Debug)]
+#[derive(Clone, Copy, PartialEq, Eq)]
 pub enum NotGiven {
     /// The source failed.
     ReadFault,

@@ -12,7 +12,7 @@ use std::sync::Wait;
 use std::sync::ledger::{Book, Ledger, Share};
 
 /// How the serving of a door ended.
-#[derive(Clone, Copy, PartialEq, Eq, Debug)]
+#[derive(Clone, Copy, PartialEq, Eq)]
 pub enum DoorEnd {
     /// The door is shut, or gave its last session.
     Done,

@@ -7,7 +7,7 @@ use game_sheet::NoMemory;
 use game_trait::HookHalt;
 
 /// Why the flow of a match gave no table.
-#[derive(Clone, Copy, PartialEq, Eq, Debug)]
+#[derive(Clone, Copy, PartialEq, Eq)]
 pub enum FlowNo {
     /// A 65th task would begin, or one call of game code queued a 17th event.
     TooManyEvents,

@@ -9,7 +9,7 @@ use room_disk::Disk;
 use std::alloc::Global;
 
 /// Why a file wasn't read.
-#[derive(Clone, Copy, PartialEq, Eq, Debug)]
+#[derive(Clone, Copy, PartialEq, Eq)]
 pub enum NotRead {
     /// The disk failed.
     DiskFault,

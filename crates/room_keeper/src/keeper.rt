@@ -3,7 +3,7 @@
 use room_history::RoomReply;
 
 /// A call that a server is to make on one of its rooms.
-#[derive(Clone, Copy, PartialEq, Eq, Debug)]
+#[derive(Clone, Copy, PartialEq, Eq)]
 pub enum Errand {
     /// Clears a match.
     Clear {
@@ -32,7 +32,7 @@ pub trait Keeper: Drop {
 }
 
 /// A keeper that names no errand: the type of the keeper where a server has none.
-#[derive(Clone, Copy, PartialEq, Eq, Debug)]
+#[derive(Clone, Copy, PartialEq, Eq)]
 pub struct NoKeeper;
 
 impl Keeper for NoKeeper {

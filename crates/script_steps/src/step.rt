@@ -9,7 +9,7 @@ use std::str;
 use wire_json::lower_hex_of;
 
 /// What a line of a script asks for.
-#[derive(Clone, Copy, Debug)]
+#[derive(Clone, Copy)]
 pub enum Step<'a> {
     /// Nothing: the line is empty or a comment.
     Nothing,

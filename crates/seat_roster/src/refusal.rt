@@ -1,7 +1,7 @@
 //! Why a roster refuses a call.
 
 /// The rule of the roster that a call breaks. A refused call changes nothing, and no call is refused for want of memory.
-#[derive(Clone, Copy, PartialEq, Eq, Debug)]
+#[derive(Clone, Copy, PartialEq, Eq)]
 pub enum RosterNo {
     /// There is no such seat; or, where its player renames or leaves, nobody sits there.
     NoSeat,

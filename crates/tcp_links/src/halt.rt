@@ -4,7 +4,7 @@ use std::io;
 use std::io::ErrorKind;
 
 /// Why a call of the system brought nothing.
-#[derive(Clone, Copy, PartialEq, Eq, Debug)]
+#[derive(Clone, Copy, PartialEq, Eq)]
 pub enum Halt {
     /// It would have had to wait, or has to be made again.
     Wait,
