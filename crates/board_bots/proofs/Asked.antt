@@ -27,9 +27,6 @@ asks_on : (client : Option (Snapshot AnyG)) (s : Snapshot AnyG) (m : Moment) (an
     → client ≡ Some s → AsksBy (options_on m.sitting s) s m answer after → Asks client m answer after
 asks_on client s m answer after e h = subst (λ c. Asks c m answer after) (sym e) h
 
-by_none : (offers : List (ℕ × List Arg)) (s : Snapshot AnyG) (m after : Moment) → offers ≡ [] → after ≡ m → AsksBy offers s m came.Quiet after
-by_none offers s m after e a = subst (λ o. AsksBy o s m came.Quiet after) (sym e) (refl, a)
-
 by_choice : (offers : List (ℕ × List Arg)) (s : Snapshot AnyG) (m : Moment) (answer : Came) (after : Moment) (choice : Option ℕ)
     → 1 ≤ length offers → PlaysBy choice s (asked m s choice) answer after → AsksBy offers s m answer after
 by_choice [] s m answer after choice some h = absurd (omega (arith, some))

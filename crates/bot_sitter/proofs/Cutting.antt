@@ -36,9 +36,6 @@ cut_ended (byte ∷ before) more = cut_by (byte == 10) byte (before ++ 10 ∷ []
 pub cut_lines : (bytes : List ℕ) → AreLines bytes → AreCut bytes
 cut_lines bytes h = subst AreCut (sym h.1) (cut_ended h.0)
 
-pub cut_none : AreCut []
-cut_none more = refl
-
 pub cut_both : (a b : List ℕ) → AreCut a → AreCut b → AreCut (a ++ b)
 cut_both a b h k more =
     ap lines (append_assoc a b more) ∙ h (b ++ more) ∙ ap (λ ls. lines a ++ ls) (k more)

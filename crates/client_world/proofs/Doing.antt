@@ -87,9 +87,6 @@ module _ (tape : ℕ → List ℕ) (w : World GameKind AnyG) (c : ℕ) (new : He
   taken_is h reply.NotAttached isnt = absurd (isnt refl)
   taken_is h told isnt = refl
 
-  pub hands_out : (bytes : List ℕ) (end : Option Bye) → Hands tape w c bytes end new text → HandsReply tape w c (reply.Taken bytes end) new text
-  hands_out bytes end h = record { stands = h.stands; prints = h.prints }
-
   -- what hands nothing out
   nothing_out : (told : RoomReply) → ((bytes : List ℕ) (end : Option Bye) → told ≡ reply.Taken bytes end → ⊥) → bytes_handed_out told ≡ []
   nothing_out (reply.Taken bytes end) isnt = absurd (isnt bytes end refl)

@@ -5,11 +5,10 @@ use Rattle.std.specs.List.{AllByRecursion}
 use Rattle.client_predict.specs.Client.{Client}
 use Rattle.client_predict.specs.Reading.{begun, reads}
 use Rattle.game_sheet.specs.MatchName.{Name}
-use Rattle.game_sheet.specs.declared.ctx.Ctx.{Ctx}
 use Rattle.game_sheet.specs.declared.sheet.Sheet.{Sheet}
 use Rattle.game_trait.specs.Rules.{Rules}
 use Rattle.move_log.specs.declared.entry.Entry.{Entry}
-use Rattle.player_sight.specs.Change.{gone_part, patched}
+use Rattle.player_sight.specs.Change.{patched}
 use Rattle.player_sight.specs.CtxData.{ctx_data}
 use Rattle.player_sight.specs.EntryData.{entry_data}
 use Rattle.player_sight.specs.declared.shown.Snapshot.{Snapshot}
@@ -54,7 +53,7 @@ module _ {G : Type 0} (rules : Rules G) where
   reads_change line name seat s next ctx entry gone put e read is_entry is_ctx is_g number log =
       rw (read, is_entry, number, same (s.number + 1), is_ctx, is_g, log) refl
 
--- ---- the newest entry, and a context's names
+-- ---- the newest entry
 
 pub newest_last : (sheet : Sheet) (log : List Entry) (e : Entry) → newest_entry sheet (log ++ e ∷ []) ≡ entry_data sheet e
 newest_last sheet [] e = refl
@@ -69,7 +68,3 @@ map_last f (y ∷ xs) x = ap (λ l. f y ∷ l) (map_last f xs x)
 pub last_has : {A : Type 0} (P : A → Type 0) (xs : List A) (x : A) → AllByRecursion P (xs ++ x ∷ []) → P x
 last_has P [] x h = h.0
 last_has P (y ∷ xs) x h = last_has P xs x h.1
-
--- no name of a context is ever gone
-pub no_name_gone : (sheet : Sheet) (old new : Ctx) → gone_part (ctx_data sheet old) (ctx_data sheet new) ≡ array no_items
-no_name_gone sheet old new = refl

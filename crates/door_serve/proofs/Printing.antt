@@ -29,14 +29,6 @@ prints_on put.Failed text more before between after e w = (
       ∙ ap (λ l. Some (before ++ l)) (sym (take-append-add text more w.0)))),
 )
 
--- nothing is printed of nothing
-pub prints_none : (before : List ℕ) (held : Option (List ℕ)) → held ≡ Some before → Writes put.Done [] before held
-prints_none before held e = e ∙ ap Some (sym (append_nil before))
-  where
-    append_nil : (xs : List ℕ) → xs ++ [] ≡ xs
-    append_nil [] = refl
-    append_nil (x ∷ xs) = ap (λ l. x ∷ l) (append_nil xs)
-
 -- how the serving ends says what was printed
 pub by_end : (how : DoorEnd) (wrote : Put) (text before : List ℕ) (after : Option (List ℕ)) → Writes wrote text before after → Printed (end_of how wrote) text before after
 by_end how put.Failed text before after w = w

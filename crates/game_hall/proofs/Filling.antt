@@ -1,8 +1,8 @@
 -- How drawn words fill bytes, one after another.
-use Rattle.std.proofs.Common.{◌≡◌, ℕ, suc, ◌+◌, ◌-◌, ◌*◌, ◌<◌, ◌≤◌, List, [], ◌∷◌, ◌++◌, length, take, drop, refl, sym, ap, ◌∙◌, append_assoc, append-nil, drop-drop, length-drop, arith}
+use Rattle.std.proofs.Common.{◌≡◌, ℕ, suc, ◌+◌, ◌-◌, ◌*◌, ◌<◌, ◌≤◌, List, ◌∷◌, ◌++◌, length, take, drop, refl, sym, ap, ◌∙◌, append_assoc, drop-drop, arith}
 use Rattle.std.specs.Int.{w32, to_le_bytes}
 use Rattle.std.proofs.lemmas.List.{length-take-le, length-append}
-use Rattle.std.proofs.Math.Seq.{take-append_seam, take-length}
+use Rattle.std.proofs.Math.Seq.{take-append_seam}
 use Rattle.dice_words.specs.Strip.{Strip, Follows}
 use Rattle.game_hall.specs.Words.{bytes_of_words, drawn}
 
@@ -39,18 +39,6 @@ goes_on words place word old new left after all h l first written so_far =
     first_of_those : take (words - place) left ≡ word ∷ take (words - (place + 1)) after
     first_of_those = ap (take (words - place)) first ∙ ap (λ n. take n (word ∷ after)) one_less
 
--- after the last word the bytes are whole
-pub is_whole : (words place : ℕ) (bytes left all : List ℕ) → place ≡ words → length bytes ≡ 4 * words → take (4 * place) bytes ++ bytes_of_words (take (words - place) left) ≡ all → bytes ≡ all
-is_whole words place bytes left all e l so_far =
-    sym (take-length bytes) ∙ ap (λ n. take n bytes) whole ∙ sym (append-nil (take (4 * place) bytes))
-    ∙ ap (λ n. take (4 * place) bytes ++ bytes_of_words (take n left)) none ∙ so_far
-  where
-    whole : length bytes ≡ 4 * place
-    whole = omega (arith, e, l)
-
-    none : 0 ≡ words - place
-    none = omega (arith, e)
-
 -- a tape from which one more word was drawn
 pub one_more : (n word : ℕ) (first before after : Strip) → before ≡ drawn n first → before.left ≡ word ∷ after.left → after.used ≡ before.used + 1 → Follows before after
     → after ≡ drawn (n + 1) first
@@ -67,9 +55,3 @@ one_more n word first before after so_far next counted follows = λ i. record { 
 
     left : after.left ≡ drop (n + 1) first.left
     left = ap (drop 1) (sym next ∙ ap (λ s. s.left) so_far) ∙ drop-drop 1 n first.left
-
--- a word is left as long as enough were there
-pub some_left : (words place : ℕ) (first tape : Strip) → tape ≡ drawn place first → words ≤ length first.left → place < words → tape.left ≡ [] → ⊥
-some_left words place first tape so_far enough more none =
-    let left : length (drop place first.left) ≡ 0 = ap length (sym (ap (λ s. s.left) so_far) ∙ none) in
-    omega (arith, enough, more, left, length-drop place first.left)

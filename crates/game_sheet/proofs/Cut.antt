@@ -1,5 +1,5 @@
 -- The first line of some bytes, and bytes that are made of lines.
-use Rattle.std.proofs.Common.{◌≡◌, ◌==◌, ◌++◌, ◌+◌, ◌<◌, ◌≤◌, ℕ, zero, suc, Bool, true, false, cond, List, [], ◌∷◌, length, map, take, drop, Some, arith, refl, sym, ap, subst, ◌∙◌, eqb-true, length-drop, drop-drop}
+use Rattle.std.proofs.Common.{◌≡◌, ◌==◌, ◌++◌, ◌+◌, ◌<◌, ℕ, zero, suc, Bool, true, false, cond, List, [], ◌∷◌, length, map, take, drop, Some, arith, refl, sym, ap, subst, ◌∙◌, eqb-true, length-drop, drop-drop}
 use Rattle.std.specs.Prelude.{slice_get}
 use Rattle.std.specs.List.{concat, list_all, onto_first}
 use Rattle.std.proofs.lemmas.Bool.{true≢false}
@@ -18,22 +18,6 @@ first_line (byte ∷ bytes) h = first_line_by (byte == 10) byte bytes (first_lin
 
 pub cut_at : (bytes : List ℕ) (n : ℕ) → n ≡ first_length bytes → 0 < length bytes → lines bytes ≡ take n bytes ∷ lines (drop n bytes)
 cut_at bytes n e h = subst (λ m. lines bytes ≡ take m bytes ∷ lines (drop m bytes)) (sym e) (first_line bytes h)
-
-within_by : (b : Bool) (n m : ℕ) → n ≤ m → cond b 1 (suc n) ≤ suc m
-within_by true n m h = omega arith
-within_by false n m h = omega arith
-
-pub within : (bytes : List ℕ) → first_length bytes ≤ length bytes
-within [] = omega arith
-within (byte ∷ bytes) = within_by (byte == 10) (first_length bytes) (length bytes) (within bytes)
-
-some_by : (b : Bool) (n : ℕ) → 0 < cond b 1 (suc n)
-some_by true n = omega arith
-some_by false n = omega arith
-
-pub some : (bytes : List ℕ) → 0 < length bytes → 0 < first_length bytes
-some [] h = absurd (omega arith)
-some (byte ∷ bytes) h = some_by (byte == 10) (first_length bytes)
 
 -- past a byte that ends no line
 pub longer : (byte : ℕ) (bytes : List ℕ) → (byte == 10) ≡ false → first_length (byte ∷ bytes) ≡ suc (first_length bytes)

@@ -38,11 +38,6 @@ module _ {X G : Type 0} (named : List ℕ → Option X) (rules : X → Rules G) 
   does_placed mark (Takes pass) h p = frees_placed rules h pass call.Take p
   does_placed mark (Detaches pass) h p = frees_placed rules h pass call.Detach p
 
-  pub runs_placed : (marks : List Mark) (steps : List Step) (h : Hall X) → IsPlaced rules h → IsPlaced rules (runs_script named rules tape marks steps h).0
-  runs_placed marks [] h p = p
-  runs_placed marks (step ∷ steps) h p =
-      runs_placed (drop 1 marks) steps (does named rules tape (first_mark marks) step h).0 (does_placed (first_mark marks) step h p)
-
 module _ {X G : Type 0} (rules : X → Rules G) (pass room j : ℕ) where
   abbrev pub handed : Hall X → List ℕ
   handed h = handed_in rules room (history_of h.rooms room) pass j

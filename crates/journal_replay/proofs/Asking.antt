@@ -22,12 +22,10 @@ use Rattle.room_history.specs.declared.reply.RoomReply.{RoomReply}
 use Rattle.room_history.specs.declared.reply.RoomReply.TheVariants as answer
 use Rattle.match_master.specs.Held.{is_starved}
 use Rattle.room_object.specs.Entry.{Entry, entry}
-use Rattle.room_journal.specs.Coming.{StandsIn}
-use Rattle.room_journal.specs.declared.room_book.RoomBook.{RoomBook}
 use Rattle.room_journal.proofs.Acting.{before, closed, itself, named}
 use Rattle.wire_json.specs.ServerText.{text as server_text}
 use Rattle.wire_json.specs.declared.protocol.Protocol.TheVariants.{One}
-use Rattle.journal_replay.specs.Showing.{StillStands, name_said, standing_name, sync_of}
+use Rattle.journal_replay.specs.Showing.{name_said, standing_name, sync_of}
 
 abbrev Entries : Type 0
 Entries = List (Entry (RoomCall GameKind))
@@ -59,17 +57,6 @@ pub name_told : (room : ℕ) (h : Entries) (p : ℕ) (r : RoomReply) (said : Res
     → IfOk said (λ name. name ≡ standing_name room (standing any_rules room h))
 name_told room h p r said is told =
     subst (λ (x : Result (Option Name) NoMemory). IfOk x (λ name. name ≡ standing_name room (standing any_rules room h))) (sym (told ∙ ap name_said is)) (looked room h p (is_starved r))
-
-look_keeps : (room : ℕ) (h : Entries) (p : ℕ) (starved : Bool) → standing any_rules room (entry p (Look None) starved ∷ h) ≡ standing any_rules room h
-look_keeps room h p true = refl
-look_keeps room h p false = refl
-
-pub still : (room : ℕ) (h : Entries) (p : ℕ) (starved : Bool) (book : RoomBook) → book.room ≡ room → StandsIn book.room book.book (entry p (Look None) starved ∷ h) → StillStands (standing any_rules room h) book
-still room h p starved book same stands = record {
-  h = entry p (Look None) starved ∷ h;
-  in_room = stands;
-  same = ap (λ (n : ℕ). standing any_rules n (entry p (Look None) starved ∷ h)) same ∙ look_keeps room h p starved;
-}
 
 -- ---- the line
 

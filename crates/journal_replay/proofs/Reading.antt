@@ -1,13 +1,9 @@
 -- What a book that was opened from the bytes of a journal says of them.
-use Rattle.std.proofs.Common.{◌≡◌, ◌<◌, ℕ, List, length, Option, ap, ◌∙◌, subst}
+use Rattle.std.proofs.Common.{◌≡◌, ℕ, List, length, Option, ap, ◌∙◌, subst}
 use Rattle.std.proofs.lemmas.List.{length-map}
 use Rattle.any_game.specs.AnyRules.{any_rules}
 use Rattle.any_game.specs.GameKind.{GameKind}
-use Rattle.object_journal.specs.Opening.{IsOpened, IsRefused}
-use Rattle.object_journal.specs.declared.replaying.OpenNo.{OpenNo}
-use Rattle.object_journal.specs.declared.replaying.OpenNo.TheVariants as open_no
-use Rattle.record_file.specs.Damage.{IsDamaged}
-use Rattle.record_file.specs.Ready.{longest}
+use Rattle.object_journal.specs.Opening.{IsOpened}
 use Rattle.record_file.specs.Records.{HasRecords}
 use Rattle.room_changes.specs.ChangesOf.{changes_of}
 use Rattle.room_changes.proofs.Making.{makes}
@@ -19,7 +15,7 @@ use Rattle.room_journal.specs.declared.room_book.RoomBook.{RoomBook}
 use Rattle.room_object.specs.Entry.{Entry}
 use Rattle.change_text.specs.Payload.{payload}
 use Rattle.journal_replay.specs.ReplayText.{replay_text}
-use Rattle.journal_replay.specs.Replaying.{IsUnread, Opens, Replays, exit_as}
+use Rattle.journal_replay.specs.Replaying.{Opens, Replays}
 
 abbrev Entries : Type 0
 Entries = List (Entry (RoomCall GameKind))
@@ -49,9 +45,3 @@ replayed file text count book o is = record {
   makes = makes any_rules 0 o.h;
   says = is ∙ ap (λ (n : ℕ). replay_text n count (standing any_rules n o.h)) o.first ∙ ap (λ (n : ℕ). replay_text 0 n (standing any_rules 0 o.h)) o.counts;
 }
-
-pub unread : {D : Type 0} (is_told : D → Type 0) (seen : D → List ℕ) (faults : D → ℕ) (disk after : D) (file : List ℕ) (no : OpenNo) → is_told disk → seen disk ≡ file → IsRefused (may_follow 0) is_told seen faults disk after no → IsUnread file (exit_as no)
-unread is_told seen faults disk after file open_no.DiskFault told is why = tt
-unread is_told seen faults disk after file open_no.Long told is why = subst (λ (l : List ℕ). longest < length l) is (why told)
-unread is_told seen faults disk after file (open_no.Damaged place) told is why = subst (λ (l : List ℕ). (1 < length l) × IsDamaged (may_follow 0) l place) is (why told)
-unread is_told seen faults disk after file open_no.NoMemory told is why = tt

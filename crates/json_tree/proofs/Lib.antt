@@ -1,6 +1,5 @@
 pub mod Newlines
 pub mod Canonicals
-pub mod FieldLaws
 pub mod Rows
 pub mod LineLaws
 pub mod WritableRows

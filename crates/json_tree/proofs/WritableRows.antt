@@ -5,7 +5,7 @@ use Rattle.std.specs.Ordering.{nat_cmp}
 use Rattle.std.specs.declared.cmp.Ordering.TheVariants.{Less, Equal, Greater}
 use Rattle.std.specs.Cmp.Lexicographic.{slice_cmp}
 use Rattle.json.proofs.Printed.Utf8.{are_ascii, IsUtf8-are_ascii}
-use Rattle.serde_json.specs.Data.{Data, object, Members, no_members, member}
+use Rattle.serde_json.specs.Data.{Data, Members, no_members, member}
 use Rattle.json_tree.specs.Canonical.{AreAbove}
 use Rattle.json_tree.specs.Writable.{IsWritable, MembersAreWritable}
 
@@ -30,10 +30,6 @@ all_rise (member k d ms) = rises k ms && (are_ascii k && all_rise ms)
 abbrev pub AreOk : Members → Type 0
 AreOk no_members = Unit {0}
 AreOk (member k d ms) = IsWritable d × AreOk ms
-
-abbrev pub rows_of : Data → Members
-rows_of (object ms) = ms
-rows_of other = no_members
 
 less_is : (o : Ordering) (b : Bool) → (is_less o && b) ≡ true → (o ≡ Less) × (b ≡ true)
 less_is Less b h = (refl, h)

@@ -1,5 +1,5 @@
 -- Calls that ask for no change, and what the others make of who is attached.
-use Rattle.std.proofs.Common.{◌≡◌, ◌≤◌, ◌==◌, inr, ℕ, Bool, true, false, if◌then◌else◌, not, List, [], ◌∷◌, ◌++◌, length, Option, Some, None, option_map, is_some, refl, sym, ap, ◌∙◌, subst, append-nil}
+use Rattle.std.proofs.Common.{◌≡◌, ◌≤◌, ◌==◌, inr, ℕ, Bool, true, false, if◌then◌else◌, List, [], ◌∷◌, ◌++◌, length, Option, Some, None, option_map, is_some, refl, sym, ap, ◌∙◌, subst, append-nil}
 use Rattle.any_game.specs.AnyRules.{any_rules}
 use Rattle.any_game.specs.GameKind.{GameKind}
 use Rattle.change_text.specs.Payload.{payload}
@@ -27,7 +27,7 @@ use Rattle.room_history.proofs.Attachments.{attachment_step, reply_by_held}
 use Rattle.room_history.proofs.Presence.{presence, want_presence}
 use Rattle.room_journal.specs.Kept.{room_records, texts}
 use Rattle.room_object.specs.Entry.{entry}
-use Rattle.kept_room.specs.Asides.{is_aside, is_detach, may_refuse}
+use Rattle.kept_room.specs.Asides.{is_aside, is_detach}
 use Rattle.kept_room.specs.Journal.{Calls, Goes, HasPart, IsOver, Since, StopRaises, stands_in}
 use Rattle.kept_room.specs.declared.room.KeptRoom.{KeptRoom}
 use Rattle.kept_room.proofs.Journals.{at_rest, some_is_none, stays_at}
@@ -49,16 +49,10 @@ is_the_detach Take e = absurd (false_is_true e)
 is_the_detach Detach e = refl
 is_the_detach (Clear serial) e = absurd (false_is_true e)
 
-pub is_detach_aside : (call : RoomCall GameKind) → is_detach call ≡ true → is_aside call ≡ true
-is_detach_aside call e = subst (λ (c : RoomCall GameKind). is_aside c ≡ true) (sym (is_the_detach call e)) refl
-
 -- a Detach is never refused
 pub is_detach_fed : (call : RoomCall GameKind) (starved : Bool) → is_detach call ≡ true → (starved ≡ true → may_starve call ≡ true) → starved ≡ false
 is_detach_fed call true e fed = absurd (false_is_true (subst (λ (c : RoomCall GameKind). may_starve c ≡ true) (is_the_detach call e) (fed refl)))
 is_detach_fed call false e fed = refl
-
-pub is_refused : (call : RoomCall GameKind) → is_detach call ≡ false → may_refuse call ≡ true
-is_refused call e = ap not e
 
 pub asks_none : (viewer : Option (Option ℕ)) (call : RoomCall GameKind) → is_aside call ≡ true → change_asked viewer call ≡ None
 asks_none viewer (Create game seats seed) e = absurd (false_is_true e)

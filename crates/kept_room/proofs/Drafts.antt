@@ -1,23 +1,16 @@
 -- The draft of a file: one record more, and what it is once it is closed.
-use Rattle.std.proofs.Common.{◌≡◌, ◌≤◌, ℕ, Bool, true, List, [], ◌∷◌, ◌++◌, length, Option, Some, None, option_map, refl, sym, ◌∙◌, ap, subst, append-nil}
+use Rattle.std.proofs.Common.{◌≡◌, ℕ, Bool, true, List, [], ◌∷◌, ◌++◌, Option, Some, None, option_map, refl, sym, ◌∙◌, ap, subst, append-nil}
 use Rattle.std.specs.Prelude.{IfSome, is_some}
-use Rattle.any_game.specs.AnyRules.{any_rules}
 use Rattle.any_game.specs.GameKind.{GameKind}
 use Rattle.any_game.specs.declared.any_g.AnyG.{AnyG}
 use Rattle.object_journal.proofs.Scans.{follow_more}
-use Rattle.object_journal.specs.Replaying.{Came, HasMade}
+use Rattle.object_journal.specs.Replaying.{HasMade}
 use Rattle.record_file.proofs.Frames.{record-push}
 use Rattle.record_file.specs.Damage.{AllFollow}
 use Rattle.record_file.specs.Records.{open_records, record_bytes}
-use Rattle.record_file.specs.Ready.{longest}
 use Rattle.room_history.specs.Match.{Match, number_of}
-use Rattle.room_history.specs.Room.{serials, standing}
-use Rattle.room_journal.specs.Coming.{HasCome}
-use Rattle.room_journal.specs.Kept.{may_follow, room_records}
-use Rattle.room_journal.specs.declared.room_book.RoomBook.{RoomBook}
 use Rattle.room_object.specs.Entry.{Entry}
-use Rattle.kept_room.specs.Anew.{IsCleared, IsDraft}
-use Rattle.kept_room.specs.Journal.{Calls, stands_in}
+use Rattle.kept_room.specs.Anew.{IsDraft}
 
 pub done_so : {A P : Type 0} (o : Option A) (b : Bool) → IfSome o (λ x. P) → b ≡ is_some o → b ≡ true → P
 done_so None b none said so = absurd (let t = sym said ∙ so in cc)
@@ -45,13 +38,3 @@ module _ {O C : Type 0} (stands_for has_come : O → List (Entry C) → Type 0) 
 pub none_numbered : (o : Option (Match GameKind AnyG)) → option_map (λ (m : Match GameKind AnyG). number_of m) o ≡ None → o ≡ None
 none_numbered None e = refl
 none_numbered (Some m) e = absurd (cc)
-
--- a room's book came there by its records
-abbrev pub comes_to : RoomBook → Calls → Type 0
-comes_to b h = HasCome b.room b.keys.items h
-
--- a file is what was to be made
-pub cleared : (room made : ℕ) (book : RoomBook) (file : List ℕ) (end : ℕ) (h : Calls) → book.room ≡ room → Came stands_in comes_to (room_records book.room) (may_follow book.room) book file end h → length file ≤ longest
-    → (serials any_rules book.room h ≡ made) × (standing any_rules book.room h ≡ None) → IsCleared room made file h
-cleared room made book file end h numbered came few says =
-    subst (λ (n : ℕ). IsCleared n made file h) numbered (record { ends = came.ends; few = few; follow = came.follow; made_are = says.0; none_stands = says.1 })

@@ -20,13 +20,6 @@ use Rattle.kept_room.specs.Opened.{IsOpenedAs, IsOpenedRoom}
 use Rattle.kept_room.specs.declared.room.KeptRoom.{KeptRoom}
 use Rattle.kept_room.proofs.Asides.{detached, is_detach_fed, same_changes, same_records}
 
-left_out : (b x : Bool) → x ≡ false → (if b then false else x) ≡ false
-left_out true x e = refl
-left_out false x e = e
-
-itself : (n : ℕ) → (n == n) ≡ true
-itself n = grind (arith, nat_tests)
-
 -- one pass more is detached
 pub one_fewer : (room : ℕ) (h : Calls) (pass : ℕ) → NobodyAfter room pass h → NobodyAfter room (pass + 1) (entry pass Detach false ∷ h)
 one_fewer room h pass nobody q low = detached room h pass q ∙ by (pass == q) refl

@@ -3,7 +3,6 @@ use Rattle.std.proofs.Common.{◌≡◌, ◌≤◌, arith, inl, inr, ℕ, Bool, 
 use Rattle.any_game.specs.AnyRules.{any_rules}
 use Rattle.any_game.specs.GameKind.{GameKind}
 use Rattle.board_links.specs.Faults.{HasRisen}
-use Rattle.hosted_room.specs.Calls.{IsRowOf}
 use Rattle.object_journal.specs.declared.performing.Stop.{Stop}
 use Rattle.object_journal.specs.declared.performing.Stop.TheVariants as stop
 use Rattle.record_file.specs.Records.{IsSettled}
@@ -12,7 +11,7 @@ use Rattle.record_file.proofs.Composing.{and_then, weaker}
 use Rattle.room_disk.specs.Disk.{LeavesOnly}
 use Rattle.room_history.specs.Outbox.{Attachment}
 use Rattle.room_history.specs.Presence.{is_attached}
-use Rattle.room_history.specs.Room.{number, reply, serials}
+use Rattle.room_history.specs.Room.{reply}
 use Rattle.room_history.specs.declared.call.RoomCall.{RoomCall}
 use Rattle.room_history.specs.declared.call.RoomCall.TheVariants.{Detach}
 use Rattle.room_history.specs.declared.reply.RoomReply.{RoomReply}
@@ -305,14 +304,6 @@ module _ {D : Type 0} (is_told : D → Type 0) (seen : D → List ℕ) (may_leav
   pub answers_whole : (room : ℕ) (past : Calls) (start : Option D) (r : KeptRoom D) (h : Calls) (e : Entry (RoomCall GameKind)) (told : RoomReply) → r.stopped ≡ None → Stands room past start r h
       → ((l : Calls) → stands_in r.object l → told ≡ reply any_rules room l e) → told ≡ reply any_rules room (h ++ past) e
   answers_whole room past start r h e told n s answered = answered s.real s.stands ∙ ap (λ (l : Calls). reply any_rules room l e) (s.whole n)
-
-  pub row_whole : (past : Calls) (start : Option D) (r : KeptRoom D) (h : Calls) (count : ℕ) (at : Option ℕ) → r.stopped ≡ None → Stands r.object.room past start r h
-      → ((l : Calls) → stands_in r.object l → count ≡ serials any_rules r.object.room l) → ((l : Calls) → stands_in r.object l → at ≡ number any_rules r.object.room l)
-      → IsRowOf any_rules r.object.room (h ++ past) (Some (count, at))
-  row_whole past start r h count at n s counts numbers = (
-    counts s.real s.stands ∙ ap (λ (l : Calls). serials any_rules r.object.room l) (s.whole n),
-    numbers s.real s.stands ∙ ap (λ (l : Calls). number any_rules r.object.room l) (s.whole n),
-  )
 
   -- ---- a room that was just opened
 

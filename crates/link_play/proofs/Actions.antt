@@ -1,7 +1,6 @@
 -- What an action comes to, by what was sent and printed.
 use Rattle.std.proofs.Common.{◌≡◌, ◌≢◌, ℕ, List, ◌++◌, Bool, true, false, Option, Some, None, Ok, Err, refl, sym, ap, ◌∙◌, subst, inl, inr}
 use Rattle.board_links.specs.declared.link.Came.{Came}
-use Rattle.board_links.specs.declared.link.Stage.{Stage}
 use Rattle.client_predict.specs.Acting.{act_no}
 use Rattle.client_predict.specs.Client.{Client, Playing}
 use Rattle.client_predict.specs.declared.told.ActNo.{ActNo}
@@ -11,29 +10,12 @@ use Rattle.world_history.specs.Words.{act_no_word}
 use Rattle.wire_json.specs.declared.asked.Asked.{Asked}
 use Rattle.link_play.specs.Acting.{ActsOn}
 use Rattle.link_play.specs.Commands.{Acts}
-use Rattle.link_play.specs.Counts.{StopShows}
 use Rattle.link_play.specs.Doing.{Who, act_line, acted_text, acts, acts_by, acted_word, key_of, with_action}
-use Rattle.link_play.specs.Pieces.{Flow, PrintRaises, Prints, SendRaises, Sends}
+use Rattle.link_play.specs.Pieces.{Flow, Prints, Sends}
 use Rattle.link_play.specs.Sitting.{Sitting, becomes, on_line, prints}
 use Rattle.link_play.specs.Stopping.{Did, StopsActing, StopsPrinting, StopsSending}
 use Rattle.link_play.specs.declared.stop.Stop.{Stop}
 use Rattle.link_play.specs.declared.stop.Stop.TheVariants as stop
-
--- neither a print nor a send tells that the link ended
-pub print_shows : (r : Flow) (old new : ℕ) (at : Stage) → PrintRaises r old new → StopShows r at
-print_shows (Ok done) old new at h = tt
-print_shows (Err stop.WriteFault) old new at h = tt
-print_shows (Err stop.LinkFault) old new at h = absurd h
-print_shows (Err stop.LinkEnded) old new at h = absurd h
-print_shows (Err stop.LinkLong) old new at h = absurd h
-print_shows (Err stop.NoMemory) old new at h = absurd h
-
-pub send_shows : (why : Stop) (old new : ℕ) (at : Stage) → SendRaises (Err why) old new → StopShows {A = Unit {0}} (Err why) at
-send_shows stop.WriteFault old new at h = absurd h
-send_shows stop.LinkFault old new at h = tt
-send_shows stop.LinkEnded old new at h = absurd h
-send_shows stop.LinkLong old new at h = absurd h
-send_shows stop.NoMemory old new at h = tt
 
 module _ {G : Type 0} where
   -- a line that wasn't sent whole

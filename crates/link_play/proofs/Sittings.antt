@@ -1,8 +1,6 @@
 -- How a sitting goes on: by an answer of the link, by what is printed and sent, and by lines and silences one after another.
-use Rattle.std.proofs.Common.{◌≡◌, ℕ, ◌+◌, ◌<◌, suc, List, [], ◌∷◌, ◌++◌, Option, Some, None, Ok, Err, refl, sym, ap, ◌∙◌, subst, add-one, length, length-append, inl, inr}
-use Rattle.std.specs.Prelude.{IsSome, is_some}
+use Rattle.std.proofs.Common.{◌≡◌, ℕ, ◌+◌, ◌<◌, suc, List, [], ◌∷◌, ◌++◌, Ok, Err, refl, sym, ap, ◌∙◌, subst, add-one, length, length-append, inl, inr}
 use Rattle.std.proofs.lemmas.List.Sums.{fold-append}
-use Rattle.board_links.specs.Answers.{answers_after, with_answer}
 use Rattle.board_links.specs.declared.link.Came.{Came}
 use Rattle.board_links.specs.declared.link.Came.TheVariants as came
 use Rattle.client_predict.specs.Client.{Client}
@@ -15,26 +13,7 @@ use Rattle.link_play.specs.declared.stop.Stop.{Stop}
 use Rattle.link_play.proofs.Actions.{all_printed, part_printed}
 use Rattle.link_play.specs.declared.hearing.Given.{Given}
 use Rattle.link_play.specs.declared.hearing.Given.TheVariants as given
-use Rattle.link_play.specs.Sitting.{Sitting, answered, hears_line, hears_lines, prints, quiet_for, told_answers}
-
--- who told goes on telling
-pub tells_on : {A : Type 0} (old new : Option A) → is_some new ≡ is_some old → IsSome old → IsSome new
-tells_on old new e s = e ∙ s
-
-pub some_answers : (answer : Came) (old new : Option (List Came)) → new ≡ answers_after answer old → IsSome old → IsSome new
-some_answers answer (Some told) new e s = rw e refl
-some_answers answer None new e s = cc
-
--- an answer that is told comes after the earlier ones
-pub heard_more : (answer : Came) → ((told : List Came) → with_answer answer told ≡ told ++ answer ∷ []) → (old new : Option (List Came)) → IsSome old → new ≡ answers_after answer old
-    → told_answers new ≡ told_answers old ++ answer ∷ []
-heard_more answer w (Some told) new s e = ap told_answers e ∙ w told
-heard_more answer w None new s e = cc
-
--- want of memory isn't
-pub heard_no_more : (old new : Option (List Came)) → new ≡ answers_after came.NoMemory old → told_answers new ≡ told_answers old
-heard_no_more (Some told) new e = ap told_answers e
-heard_no_more None new e = ap told_answers e
+use Rattle.link_play.specs.Sitting.{Sitting, answered, hears_line, hears_lines, prints, quiet_for}
 
 quiet_line : given.Quiet ≡ given.Line → ⊥
 quiet_line e = cc

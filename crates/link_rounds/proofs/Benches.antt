@@ -1,8 +1,7 @@
 -- What the links of all places count for.
-use Rattle.std.proofs.Common.{◌≡◌, ◌+◌, ◌<◌, ℕ, zero, suc, Bool, true, false, List, [], ◌∷◌, ◌++◌, length, take, drop, set, slice_index_or, Option, Some, None, is_some, option_map, refl, ap, sym, ◌∙◌, arith}
+use Rattle.std.proofs.Common.{◌≡◌, ◌+◌, ◌<◌, ℕ, zero, suc, Bool, false, List, [], ◌∷◌, ◌++◌, length, take, drop, set, slice_index_or, Option, Some, None, is_some, option_map, refl, ap, sym, ◌∙◌, arith}
 use Rattle.std.proofs.lemmas.List.{take_at}
 use Rattle.std.proofs.lemmas.List.Sums.{sum_by-cons, sum_by-set}
-use Rattle.board_links.specs.Doors.{IsOut, one_bot, one_other}
 use Rattle.board_links.specs.declared.link.Came.{Came}
 use Rattle.board_links.specs.declared.link.SessionEnd.{SessionEnd}
 use Rattle.link_rounds.specs.Places.{About, Round, Seat, StepOf, Steps, seated, times, weight}
@@ -10,11 +9,6 @@ use Rattle.link_rounds.specs.Places.{About, Round, Seat, StepOf, Steps, seated, 
 -- what a call wrote over a whole list
 pub written : {X : Type 0} (n : ℕ) (xs ys : List X) → length ys ≡ n → take n (ys ++ drop (length ys) xs) ≡ ys
 written n xs ys len = take_at ys (drop (length ys) xs) n len
-
--- one of this sort is among those that are out
-pub out_by : (bot : Bool) (bots others b o : ℕ) → b + one_bot bot ≡ bots → o + one_other bot ≡ others → IsOut bot bots others
-out_by true bots others b o e f = omega (arith, e)
-out_by false bots others b o e f = omega (arith, f)
 
 module _ {L : Type 0} (one : Bool → ℕ) (is_bot : L → Bool) where
   no_weight : (link : Option L) → is_some link ≡ false → weight one is_bot link ≡ 0
@@ -46,14 +40,6 @@ module _ {S L : Type 0} (one : Bool → ℕ) (is_bot : L → Bool) where
       let more = same_seated xs ys (omega (arith, e)) (λ k d low. h (suc k) d (omega (arith, low))) in
       omega (arith, sum_by-cons (λ (q : Seat S L). weight one is_bot q.link) x xs, sum_by-cons (λ (q : Seat S L). weight one is_bot q.link) y ys, first, more)
 
-  -- a place that had no link has this one
-  pub sat : (places : List (Seat S L)) (n : ℕ) (q d : Seat S L) (link : L) → n < length places → is_some (slice_index_or places n d).link ≡ false → q.link ≡ Some link
-      → seated one is_bot (set places n q) ≡ seated one is_bot places + one (is_bot link)
-  sat places n q d link low was is =
-      let before = no_weight one is_bot (slice_index_or places n d).link was in
-      let after = ap (weight one is_bot) is in
-      omega (arith, sum_by-set (λ (p : Seat S L). weight one is_bot p.link) places n q d low, before, after)
-
   -- a place that had a link of this sort has none
   pub left : (places : List (Seat S L)) (n : ℕ) (q d : Seat S L) (link : L) → n < length places → option_map is_bot (slice_index_or places n d).link ≡ Some (is_bot link) → q.link ≡ None
       → seated one is_bot (set places n q) + one (is_bot link) ≡ seated one is_bot places
@@ -61,12 +47,6 @@ module _ {S L : Type 0} (one : Bool → ℕ) (is_bot : L → Bool) where
       let before = same_weight one is_bot (slice_index_or places n d).link (Some link) was in
       let after = ap (weight one is_bot) is in
       omega (arith, sum_by-set (λ (p : Seat S L). weight one is_bot p.link) places n q d low, before, after)
-
-  pub as_before : (places : List (Seat S L)) (n : ℕ) (q d : Seat S L) → n < length places → option_map is_bot q.link ≡ option_map is_bot (slice_index_or places n d).link
-      → seated one is_bot (set places n q) ≡ seated one is_bot places
-  as_before places n q d low is =
-      let same = same_weight one is_bot q.link (slice_index_or places n d).link is in
-      omega (arith, sum_by-set (λ (p : Seat S L). weight one is_bot p.link) places n q d low, same)
 
 module _ {S L : Type 0} (turn : S → List Came → List ℕ → Option SessionEnd → S → Option (List Came) → Option (List ℕ) → Type 0) (leave : S → S → Type 0) (a : About L) where
   step_of_link : (s : S) (link : Option L) (end : Option SessionEnd) (q : Seat S L) → StepOf turn leave a s link end q → option_map a.is_bot q.link ≡ option_map a.is_bot link

@@ -1,5 +1,5 @@
 -- One step more in a round.
-use Rattle.std.proofs.Common.{◌≡◌, ◌≢◌, ◌+◌, ◌<◌, ◌≤◌, ◌==◌, ℕ, suc, cond, List, [], length, take, set, slice_index_or, Option, Some, None, option_map, zero, ◌++◌, refl, subst, sym, ap, ◌∙◌, arith, append_assoc, append-nil, length-set, get_or-set_same, get_or-set_other, subst₂}
+use Rattle.std.proofs.Common.{◌≡◌, ◌≢◌, ◌+◌, ◌<◌, ◌≤◌, ◌==◌, ℕ, suc, cond, List, length, take, set, slice_index_or, Option, Some, None, option_map, zero, ◌++◌, subst, sym, ap, ◌∙◌, arith, append_assoc, length-set, get_or-set_same, get_or-set_other, subst₂}
 use Rattle.std.proofs.lemmas.List.{get_or_default}
 use Rattle.std.proofs.lemmas.List.Sums.{sum_by-append, sum_by_more}
 use Rattle.std.proofs.lemmas.Bool.{eq-eqb, ne_eqb}
@@ -23,9 +23,6 @@ pub at_any : {X : Type 0} (P : X → Type 0) (xs : List X) (n : ℕ) (x d : X) �
 at_any P xs n x d low p = subst P (get_or_default xs n x d low) p
 
 module _ {S L : Type 0} (turn : S → List Came → List ℕ → Option SessionEnd → S → Option (List Came) → Option (List ℕ) → Type 0) (leave : S → S → Type 0) (a : About L) where
-  pub round_none : (places : List (Seat S L)) → Round turn leave a [] places places
-  round_none places = (refl, λ k d low. refl)
-
   pub round_past : (numbers : List ℕ) (i n : ℕ) (places mid : List (Seat S L)) → i < length numbers → slice_index_or numbers i 0 ≡ n → length mid ≤ n
       → Round turn leave a (take i numbers) places mid → Round turn leave a (take (i + 1) numbers) places mid
   round_past numbers i n places mid low is past so =
@@ -65,7 +62,3 @@ pub named_more : (old mid new : Option (List ℕ)) (numbers more : List ℕ) →
     → new ≡ option_map (λ told. told ++ (numbers ++ more)) old
 named_more None mid new numbers more e f = f ∙ ap (option_map (λ told. told ++ more)) e
 named_more (Some told) mid new numbers more e f = f ∙ (ap (option_map (λ l. l ++ more)) e ∙ ap Some (append_assoc told numbers more))
-
-pub named_none : (o : Option (List ℕ)) → o ≡ option_map (λ told. told ++ []) o
-named_none None = refl
-named_none (Some told) = ap Some (sym (append-nil told))

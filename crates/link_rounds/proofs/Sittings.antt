@@ -1,27 +1,17 @@
 -- A link's turns so far, and its whole session.
-use Rattle.std.proofs.Common.{◌≡◌, ℕ, List, [], ◌∷◌, length, Option, Some, None, refl, subst, subst₂, sym, ◌∙◌, arith, inl, inr}
-use Rattle.std.specs.Prelude.{IsSome, IfSome, is_some, true, false, suc, unwrap_or}
+use Rattle.std.proofs.Common.{◌≡◌, ℕ, List, [], ◌∷◌, length, Option, Some, None, refl, subst, subst₂, sym, ◌∙◌, arith}
+use Rattle.std.specs.Prelude.{IsSome, IfSome, is_some, false, suc, unwrap_or}
 use Rattle.board_links.specs.Doors.{IsNew, Shows}
 use Rattle.board_links.specs.Pieces.{told_bytes}
 use Rattle.board_links.specs.declared.link.Came.{Came}
 use Rattle.board_links.specs.declared.link.SessionEnd.{SessionEnd}
 use Rattle.board_links.specs.declared.link.SessionEnd.TheVariants as end
-use Rattle.board_links.specs.declared.link.Stage.{Stage}
-use Rattle.link_rounds.specs.Ends.{ByeSent, ShowsEnd}
-use Rattle.link_rounds.specs.Places.{About, SitsWith, StepOf, seat}
-use Rattle.link_rounds.specs.Places.{Turns as TurnsAt}
+use Rattle.link_rounds.specs.Places.{About, SitsWith}
 use Rattle.link_rounds.specs.Turns.{Runs, Session, Takes, told_answers}
 
 some_told : {A : Type 0} (o : Option A) (d : A) → IsSome o → o ≡ Some (unwrap_or o d)
 some_told None d is = absurd (cc)
 some_told (Some x) d is = refl
-
-pub shows_link : (why : SessionEnd) (old new : ℕ) (at : Stage) (sent : Option (List ℕ)) → ShowsEnd old new at (Some why) → ByeSent (Some why) sent → Shows why at new sent
-shows_link end.Ended old new at sent is bye = is.0
-shows_link end.LinkFault old new at sent is bye = λ none. absurd (omega (arith, is, none))
-shows_link end.TooLong old new at sent is bye = is.0
-shows_link (end.Bye b) old new at sent is bye = bye
-shows_link end.NoMemory old new at sent is bye = tt
 
 module _ {S : Type 0} (turn : S → List Came → List ℕ → Option SessionEnd → S → Option (List Came) → Option (List ℕ) → Type 0) (leave : S → S → Type 0) (rests : S → Type 0) where
   -- what Since says of what a link tells
@@ -109,16 +99,3 @@ module _ {S L : Type 0} (turn : S → List Came → List ℕ → Option SessionE
   shows_later s at end link m why is over sits st fs an se =
       let e = ended s at end link why is over sits in
       (e.0, rw (st, fs, se) e.1, rw (an, se) e.2)
-
-module _ {S L : Type 0} (turn : S → List Came → List ℕ → Option SessionEnd → S → Option (List Came) → Option (List ℕ) → Type 0) (leave : S → S → Type 0) (a : About L) where
-  -- the link was clear once it was asked, and the session had its turn
-  pub took : (s t : S) (at : Option L) (end : Option SessionEnd) (link asked m : L) (why : Option SessionEnd) → at ≡ Some link → is_some end ≡ false → a.clear asked ≡ true
-      → a.answers asked ≡ a.answers link → a.sent asked ≡ a.sent link → a.is_bot m ≡ a.is_bot link → TurnsAt turn leave a s asked (seat t (Some m) why) m → StepOf turn leave a s at end (seat t (Some m) why)
-  took s t at end link asked m why is unended clear heard bytes sort turns =
-      subst₂ (λ x e. StepOf turn leave a s x e (seat t (Some m) why)) (sym is) (sym (none_is end unended)) (m, refl, sort, inr (asked, clear, heard, bytes, turns))
-
-  -- the link kept something back still
-  pub waited : (s : S) (at : Option L) (end : Option SessionEnd) (link later : L) → at ≡ Some link → is_some end ≡ false → a.clear later ≡ false
-      → a.answers later ≡ a.answers link → a.sent later ≡ a.sent link → a.is_bot later ≡ a.is_bot link → StepOf turn leave a s at end (seat s (Some later) end)
-  waited s at end link later is unended clear heard bytes sort =
-      subst₂ (λ x e. StepOf turn leave a s x e (seat s (Some later) e)) (sym is) (sym (none_is end unended)) (later, refl, sort, inl (refl, refl, clear, heard, bytes))

@@ -11,15 +11,12 @@ use Rattle.room_history.specs.Held.{attachment_take_reply, attachment_with}
 use Rattle.room_history.specs.Outbox.{Attachment}
 use Rattle.room_history.specs.Piece.{Mark}
 use Rattle.match_master.specs.declared.attachments.Attached.{Attached}
-use Rattle.match_master.specs.Attached.{Becomes, Lines, all_held, all_ready, all_told, emptied_of, has_end, held_of, open_viewer, own_told, ready_of, sent, staged, taken_reply, told, told_at, viewer_if}
+use Rattle.match_master.specs.Attached.{Becomes, Lines, all_held, all_ready, all_told, emptied_of, has_end, held_of, own_told, ready_of, sent, staged, taken_reply, told, told_at}
 use Rattle.match_master.specs.Outgoing.{with_line}
 use Rattle.match_master.specs.Places.{at_place, up_to_place}
 
 some_is : {V : Type 0} (v w : V) → Some v ≡ Some w → v ≡ w
 some_is v w h = cc
-
-none_is : {V : Type 0} (v : V) → None ≡ Some v → ⊥
-none_is v h = cc
 
 eqb_is : (p q : ℕ) → nat_eq p q ≡ true → p ≡ q
 eqb_is p q h = grind (arith, nat_tests)
@@ -81,12 +78,6 @@ made_at {V} es p q f = by (nat_eq p q) refl
     by false h = refl
 
 -- ---- a write at one place
-
--- where a place holds a value, that is what the map has there
-pub entry_at : {V : Type 0} (es : List (ℕ × V)) (i : ℕ) (v : V) → slice_get (values_of es) i ≡ Some v → (k : ℕ) × (slice_get es i ≡ Some (k, v))
-entry_at [] i v h = absurd (none_is v h)
-entry_at (x ∷ es) zero v h = (x.0, ap (λ u. Some (x.0, u)) (some_is x.1 v h))
-entry_at (x ∷ es) (suc i) v h = entry_at es i v h
 
 pub set_is : {V : Type 0} (es : List (ℕ × V)) (i : ℕ) (v w : V) (f : ℕ × V → ℕ × V) → slice_get (values_of es) i ≡ Some v → ((k : ℕ) → slice_get es i ≡ Some (k, v) → f (k, v) ≡ (k, w)) → set_value_at es i w ≡ at_place i f es
 set_is [] i v w f h e = refl
@@ -200,10 +191,6 @@ told_own es pass i line v w found at same =
 
 pub told_nobody : (es : List (ℕ × Attached)) (pass : ℕ) (line : List ℕ) → lookup (nat_eq pass) es ≡ None → all_held es ≡ own_told pass line (all_held es)
 told_nobody es pass line none = sym (ap (λ o. told_at pass line o (all_held es)) (nobody es pass none))
-
--- who looks by a pass that goes on
-pub viewer_found : (es : List (ℕ × Attached)) (pass : ℕ) (v : Attached) → lookup (nat_eq pass) es ≡ Some v → open_viewer (lookup (nat_eq pass) (all_held es)) ≡ viewer_if ((v.outbox).now).end v.viewer
-viewer_found es pass v found = ap open_viewer (lookup_held es pass ∙ ap (option_map held_of) found)
 
 -- ---- all are told
 

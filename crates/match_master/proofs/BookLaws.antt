@@ -141,10 +141,6 @@ module _ {X G : Type 0} (rules : X → Rules G) where
   let_in_to None None = Err answer.NoMatch
   let_in_to (Some m) None = Ok m
 
-  place_of : (st : Option (Match X G)) → place_in (option_map (running_of rules) st) ≡ option_map (λ (m : Match X G). (m.serial, m.roster)) st
-  place_of None = refl
-  place_of (Some m) = refl
-
   ended_or_not : (st : Option (Match X G)) (end : Option Bye) (serial : ℕ) (viewer : Viewer) → attached_match st (state_by end) serial viewer ≡ Err answer.AlreadyAttached
   ended_or_not st None serial viewer = refl
   ended_or_not st (Some why) serial viewer = refl

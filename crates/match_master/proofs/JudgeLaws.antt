@@ -175,11 +175,3 @@ module _ {X G : Type 0} (rules : X → Rules G) (room : ℕ) where
       → act_of (rules k.game).sheet s.asked ≡ Some act → coming.action ≡ record { seat = seat; act = act } → IsReady (rules k.game) k.state coming
       → entry ≡ entry_at k.state coming.table.place (record { seat = seat; act = act }) → public_reason rules room m viewer s ≡ None → IsAccepted rules room m viewer s coming entry) e
       (λ viewer s seat act coming entry. accepted_is m viewer s seat act coming entry)
-
-  -- the game's refusal, of what is kept of the match
-  pub refused_at : (m : Match X G) (running : RunningMatch X G) → running_of rules m ≡ running → (viewer : Viewer) (s : Submission) (seat : ℕ) (act : Act) (r : GameRule) → seat_of viewer ≡ Some seat
-      → act_of (rules running.game).sheet s.asked ≡ Some act → answer_on (rules running.game) running.state seat act ≡ Some r → public_reason rules room m viewer s ≡ None → first_reason rules room m viewer s ≡ Some (reason_of r)
-  refused_at m running e =
-      subst (λ (k : RunningMatch X G). (viewer : Viewer) (s : Submission) (seat : ℕ) (act : Act) (r : GameRule) → seat_of viewer ≡ Some seat
-      → act_of (rules k.game).sheet s.asked ≡ Some act → answer_on (rules k.game) k.state seat act ≡ Some r → public_reason rules room m viewer s ≡ None → first_reason rules room m viewer s ≡ Some (reason_of r)) e
-      (λ viewer s seat act r p q h n. game_is m viewer s seat act (Some r) p q h n)

@@ -1,5 +1,5 @@
 -- A Book that stands for a history and goes by what is held answers the reply to the next entry, and then stands for the history with it.
-use Rattle.std.proofs.Common.{◌≡◌, ◌==◌, ℕ, List, [], ◌∷◌, Bool, true, false, if◌then◌else◌, nat_eq, MatchBool, Option, Some, None, option_map, Result, Ok, Err, refl, sym, ap, ◌∙◌, subst}
+use Rattle.std.proofs.Common.{◌≡◌, ◌==◌, ℕ, List, [], ◌∷◌, Bool, true, false, if◌then◌else◌, nat_eq, MatchBool, Some, None, option_map, Result, Ok, Err, refl, sym, ap, ◌∙◌, subst}
 use Rattle.std.proofs.lemmas.Bool.{true≢false}
 use Rattle.std.specs.Map.{lookup}
 use Rattle.game_trait.specs.Rules.{Rules}
@@ -170,14 +170,6 @@ module _ {X G : Type 0} (rules : X → Rules G) where
       by : (b : Bool) → is_starved result ≡ b → MatchBool b (new ≡ held) (Answers rules held (standing rules held.room h) pass call result new) → Done held new h pass call result b
       by true e d = (starved_is result e ∙ sym (starved_reply held.room h pass call), subst (λ x. StandsFor rules x (entry pass call true ∷ h)) (sym d) (wanted held h s pass call))
       by false e d = (heard_reply held h s pass call result new d, heard held h s pass call result new d)
-
-  -- the room that a book is in
-  pub same_room : (held new : Held X G) (st : Option (Match X G)) (pass : ℕ) (call : RoomCall X) (result : RoomReply) → GoesBy rules held st pass call result new → new.room ≡ held.room
-  same_room held new st pass call result = by (is_starved result)
-    where
-      by : (b : Bool) → MatchBool b (new ≡ held) (Answers rules held st pass call result new) → new.room ≡ held.room
-      by true d = ap (λ x. x.room) d
-      by false d = d.room
 
 -- the seat that a pass looks from is found from what is held
 pub seat_found : (l : List Session) → option_map seat_of (open_viewer (attachment_of l)) ≡ latest_seat l

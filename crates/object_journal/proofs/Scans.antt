@@ -6,10 +6,10 @@ use Rattle.room_object.specs.Entry.{Entry}
 use Rattle.record_file.specs.Records.{open_records, record_bytes}
 use Rattle.record_file.proofs.Frames.{record-push, split_length}
 use Rattle.record_file.specs.Damage.{AllFollow, IsDamaged}
-use Rattle.record_file.specs.Gates.{IsGate, IsShut}
+use Rattle.record_file.specs.Gates.{IsGate}
 use Rattle.record_file.specs.declared.gates.Gate.TheVariants.{Record, Broken}
 use Rattle.record_file.proofs.One.{same_record}
-use Rattle.object_journal.specs.Replaying.{Came, HasMade}
+use Rattle.object_journal.specs.Replaying.{HasMade}
 
 module _ (may_follow : List (List ℕ) → List ℕ → Bool) where
   pub follow_more : (before records : List (List ℕ)) (payload : List ℕ) → AllFollow may_follow before records → may_follow (before ++ records) payload ≡ true → AllFollow may_follow before (records ++ payload ∷ [])
@@ -25,26 +25,7 @@ module _ (may_follow : List (List ℕ) → List ℕ → Bool) where
     pub place : at ≡ length (open_records (records h))
     pub follow : AllFollow may_follow [] (records h)
 
-  pub at_first : {O C : Type 0} (stands_for has_come : O → List (Entry C) → Type 0) (records : List (Entry C) → List (List ℕ)) (object : O) (file : List ℕ) → records [] ≡ [] → stands_for object [] → has_come object [] → Scanned stands_for has_come records object file 0
-  at_first stands_for has_come records object file none stands fresh = record {
-    h = [];
-    stands = stands;
-    came = fresh;
-    split = sym (ap (λ (r : List (List ℕ)). open_records r ++ file) none);
-    place = sym (ap (λ (r : List (List ℕ)). length (open_records r)) none);
-    follow = subst (λ (r : List (List ℕ)). AllFollow may_follow [] r) (sym none) tt;
-  }
-
   module _ {O C : Type 0} (stands_for has_come : O → List (Entry C) → Type 0) (records : List (Entry C) → List (List ℕ)) (object : O) (file : List ℕ) (at : ℕ) (s : Scanned stands_for has_come records object file at) where
-    pub reached : IsShut (drop at file) → Came stands_for has_come records may_follow object file at s.h
-    reached shut = record {
-      stands = s.stands;
-      came = s.came;
-      ends = record { gate = shut.gate; rest = shut.rest; shut = shut.shut; split = s.split ∙ ap (λ (l : List ℕ). open_records (records s.h) ++ l) shut.split };
-      place = s.place;
-      follow = s.follow;
-    }
-
     pub cut_short : IsGate Broken (drop at file) → IsDamaged may_follow file at
     cut_short broken = record {
       records = records s.h;

@@ -26,10 +26,6 @@ tested : {G : Type 0} (test : Bool) (made : Deed G Barred) → test ≡ true →
 tested true made is quiet = quiet
 tested false made is quiet = absurd (false≢true is)
 
-offers_all : (P : ℕ × List Arg → Type 0) (id : ℕ) (arguments : List Arg) → AllByRecursion (λ argument. P (id, argument ∷ [])) arguments → AllByRecursion P (offers id arguments)
-offers_all P id [] all = tt
-offers_all P id (argument ∷ arguments) all = (all.0, offers_all P id arguments all.1)
-
 -- ---- sealed items
 
 sealed_low : {A : Type 0} (players : List (Option (Sealed A))) (seat : ℕ) → may_seal (slice_get players seat) ≡ true → seat < length players

@@ -33,12 +33,6 @@ module _ {A : Type 0} (old new : Sits) (line before after : List ℕ) where
   began_line (Err BadLine) form e b s stands = (e ∙ b.0, b.1 ∙ stands)
   began_line (Err NoMemory) form e b s stands = tt
 
--- what a beginning comes to, by what `ended` answers
-pub began : {A E : Type 0} (told : Result A E) (form : Option PageStep) (step : PageStep) (old new : Sits) (before after : List ℕ) → form ≡ Some step
-    → OnOk told (Ran step old new before after) → BeganBy form (ended_by told) old new before after
-began (Ok x) form step old new before after e d = (step, e, d)
-began (Err x) form step old new before after e d = tt
-
 -- a page on which no line has begun
 pub stands_first : (page : Sits) → page ≡ None → page_doing.Stands page None
 unfolding page_doing

@@ -1,7 +1,6 @@
 -- Runs of calls one after the other, and files of at most one byte.
-use Rattle.std.proofs.Common.{◌≡◌, inl, inr, ⊎_elim, ◌≤◌, ℕ, ◌+◌, List, [], ◌∷◌, ◌++◌, length, take, drop, refl, ◌∙◌, ap, arith, length-append}
-use Rattle.std.proofs.lemmas.List.{drop_all}
-use Rattle.room_disk.specs.Disk.{Follows, LeavesOnly, Only, Torn}
+use Rattle.std.proofs.Common.{◌≡◌, inl, inr, ⊎_elim, ◌≤◌, ℕ, List, [], ◌∷◌, ◌++◌, length, refl, ap, arith, length-append}
+use Rattle.room_disk.specs.Disk.{LeavesOnly}
 use Rattle.std.specs.Int.{to_le_bytes, w32}
 use Rattle.record_file.specs.Records.{HasRecords, open_records, record_bytes}
 use Rattle.record_file.specs.Ready.{IsFew}
@@ -34,11 +33,3 @@ few_none (p ∷ records) g r few = absurd (omega (
 pub few_keep : (file c : List ℕ) (records : List (List ℕ)) → length file ≤ 1 → HasRecords file records → IsFew c → HasRecords c records
 few_keep file c records few (inl none) short = inl (short, none.1)
 few_keep file c records few (inr ends) short = inl (short, few_none records ends.gate ends.rest (omega (arith, few, ap length ends.split)))
-
-pub few_crash : (file : List ℕ) (old new : List ℕ → Type 0) → length file ≤ 1 → Only file old → Follows (Torn 0 1) old new → (c : List ℕ) → new c → IsFew c
-few_crash file old new few only follows c left =
-    let from = follows c left in
-    omega (arith, few, ap length (only from.0 from.1), from.2.no_longer)
-
-pub few_written : (file new : List ℕ) → length file ≤ 1 → new ≡ take 0 file ++ (0 ∷ []) ++ drop (0 + 1) file → new ≡ 0 ∷ []
-few_written file new few is = is ∙ ap (λ (l : List ℕ). 0 ∷ l) (drop_all (0 + 1) file few)

@@ -4,4 +4,3 @@ pub mod Frames
 pub mod FrontOf
 pub mod Moments
 pub mod One
-pub mod Wholes

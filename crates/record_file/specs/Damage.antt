@@ -1,6 +1,6 @@
 -- When a file of records is sound, and where it is damaged, by which payloads may follow which.
 use Rattle.std.specs.Prelude.{◌≡◌, ℕ, List, [], ◌∷◌, ◌++◌, length, Bool, true}
-use Rattle.record_file.specs.Records.{HasRecords, open_records}
+use Rattle.record_file.specs.Records.{open_records}
 use Rattle.record_file.specs.Gates.{HasWhole}
 
 module _ (may_follow : List (List ℕ) → List ℕ → Bool) where
@@ -8,10 +8,6 @@ module _ (may_follow : List (List ℕ) → List ℕ → Bool) where
   abbrev pub AllFollow : List (List ℕ) → List (List ℕ) → Type 0
   AllFollow before [] = Unit {0}
   AllFollow before (payload ∷ records) = (may_follow before payload ≡ true) × AllFollow (before ++ payload ∷ []) records
-
-  pub record IsSound (file : List ℕ) (records : List (List ℕ)) : Type 0 where
-    pub has : HasRecords file records
-    pub follow : AllFollow [] records
 
   -- The file has sound records up to an open gate at this place, and what stands behind it isn't a whole record that may follow them,
   -- together with its next gate.

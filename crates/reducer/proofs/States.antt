@@ -34,11 +34,6 @@ one_longer {xs = xs} {ys = ys} {x = x} e =
     let same : length ys ≡ length (x ∷ xs) = ap length e in
     omega arith
 
-pub one_shorter : {A : Type 0} {xs ys : List A} {x : A} → xs ≡ x ∷ ys → length ys ≤ length xs + 1
-one_shorter {xs = xs} {ys = ys} {x = x} e =
-    let same : length xs ≡ length (x ∷ ys) = ap length e in
-    omega arith
-
 kept_same : {G : Type 0} {first first' now now' : Checkpoint G} {done undone : List Accepted} {past past' ahead ahead' : List (Checkpoint G)} → first ≡ first' → now ≡ now' → past ≡ past' → ahead ≡ ahead'
     → let t : Kept (Checkpoint G) Accepted = record { first = first; done = done; undone = undone; now = now; past = past; ahead = ahead } in
     let u : Kept (Checkpoint G) Accepted = record { first = first'; done = done; undone = undone; now = now'; past = past'; ahead = ahead' } in t ≡ u

@@ -7,7 +7,7 @@ use Rattle.game_sheet.specs.declared.memory.NoMemory.{NoMemory as Starved}
 use Rattle.game_sheet.specs.declared.refusal.GameNo.{GameNo}
 use Rattle.game_sheet.specs.declared.refusal.GameNo.TheVariants.{Broken, NoMemory}
 use Rattle.game_sheet.specs.declared.refusal.GameRule.{GameRule}
-use Rattle.game_sheet.specs.declared.refusal.GameRule.TheVariants.{NotYours, NothingToUndo}
+use Rattle.game_sheet.specs.declared.refusal.GameRule.TheVariants.{NotYours}
 use Rattle.game_sheet.specs.declared.ids.TheConstants.{MOST_ACTIONS}
 use Rattle.game_trait.specs.InSheet.{ActInSheet}
 use Rattle.game_trait.specs.Rules.{Rules}
@@ -32,7 +32,7 @@ use Rattle.reducer.specs.Walk.{Fits, reached_at, walked, checkpoint}
 use Rattle.reducer.specs.declared.checkpoint.Checkpoint.{Checkpoint}
 use Rattle.reducer.proofs.Seats.{may_is_seat}
 use Rattle.reducer.proofs.States.{IsWalk, Opened, stands_after, trail_held}
-use Rattle.reducer.proofs.Walks.{came_last, folds, leads_first, none_came, walks_on}
+use Rattle.reducer.proofs.Walks.{came_last, folds, leads_first, walks_on}
 
 deed_call : (act : Act) (a : Accepted) → IsDeed act → called act a ≡ advance a
 deed_call (Move id args) a d = refl
@@ -136,12 +136,6 @@ module _ {G : Type 0} (rules : Rules G) where
         leads_on = λ d. absurd d;
       } in
       shown_as number t s seat Undo p told o.shown (sym e) refl ready
-
-  pub nothing_done : (number : ℕ) (t : Kept (Checkpoint G) Accepted) (s : Standing G) (seat : ℕ) → Opened rules number t s → None ≡ slice_get t.past 0 → answer_on rules s seat Undo ≡ Some NothingToUndo
-  nothing_done number t s seat o n =
-      let trail : IsWalk rules t = walk number t s o in
-      ap (λ (x : Standing G). answer_on rules x seat Undo) (sym o.shown)
-      ∙ ap (λ (done : List Accepted). undo_answer rules (standing_at number t).first (standing_at number t).table done seat) (none_came rules t.first t.done t.past trail.came_by n)
 
   pub redo_prepared : (number : ℕ) (t : Kept (Checkpoint G) Accepted) (s : Standing G) (after : Checkpoint G) (seat : ℕ) (next : Accepted) (p : Coming G) → Opened rules number t s → s.number < MOST_ACTIONS → may s.table.ctx seat ≡ true
       → Some next ≡ slice_get t.undone 0 → Some after ≡ slice_get t.ahead 0 → nat_eq next.seat seat ≡ true

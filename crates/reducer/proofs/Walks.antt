@@ -37,16 +37,6 @@ module _ {G : Type 0} (rules : Rules G) where
   unfolding walked
   leads w a next e = leads_by (nat_lt w.count MOST_ACTIONS && nat_lt a.seat w.table.ctx.seats) w a (once rules (reached_at w) a.seat a.act) next refl e
 
-  no_way : (b : Bool) (count : ℕ) (r : Result (Reached G) GameRule) (next : Reached G) → b ≡ true → r ≡ Ok next → (if b then next_checkpoint count r else None) ≡ None → ⊥
-  no_way true count (Ok r) next t is e = cc
-  no_way true count (Err rule) next t is e = cc
-  no_way false count r next t is e = cc
-
-  -- an accepted action of a seat of the match leads on, while there is room
-  pub goes_on : (w : Checkpoint G) (a : Accepted) (next : Reached G) → (nat_lt w.count MOST_ACTIONS && nat_lt a.seat w.table.ctx.seats) ≡ true → once rules (reached_at w) a.seat a.act ≡ Ok next → walked rules w a ≡ None → ⊥
-  unfolding walked
-  goes_on w a next t is e = no_way (nat_lt w.count MOST_ACTIONS && nat_lt a.seat w.table.ctx.seats) (w.count + 1) (once rules (reached_at w) a.seat a.act) next t is e
-
   pub counts : (first : Checkpoint G) (done : List Accepted) (now : Checkpoint G) → fold (walked rules) first done ≡ Some now → now.count ≡ first.count + length done
   counts first [] now e =
       let same : first.count ≡ now.count = ap (λ (w : Checkpoint G). w.count) (one_state first now e) in
@@ -141,14 +131,3 @@ module _ {G : Type 0} (rules : Rules G) where
     where
       one_of : {A : Type 0} {a b : A} → Some a ≡ Some b → a ≡ b
       one_of e = cc
-
-  -- where nothing is kept, nothing is done or undone
-  pub none_came : (first : Checkpoint G) (done : List Accepted) (past : List (Checkpoint G)) → CameBy (walked rules) first done past → None ≡ slice_get past 0 → done ≡ []
-  none_came first [] past h n = refl
-  none_came first (a ∷ done) [] h n = absurd h
-  none_came first (a ∷ done) (w ∷ past) h n = absurd (cc)
-
-  pub none_leads : (now : Checkpoint G) (undone : List Accepted) (ahead : List (Checkpoint G)) → LeadsTo (walked rules) now undone ahead → None ≡ slice_get ahead 0 → undone ≡ []
-  none_leads now [] ahead h n = refl
-  none_leads now (a ∷ undone) [] h n = absurd h
-  none_leads now (a ∷ undone) (w ∷ ahead) h n = absurd (cc)

@@ -25,9 +25,6 @@ some_session s t h = cc
 pub none_session : (s : Session) → None ≡ Some s → ⊥
 none_session s h = cc
 
-pub not_itself : (n : ℕ) → n < n → ⊥
-not_itself n h = omega (arith, h)
-
 among_by : (b : Bool) (j : ℕ) (t : Session) (before : List Session) (s : Session) → (session_in j before ≡ Some s → Among s before) → (if b then Some t else session_in j before) ≡ Some s → Among s (t ∷ before)
 among_by true j t before s ih e = inl (sym (some_session t s e))
 among_by false j t before s ih e = inr (ih e)

@@ -57,19 +57,3 @@ same_state s t a = rw (same_streams s t a.see a.own, a.own) refl
 
 pub alike_takes : (s t : Session) → AreAlike s t → take_reply s ≡ take_reply t
 alike_takes s t a = rw (same_streams s t a.see a.own, a.own) refl
-
-module _ {X G Y H : Type 0} (rules : X → Rules G) (others : Y → Rules H) where
-  -- alike sessions to whose submission the games say the same are answered the same
-  pub alike_answered : (room : ℕ) (st : Option (Match X G)) (c : Session) (before : List Session) → Head rules room st c before
-      → (other_room : ℕ) (su : Option (Match Y H)) (d : Session) (earlier : List Session) → Head others other_room su d earlier
-      → AreAlike c d → (sub : Submission) → game_answer rules room st (session_state c) c.viewer sub ≡ game_answer others other_room su (session_state d) d.viewer sub
-      → submit_reply (fate_in rules room st (session_state c) c.viewer sub) ≡ submit_reply (fate_in others other_room su (session_state d) d.viewer sub)
-  alike_answered room st c before k other_room su d earlier l a sub e =
-      submission_answered rules room st c before k sub
-      ∙ ap (λ answer. verdict_in (session_state c) (number_in c.sight) (public_reason_on c.name c.sheet c.viewer (present_snapshot c) sub) answer) e
-      ∙ rest
-      ∙ sym (submission_answered others other_room su d earlier l sub)
-    where
-      rest : verdict_in (session_state c) (number_in c.sight) (public_reason_on c.name c.sheet c.viewer (present_snapshot c) sub) (game_answer others other_room su (session_state d) d.viewer sub)
-          ≡ verdict_in (session_state d) (number_in d.sight) (public_reason_on d.name d.sheet d.viewer (present_snapshot d) sub) (game_answer others other_room su (session_state d) d.viewer sub)
-      rest = rw (same_state c d a, a.see.name, a.see.sheet, a.see.viewer, a.see.protocol, a.see.sight) refl

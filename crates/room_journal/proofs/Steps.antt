@@ -37,9 +37,6 @@ none_some a e = absurd (cc)
 pub true_false : {P : Type 0} → true ≡ false → P
 true_false e = absurd (cc)
 
-err_ok : {A E : Type 0} {P : Type 0} (e : E) (a : A) → Err e ≡ Ok a → P
-err_ok e a is = absurd (cc)
-
 -- ---- keys
 
 map_set : (l : Seats) (i : ℕ) (a : Option Player) → map key_at (slice_set l i a) ≡ slice_set (map key_at l) i (key_at a)

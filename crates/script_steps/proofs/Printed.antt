@@ -50,12 +50,6 @@ cut_whole bytes f some = cut_at bytes (length bytes) (found_nowhere bytes f) som
 
 -- ---- lines one after another
 
--- one line more, where the lines that are left begin with it
-pub one_more : (pass : ℕ) (start text whole line rest more : List ℕ) → lines rest ≡ line ∷ lines more → text ++ all_to_session pass rest ≡ whole
-    → (text ++ to_session pass line) ++ all_to_session pass more ≡ whole
-one_more pass start text whole line rest more e so_far =
-    append_assoc text (to_session pass line) (all_to_session pass more) ∙ ap (λ ls. text ++ flat_map (to_session pass) ls) (sym e) ∙ so_far
-
 -- one line more, by its place
 pub line_more : (pass : ℕ) (ls : List (List ℕ)) (place : ℕ) (line : List ℕ) → slice_get ls place ≡ Some line
     → flat_map (to_session pass) (take place ls) ++ to_session pass line ≡ flat_map (to_session pass) (take (place + 1) ls)

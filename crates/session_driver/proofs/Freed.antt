@@ -1,5 +1,5 @@
 -- A Take or a Detach, by whether the session is attached and what it is replied.
-use Rattle.std.proofs.Common.{◌≡◌, ℕ, true, false, if◌then◌else◌, Some, None, refl, sym, ap, ◌∙◌, subst}
+use Rattle.std.proofs.Common.{◌≡◌, ℕ, true, false, if◌then◌else◌, Some, refl, sym, ap, ◌∙◌, subst}
 use Rattle.any_game.specs.GameKind.{GameKind}
 use Rattle.game_hall.specs.Core.{Core, released}
 use Rattle.room_history.specs.Presence.{attached_after}
@@ -16,9 +16,6 @@ pub freed_goes : (made : RoomCall GameKind) (told : RoomReply) (core d : Core Ga
 freed_goes made told core d e is = is ∙ sym (ap (λ b. if b then core else released core) e)
 
 module _ {S : Type 0} (calls : S → ℕ → Did → S → Type 0) where
-  pub none_freed : (made : RoomCall GameKind) (s : Side S) → s.core.at ≡ None → Frees calls made s None s
-  none_freed made s at = subst (λ o. FreesAt calls made o s None s) (sym at) (refl, refl)
-
   pub one_freed : (made : RoomCall GameKind) (s : Side S) (room : ℕ) (told : RoomReply) (after : S) (d : Core GameKind) → Some room ≡ s.core.at
       → (pass : ℕ) → pass ≡ s.core.pass → calls s.rooms pass (did room made told) after → d ≡ freed_by made told s.core → Frees calls made s (Some told) (side after d)
   one_freed made s room told after d at pass is_pass called is =

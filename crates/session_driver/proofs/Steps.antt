@@ -1,15 +1,13 @@
 -- What a core hears by what its calls answer, and that each reply leaves a request fewer calls.
-use Rattle.std.proofs.Common.{◌≡◌, ◌≤◌, ◌<◌, ◌-◌, ℕ, suc, ◌+◌, Bool, true, false, if◌then◌else◌, List, ◌∷◌, length, Option, Some, None, Result, Ok, Err, inl, inr, refl, sym, ap, subst, ◌∙◌, arith}
-use Rattle.std.specs.Prelude.{IsSome, IfSome, OnOk, OnErr, nat_lt}
+use Rattle.std.proofs.Common.{◌≡◌, ◌≤◌, ◌<◌, ◌-◌, ℕ, suc, ◌+◌, Bool, true, false, if◌then◌else◌, List, ◌∷◌, length, Option, Some, None, inl, inr, refl, sym, ap, subst, ◌∙◌, arith}
+use Rattle.std.specs.Prelude.{nat_lt}
 use Rattle.std.proofs.lemmas.Bool.Decides.{nat_tests}
 use Rattle.any_game.specs.AnyRules.{named}
 use Rattle.any_game.specs.GameKind.{GameKind}
-use Rattle.dice_words.specs.Strip.{Strip}
 use Rattle.game_hall.specs.Bench.{bench_after, or_bench}
-use Rattle.game_hall.specs.Core.{Core, IsSettled, answered, asked, heard, moved, replied, starved}
-use Rattle.game_hall.specs.Kept.{MayWantMemory}
+use Rattle.game_hall.specs.Core.{Core, IsSettled, asked, moved, replied, starved}
 use Rattle.game_hall.specs.Requests.{hears, is_attached, is_busy, is_judged, is_starved, lists, makes, next, tries, with_row}
-use Rattle.game_hall.specs.Words.{drawn, next_action, seed_left_by, words_drawn_by}
+use Rattle.game_hall.specs.Words.{next_action}
 use Rattle.game_hall.specs.declared.answer.Answer.{Answer}
 use Rattle.game_hall.specs.declared.next.Next.{Next}
 use Rattle.game_hall.specs.declared.next.Next.TheVariants.{Calls, Says, Attaches, Silent}
@@ -21,30 +19,9 @@ use Rattle.wire_json.specs.ClientReading.{client_read}
 use Rattle.game_hall.specs.Counts.{accepts, refuses}
 use Rattle.session_driver.specs.Counts.{counted}
 use Rattle.session_driver.specs.Calls.{Did, did}
-use Rattle.session_driver.specs.Hearing.{Draws, HearsLine, HearsReply, MakesCounted, Side, draws, side}
+use Rattle.session_driver.specs.Hearing.{Draws, HearsLine, HearsReply, MakesCounted, Side, side}
 use Rattle.session_driver.specs.declared.tally.Tally.{Tally}
 use Rattle.session_driver.specs.Left.{left}
-
--- ---- what a core hears
-
-wanted_by : (request : Option Request) (r : RoomReply) → IsSome request → IfSome request (λ q. MayWantMemory q r) → (q : Request) × (request ≡ Some q) × MayWantMemory q r
-wanted_by None r some h = absurd (cc)
-wanted_by (Some q) r some h = (q, refl, h)
-
-pub reply_either : {A E : Type 0} (result : Result A E) (c : Core GameKind) (r : RoomReply) (new : Core GameKind) → IsSome c.request
-    → OnOk result (new ≡ answered named c r) → OnErr result (new ≡ starved c None) → OnErr result (IfSome c.request (λ q. MayWantMemory q r)) → HearsReply c r new
-reply_either (Ok x) c r new some ok err wanted = inl ok
-reply_either (Err e) c r new some ok err wanted = inr (err, wanted_by c.request r some wanted)
-
-drew : (a b : Strip) (s t : Option (List ℕ)) → a ≡ b → s ≡ t → draws a s ≡ draws b t
-drew a b s t e f = ap (λ x. draws x s) e ∙ ap (λ x. draws b x) f
-
-pub line_either : {A E : Type 0} (result : Result A E) (line : List ℕ) (c : Core GameKind) (words : Strip) (seed : Option (List ℕ)) (new : Core GameKind) (rest : Strip) (ready : Option (List ℕ))
-    → OnOk result (new ≡ heard named c (client_read line) (next_action words).left seed) → OnOk result (rest ≡ drawn (words_drawn_by (client_read line) seed) (next_action words))
-    → OnOk result (ready ≡ seed_left_by (client_read line) seed)
-    → OnErr result (new ≡ starved c None) → OnErr result (rest ≡ next_action words) → OnErr result (ready ≡ seed) → HearsLine line c (draws words seed) new (draws rest ready)
-line_either (Ok x) line c words seed new rest ready ok took gone err kept same = inl (ok, drew _ _ _ _ took gone)
-line_either (Err e) line c words seed new rest ready ok took gone err kept same = inr (err, drew _ _ _ _ kept same)
 
 -- ---- each reply leaves fewer calls
 
@@ -92,18 +69,6 @@ next_left rooms (Renaming name seat) told = none_left 0
 next_left rooms (Leaving name seat) told = none_left 0
 next_left rooms (Syncing room) told = if_left rooms 1 (is_attached told) (Attaches room) (Says _) (λ _. none_left 0) (none_left 0)
 next_left rooms (Acting ticket) told = if_left rooms 1 (is_judged told) Silent (Says _) (λ _. none_left 0) (none_left 0)
-
--- at first a request may make as many calls as there are rooms, and one more
-pub first_left : (rooms : ℕ) (request : Option Request) → left rooms request ≤ rooms + 1
-first_left rooms None = omega arith
-first_left rooms (Some (Creating game seats seed room)) = omega arith
-first_left rooms (Some (Listing game rows room)) = omega arith
-first_left rooms (Some Looking) = omega arith
-first_left rooms (Some (Joining name seat key)) = omega arith
-first_left rooms (Some (Renaming name seat)) = omega arith
-first_left rooms (Some (Leaving name seat)) = omega arith
-first_left rooms (Some (Syncing room)) = omega arith
-first_left rooms (Some (Acting ticket)) = omega arith
 
 some_left : (rooms : ℕ) (request : Request) → 1 ≤ left rooms (Some request)
 some_left rooms (Creating game seats seed room) = omega arith
@@ -160,9 +125,6 @@ pub nears : (c : Core GameKind) (request : Request) (told : RoomReply) (d : Core
 nears c request told d open_one (inl e) = nears_next c request told d open_one (e ∙ ap (λ q. replied named c q told) open_one)
 nears c request told d open_one (inr e) = nears_starved c request d open_one e.0
 
-false_true : {A : Type 0} → false ≡ true → A
-false_true e = absurd (cc)
-
 none_some : {A B : Type 0} (x : A) → None ≡ Some x → B
 none_some x e = absurd (cc)
 
@@ -172,18 +134,6 @@ pub open_request : (wanted : Option (ℕ × RoomCall GameKind)) (open_one : Opti
 open_request None open_one said x e s = none_some x e
 open_request (Some y) None said x e s = absurd (cc (s.0))
 open_request (Some y) (Some request) said x e s = ((request, refl), s.1)
-
--- with no call left it has none, and its request is closed
-pub closed_by_left : (rooms : ℕ) (wanted : Option (ℕ × RoomCall GameKind)) (open_one : Option Request) (said : Option Answer) → IsSettled wanted open_one said → left rooms open_one ≡ 0 → (wanted ≡ None) × (open_one ≡ None)
-closed_by_left rooms None open_one said s e = (refl, s)
-closed_by_left rooms (Some y) None said s e = absurd (cc (s.0))
-closed_by_left rooms (Some y) (Some request) said s e =
-    let some = some_left rooms request in
-    absurd (omega (arith, some, e))
-
-pub closed_by_call : (wanted : Option (ℕ × RoomCall GameKind)) (open_one : Option Request) (said : Option Answer) → wanted ≡ None → IsSettled wanted open_one said → open_one ≡ None
-closed_by_call None open_one said e s = s
-closed_by_call (Some y) open_one said e s = absurd (cc)
 
 pub asked_none : (c : Core GameKind) → c.call ≡ None → asked c ≡ c
 asked_none c none = ap (λ k. record c { call = k }) (sym none)

@@ -7,11 +7,10 @@ use Rattle.any_game.specs.GameKind.{GameKind}
 use Rattle.any_game.specs.declared.any_g.AnyG.{AnyG}
 use Rattle.dice_words.specs.Strip.{live}
 use Rattle.game_hall.specs.Core.{Core, fresh}
-use Rattle.hall_history.specs.Hall.{new_hall}
 use Rattle.hall_history.specs.Rooms.{Rooms, history_of}
 use Rattle.hall_history.proofs.Rooming.{not_same, same_number}
 use Rattle.match_master.specs.Held.{Held, StandsFor}
-use Rattle.session_hall.specs.Held.{AreBooks, AreCores, IsBook, IsTape, tape_of}
+use Rattle.session_hall.specs.Held.{AreBooks, IsBook, IsTape, tape_of}
 use Rattle.session_hall.proofs.Books.{Books}
 
 abbrev pub new_rooms : ℕ → Rooms GameKind
@@ -71,12 +70,6 @@ push_core passes rooms cores c a is_new = record {
     by q d below false e =
         let before : q < passes = below_last q passes below (not_same passes q e) in
         get_or_append_left cores (c ∷ []) d q (subst (λ k. q < k) (sym a.count) before) ∙ a.each q d before
-
-pub all_there : (rooms : ℕ) (cores : List (Core GameKind)) → CoresTo 32 rooms cores → AreCores cores (new_hall rooms)
-all_there rooms cores a = record {
-  count = a.count;
-  each = λ pass d below. a.each pass d below ∙ ap (λ n. fresh pass n) (sym (length-replicate rooms []));
-}
 
 pub new_tape : (seed : List ℕ) → IsTape (tape_of seed) 0 (live seed 0 0)
 new_tape seed = record { live = refl; gives = λ at. refl; stands_at = refl }

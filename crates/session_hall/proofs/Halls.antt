@@ -48,15 +48,9 @@ use Rattle.session_hall.proofs.Tapes.{after_drawing, after_rewinding, next_words
 is_below : (m n : ℕ) → m < n → nat_lt m n ≡ true
 is_below m n l = grind (arith, nat_tests)
 
-is_not_below : (m n : ℕ) → n ≤ m → nat_lt m n ≡ false
-is_not_below m n l = grind (arith, nat_tests)
-
 not_starved : (b : Bool) → (b ≡ true → false ≡ true) → b ≡ false
 not_starved true h = sym (h refl)
 not_starved false h = refl
-
-true_false : true ≡ false → ⊥
-true_false e = cc
 
 -- a list that was put back whole
 pub refilled : {A : Type 0} (n : ℕ) (xs ys : List A) → length xs ≡ n → take n (xs ++ drop (length xs) ys) ≡ xs

@@ -70,9 +70,6 @@ module _ (pass : ℕ) where
 
 -- ---- one call of a request
 
-none_some : {A : Type 0} (x : A) → None ≡ Some x → ⊥
-none_some x e = cc
-
 same_memory : (made : RoomCall GameKind) → takes_memory made ≡ may_starve made
 same_memory (call.Create game seats seed) = refl
 same_memory (call.Join serial seat name key) = refl

@@ -198,7 +198,3 @@ numbers_next n m e =
     let up : m ≡ suc n = omega (arith, e) in
     let same : 0 + n ≡ n = omega arith in
     ap (numbers 0) up ∙ ap (λ k. numbers 0 n ++ k ∷ []) same
-
-pub as_many_numbers : (k n : ℕ) → length (numbers k n) ≡ n
-as_many_numbers k zero = refl
-as_many_numbers k (suc n) = let m = as_many_numbers k n in let l = length-append (numbers k n) ((k + n) ∷ []) in omega (arith, m, l)

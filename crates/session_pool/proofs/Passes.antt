@@ -1,5 +1,5 @@
 -- The number of passes that belong to the desks.
-use Rattle.std.proofs.Common.{◌≡◌, ◌<◌, ℕ, List, [], ◌∷◌, refl, length, arith, ap, slice_index_or}
+use Rattle.std.proofs.Common.{◌≡◌, ◌<◌, ℕ, List, [], ◌∷◌, length, arith, ap}
 use Rattle.room_desk.specs.History.{SetUp}
 use Rattle.session_pool.specs.Passes.{Belong, Pass, dealt_by, number_of, unseen}
 
@@ -9,7 +9,3 @@ number_is (d ∷ desks) number [] some b = absurd (cc)
 number_is (d ∷ desks) number (p ∷ passes) some b =
     let first : unseen p ≡ dealt_by number d = cc in
     ap (λ (q : Pass). q.number) first
-
-pub number_first : (passes : List Pass) (p : Pass) → 0 < length passes → number_of passes ≡ (slice_index_or passes 0 p).number
-number_first [] p some = absurd (omega (arith, some))
-number_first (first ∷ passes) p some = refl

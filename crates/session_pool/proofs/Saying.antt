@@ -1,5 +1,5 @@
 -- What a turn says, put together from what its parts did.
-use Rattle.std.proofs.Common.{◌≡◌, ◌++◌, ℕ, Bool, List, [], Option, Some, None, refl, sym, ◌∙◌, subst, inl, inr}
+use Rattle.std.proofs.Common.{◌≡◌, ℕ, Bool, List, [], Option, Some, None, refl, ◌∙◌, subst, inr}
 use Rattle.std.specs.Prelude.{IsSome}
 use Rattle.board_links.specs.Answers.{answers_after, with_answer}
 use Rattle.board_links.specs.Pieces.{told_bytes}
@@ -8,9 +8,6 @@ use Rattle.board_links.specs.declared.link.SessionEnd.{SessionEnd}
 use Rattle.game_hall.specs.Core.{Core, plain, written}
 use Rattle.link_rounds.specs.Turns.{told_answers}
 use Rattle.room_history.specs.declared.call.RoomCall.{RoomCall}
-use Rattle.room_history.specs.declared.call.RoomCall.TheVariants as call
-use Rattle.room_history.specs.declared.reply.RoomReply.{RoomReply}
-use Rattle.session_driver.specs.Freeing.{Frees}
 use Rattle.session_driver.specs.Hearing.{Side, side}
 use Rattle.session_pool.specs.Lines.{IsSendEnd, SentAs}
 use Rattle.any_game.specs.GameKind.{GameKind}
@@ -18,18 +15,8 @@ use Rattle.dice_words.specs.Strip.{Strip}
 use Rattle.game_sheet.specs.MatchName.{Name}
 use Rattle.session_bench.specs.Wishing.{Seen}
 use Rattle.session_pool.specs.Passes.{Pass}
-use Rattle.session_pool.specs.Turn.{Calls, Goes, GoesOn, HandsTaken, Says, Stand, stand}
+use Rattle.session_pool.specs.Turn.{Goes, GoesOn, Says, Stand, stand}
 use Rattle.session_pool.proofs.Turns.{some_told}
-
--- the direct answer, and what the Take gave
-pub says_taken : (may_refuse : RoomCall GameKind → Bool) (s : Side (List Pass)) (sent : List ℕ) (why : Option SessionEnd) (told : Option RoomReply) (new : Side (List Pass)) (mid after : Option (List ℕ)) → mid ≡ Some (sent ++ written s.core)
-    → Frees (Calls may_refuse) call.Take (side s.rooms (plain s.core)) told new → (IsSome mid → HandsTaken told (told_bytes mid) why after) → Says may_refuse s sent why new after
-says_taken may_refuse s sent why told new mid after is_mid frees tells = inl (told, frees, subst (λ m. IsSome m → HandsTaken told (told_bytes m) why after) is_mid tells refl)
-
--- the direct answer alone
-pub says_alone : (may_refuse : RoomCall GameKind → Bool) (s : Side (List Pass)) (sent : List ℕ) (told : Option RoomReply) (new : Side (List Pass)) (after : Option (List ℕ)) → after ≡ Some (sent ++ written s.core)
-    → told ≡ None → Frees (Calls may_refuse) call.Take (side s.rooms (plain s.core)) told new → Says may_refuse s sent None new after
-says_alone may_refuse s sent told new after is none frees = inl (told, frees, subst (λ o. HandsTaken o (sent ++ written s.core) None after) (sym none) (refl, is))
 
 pub says_stopped : (may_refuse : RoomCall GameKind → Bool) (s : Side (List Pass)) (sent : List ℕ) (w : SessionEnd) (after : Option (List ℕ)) → IsSendEnd (Some w) → SentAs (Some w) (written s.core) sent after
     → Says may_refuse s sent (Some w) (side s.rooms (plain s.core)) after

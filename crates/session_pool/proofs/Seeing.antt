@@ -3,7 +3,6 @@ use Rattle.std.proofs.Common.{◌≡◌, ◌<◌, ◌+◌, ◌∙◌, ℕ, zero,
 use Rattle.std.specs.Prelude.{All, slice_get, take}
 use Rattle.std.proofs.lemmas.List.{append-nil, append_assoc, map-append, nil_from_length, take_all}
 use Rattle.any_game.specs.GameKind.{GameKind}
-use Rattle.board_links.specs.Doors.{Returned}
 use Rattle.dice_words.specs.Strip.{Strip}
 use Rattle.match_master.specs.Held.{is_starved}
 use Rattle.room_desk.specs.History.{Begins, DeskId, dealt, held}
@@ -16,8 +15,8 @@ use Rattle.session_driver.specs.Freeing.{Frees, FreesAt}
 use Rattle.session_driver.specs.Hearing.{Makes, Side}
 use Rattle.session_pool.specs.Passes.{CallsDesk, Pass}
 use Rattle.session_pool.specs.Rooms.{HaveSeen, StandFor}
-use Rattle.session_pool.specs.Sittings.{AreServed, Detaches, Rests}
-use Rattle.session_pool.specs.Turn.{Calls, Heeds, Stand}
+use Rattle.session_pool.specs.Sittings.{Detaches}
+use Rattle.session_pool.specs.Turn.{Calls, Heeds}
 use Rattle.session_pool.specs.Watched.{AllBegin, History, seen_of}
 use Rattle.session_pool.proofs.Places.{all_but_last, all_more}
 
@@ -170,27 +169,3 @@ module _ {B V : Type 0} (stands_for : B → History → Type 0) (items : V → L
   all_opened coming by_room none h =
       let done : h.done ≡ all = sym (append-nil h.done) ∙ (ap (λ l. h.done ++ l) (sym (nil_from_length coming none)) ∙ h.split) in
       (h.pasts, subst (λ bs. StandFor stands_for bs h.pasts) done h.stand, h.seen)
-
--- ---- what was served
-
-rests_since : (seed : List ℕ) (places : ℕ) (pasts earlier : List History) (s : Stand) → AllBegin pasts earlier → Rests seed places pasts s → Rests seed places earlier s
-rests_since seed places pasts earlier s begin r = record {
-  own = r.own;
-  within = r.within;
-  fresh_is = r.fresh_is;
-  draws = r.draws;
-  since = all_through (seen_of s.passes) pasts earlier r.since begin;
-}
-
--- passes that had seen histories had seen how these begin
-pub served_since : (may_refuse : RoomCall GameKind → Bool) (seed : List ℕ) (places : ℕ) (pasts earlier : List History) (known : Stand → Type 0) → AllBegin pasts earlier → (told : Option (List Returned))
-    → AreServed may_refuse seed places pasts known told → AreServed may_refuse seed places earlier known told
-served_since may_refuse seed places pasts earlier known begin None served = tt
-served_since may_refuse seed places pasts earlier known begin (Some links) served = λ k d low.
-    let was = served k d low in (
-      was.0,
-      was.1,
-      λ told_a told_s.
-          let session = was.2 told_a told_s in
-          (session.0, rests_since seed places pasts earlier session.0 begin session.1, session.2),
-    )

@@ -2,7 +2,7 @@
 use mathlib.Core.Logic.{dite}
 use native.Mathlib.Decide.{ℕ_discrete}
 use Rattle.std.proofs.Common.{◌≡◌, ◌<◌, ◌+◌, refl, ℕ, zero, suc, List, [], ◌∷◌, ◌++◌, map, length, ap, sym, ◌∙◌, subst, arith, slice_index_or, slice_set, Option, Some, None, append_assoc}
-use Rattle.std.proofs.lemmas.List.{append-nil, get_or-map, get_or_default, length-map, map-append, nil_from_length, length-set, get_or-set_same, get_or-set_other}
+use Rattle.std.proofs.lemmas.List.{get_or-map, get_or_default, length-map, map-append, length-set, get_or-set_same, get_or-set_other}
 use Rattle.room_desk.specs.History.{Begins, DeskId, SetUp}
 use Rattle.session_pool.specs.Passes.{Belong, Pass, dealt_by, unseen}
 use Rattle.session_pool.specs.Watched.{AllBegin, AllKnow, History, Knows, desk_at, seen_of}
@@ -81,14 +81,6 @@ some_desks desks named watch is e = e ∙ (ap (map Some) (sym is) ∙ map_both (
 
 -- ---- as they go out and come back
 
-pub out_on : {X : Type 0} (done after : List (Option X)) (x : X) (coming rest : List X) (all : List (Option X)) → after ≡ done ++ Some x ∷ [] → coming ≡ x ∷ rest
-    → done ++ map Some coming ≡ all → after ++ map Some rest ≡ all
-out_on done after x coming rest all push e is =
-    ap (λ l. l ++ map Some rest) push ∙ (append_assoc done (Some x ∷ []) (map Some rest) ∙ (ap (λ l. done ++ map Some l) (sym e) ∙ is))
-
-pub all_out : {X : Type 0} (done : List (Option X)) (coming : List X) (all : List (Option X)) → length coming ≡ 0 → done ++ map Some coming ≡ all → done ≡ all
-all_out done coming all none is = sym (append-nil done) ∙ (ap (λ l. done ++ map Some l) (sym (nil_from_length coming none)) ∙ is)
-
 pub back_on : {X : Type 0} (done after : List X) (x : X) (at : Option X) (coming rest all : List (Option X)) → after ≡ done ++ x ∷ [] → at ≡ Some x → coming ≡ at ∷ rest
     → map Some done ++ coming ≡ all → map Some after ++ rest ≡ all
 back_on done after x at coming rest all push some e is =
@@ -96,9 +88,6 @@ back_on done after x at coming rest all push some e is =
     ∙ (ap (λ l. l ++ rest) (map-append Some done (x ∷ []))
     ∙ (append_assoc (map Some done) (Some x ∷ []) rest
     ∙ (ap (λ o. map Some done ++ o ∷ rest) (sym some) ∙ (ap (λ l. map Some done ++ l) (sym e) ∙ is))))
-
-pub all_back : {X : Type 0} (done : List X) (coming all : List (Option X)) → length coming ≡ 0 → map Some done ++ coming ≡ all → map Some done ≡ all
-all_back done coming all none is = sym (append-nil (map Some done)) ∙ (ap (λ l. map Some done ++ l) (sym (nil_from_length coming none)) ∙ is)
 
 -- each is there, and so are the others
 pub next_there : (coming rest : List (Option Pass)) (at : Option Pass) (desks : List DeskId) → coming ≡ at ∷ rest → map desk_at coming ≡ map Some desks

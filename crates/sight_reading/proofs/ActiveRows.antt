@@ -59,11 +59,6 @@ named_skips k d ms seat zero apart = refl
 named_skips k d ms seat (suc n) apart =
     rw (skips (decimal seat) k d ms (apart seat (omega arith) (omega arith)), named_skips k d ms (seat + 1) n (λ s low high. apart s (omega (arith, low)) (omega (arith, high)))) refl
 
-at_most_one : (b : Bool) (n m : ℕ) → n ≡ m → one_if b n ≤ suc (one_if b m)
-unfolding one_if
-at_most_one true n m e = omega (arith, e)
-at_most_one false n m e = omega (arith, e)
-
 this_one : (b c : Bool) (n m : ℕ) → n ≡ m → one_if b n ≤ suc (one_if c m)
 unfolding one_if
 this_one true true n m e = omega (arith, e)
@@ -112,13 +107,6 @@ no_rows sheet d seat (suc n) h = at_seat (get (decimal seat) d) h (λ e. no_rows
 pub record AreAll (sheet : Sheet) (d : Data) (rows : Rows) (seat : ℕ) : Type 0 where
   pub whole : option_map (λ more. rows ++ more) (rows_among sheet d seat (256 - seat)) ≡ rows_among sheet d 0 256
   pub seats : length rows + named d seat (256 - seat) ≡ named d 0 256
-
-pub none_yet : (sheet : Sheet) (d : Data) → AreAll sheet d [] 0
-none_yet sheet d = record { whole = as_it_is (rows_among sheet d 0 256); seats = omega arith }
-  where
-    as_it_is : (o : Option Rows) → option_map (λ more. more) o ≡ o
-    as_it_is None = refl
-    as_it_is (Some rows) = refl
 
 next_rows : (sheet : Sheet) (d : Data) (seat : ℕ) → seat < 256 → rows_among sheet d seat (256 - seat) ≡ before_rows seat (seat_stage sheet (get (decimal seat) d)) (rows_among sheet d (seat + 1) (256 - (seat + 1)))
 unfolding rows_among

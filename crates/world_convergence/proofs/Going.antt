@@ -31,9 +31,6 @@ use Rattle.world_convergence.proofs.Entries.{one_if}
 use Rattle.world_convergence.proofs.Fitting.{AllFit}
 use Rattle.world_convergence.proofs.Stories.{Met, Sent, is_there, known_where, like_next, one_line, sent_of, session_is}
 
-no_both : false ≡ true → ⊥
-no_both e = cc
-
 both_false : (a b : Bool) → (a || b) ≡ false → (a ≡ false) × (b ≡ false)
 both_false true b e = cc
 both_false false b e = (refl, e)

@@ -227,12 +227,6 @@ module _ {G : Type 0} (rules : Rules G) where
 
   -- ---- only a sync begins a part
 
-  abbrev pub IsNone : Option (Playing G) → Type 0
-  IsNone o = o ≡ None
-
-  some_none : (x : Playing G) → Some x ≡ None → ⊥
-  some_none x e = cc
-
   pub reads_none : (c : Client G) (text : List ℕ) → c.playing ≡ None → is_sync (server_read text) ≡ false → (reads rules c text).client.playing ≡ None
   reads_none c text none other =
       reads_way (λ o. o ≡ None) c text (record {

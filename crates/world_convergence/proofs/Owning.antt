@@ -180,9 +180,6 @@ module _ {X G : Type 0} (rules : X → Rules G) (c : ℕ) where
           text : List ℕ
           text = act_line rules held p asked
 
-          v : World X G
-          v = (acts_in rules w c held (Some p) asked None).0
-
           at_room : (room : Option ℕ) → StoryOf rules c w held room → StoryOf rules c (acts_in rules w c held (Some p) asked None).0 (with_action rules held p asked) room
           at_room None a = absurd (some_none p (sym playing ∙ no_face held.client.playing a.like.sees))
           at_room (Some r) m =

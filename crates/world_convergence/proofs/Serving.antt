@@ -47,9 +47,6 @@ use Rattle.world_convergence.proofs.Sending.{AreActLines, acted, coming}
 use Rattle.world_convergence.proofs.Stories.{Apart, AreQuiet, IsSyncLine, Met, Story, StoryOf, Untouched, goes_on, line_read, sent_of, stays_as}
 use Rattle.world_convergence.proofs.Taken.{IsTaken, take_made}
 
-no_both : false ≡ true → ⊥
-no_both e = cc
-
 empty_cons : {A : Type 0} (x : A) (xs : List A) → [] ≡ x ∷ xs → ⊥
 empty_cons x xs e = cc
 
@@ -101,9 +98,6 @@ module _ {X G : Type 0} (rules : X → Rules G) (c : ℕ) where
   taken_item : (s : Session) (t : ℕ) → submitted t (after_take s).own ≤ submitted t s.own
   taken_item s t = by (is_detached s.own)
     where
-      longer : Session
-      longer = record s { sent = s.sent ++ handful s }
-
       by : (b : Bool) → submitted t (if b then record s { sent = s.sent ++ handful s } else record (record s { sent = s.sent ++ handful s }) { own = Took (number_in s.sight) ∷ s.own }).own ≤ submitted t s.own
       by true = omega arith
       by false = omega arith

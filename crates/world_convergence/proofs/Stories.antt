@@ -37,9 +37,6 @@ use Rattle.world_convergence.proofs.Foreign.{sessions_in}
 use Rattle.world_convergence.proofs.Hearing.{Fits, knows_it, reads_fits, reads_none, reads_waits, waits}
 use Rattle.world_convergence.proofs.Sending.{AreActLines, KeyFits, ReadsAs, coming}
 
-no_both : false ≡ true → ⊥
-no_both e = cc
-
 -- ---- lists of lines
 
 pub reads_append : {G : Type 0} (rules : Rules G) (c : Client G) (xs ys : List (List ℕ)) → reads_all rules (reads_all rules c xs) ys ≡ reads_all rules c (xs ++ ys)
@@ -187,9 +184,6 @@ module _ {X G : Type 0} (rules : X → Rules G) (c : ℕ) where
     -- ---- a line is read
 
     module _ (w : World X G) (held : Held X G) (r : ℕ) (text : List ℕ) (rest : List (List ℕ)) (m : Met w held r) (known : Sent m.s) (next : w.down c ≡ text ∷ rest) where
-      heard : Client G
-      heard = (reads (rules held.game) held.client text).client
-
       syncs_told : count is_sync m.read + (one_if (is_sync (server_read text)) + count is_sync rest) ≤ 1
       syncs_told =
           let all = m.read ++ (text ∷ rest) in

@@ -35,7 +35,7 @@ use Rattle.hall_history.specs.Opening.{after_open, opened_text, own_entry, seat_
 use Rattle.hall_history.specs.Rooms.{reply_in, with_entry}
 use Rattle.hall_history.specs.Script.{first_mark}
 use Rattle.world_history.specs.Words.{act_no_word, heard_word, of_client, predicted_word}
-use Rattle.world_history.specs.World.{World, Step, Nothing, Seeds, Opens, Attaches, Acts, Arrives, Takes, Reads, Drops, Leaves, Shows, new_world, with_client, with_down, with_hall, with_up}
+use Rattle.world_history.specs.World.{World, Step, Nothing, Seeds, Opens, Attaches, Acts, Arrives, Takes, Reads, Drops, Leaves, Shows, with_client, with_down, with_hall, with_up}
 use Rattle.std.specs.Option.{option_map_or}
 
 abbrev pub claim_of : Option ℕ → Viewer
@@ -163,7 +163,3 @@ module _ {X G : Type 0} (named : List ℕ → Option X) (rules : X → Rules G) 
   runs_world marks [] w = (w, [])
   runs_world marks (step ∷ steps) w =
       let done = does (first_mark marks) step w in let rest = runs_world (drop 1 marks) steps done.0 in (rest.0, done.1 ++ rest.1)
-
-  -- the transcript of a world over so many rooms
-  unfoldable pub transcript : ℕ → List Mark → List (Step X) → List ℕ
-  transcript rooms marks steps = (runs_world marks steps (new_world rooms)).1

@@ -1,11 +1,11 @@
 -- Runs of frames, one after another, and what they tell.
 use Rattle.std.proofs.Common.{inl, inr, ◌≡◌, ℕ, List, [], ◌∷◌, ◌++◌, Bool, true, false, cond, Option, None, Some, Ok, Err, refl, sym, ap, subst, ◌∙◌, append_assoc, append-nil, drop, length}
 use Rattle.std.specs.Prelude.{MatchOption, nat_lt, option_map}
-use Rattle.std.specs.Io.KnownBytes.{Consumes, IsAtEnd, Keeps}
+use Rattle.std.specs.Io.KnownBytes.{Consumes, IsAtEnd}
 use Rattle.board_links.specs.declared.link.Came.{Came}
 use Rattle.board_links.specs.declared.link.Came.TheVariants as came
 use Rattle.tungstenite.specs.Socket.{Replies, Run, Runs, Socket}
-use Rattle.tungstenite.proofs.SocketLemmas.{consumes-chain, consumes-kept, consumes-nil, frame-facts, partial-facts, runs-more, sends-cast, sends-prefix, socket-eta}
+use Rattle.tungstenite.proofs.SocketLemmas.{consumes-chain, consumes-nil, frame-facts, partial-facts, runs-more, sends-cast, sends-prefix, socket-eta}
 use Rattle.websocket.specs.Connection.{Connection, Effect, Sends, read_step}
 use Rattle.websocket.specs.Content.{Content, text, binary, ping, pong, close, received_content}
 use Rattle.websocket.specs.View.{GivesError, KeepsRest, ReadLeaves, Returns}
@@ -13,7 +13,7 @@ use Rattle.websocket.specs.declared.error.Error.{Error}
 use Rattle.websocket.specs.declared.protocol.context.Step.{Step}
 use Rattle.websocket.specs.declared.protocol.frame.codec.FrameStatus.TheVariants.{Partial, Complete}
 use Rattle.ws_link.specs.Frames.{Brings, Hears, IsCutOff, IsOver, IsSilent, ReadsRun, Tells, TellsNothing, frame_tells, line_limit, message_tells, tells}
-use Rattle.ws_link.specs.Refusals.{IsHalt, Refused}
+use Rattle.ws_link.specs.Refusals.{Refused}
 use Rattle.ws_link.proofs.Roles.{runs_keep}
 
 -- ---- two runs
@@ -81,26 +81,8 @@ module _ {S : Type 0} where
     tt,
   )
 
-  pub nothing_yet : (rem : S → Option (List ℕ)) (v : Socket S) → TellsNothing rem v v
-  nothing_yet rem v = filled rem v v [] (consumes-nil (rem v.stream)) refl (sym (append-nil v.input)) refl
-
-  -- none came
-  pub waited : (rem : S → Option (List ℕ)) (old new : Socket S) → Keeps (rem old.stream) (rem new.stream)
-      → new.conn ≡ old.conn → new.input ≡ old.input → new.output ≡ old.output → TellsNothing rem old new
-  waited rem old new keeps conn input output =
-      filled rem old new [] (consumes-kept (rem old.stream) (rem old.stream) (rem new.stream) [] (consumes-nil (rem old.stream)) keeps)
-      conn (input ∙ sym (append-nil old.input)) output
-
   pub at_end : (rem : S → Option (List ℕ)) (old new : Socket S) → IsAtEnd (rem new.stream) → Hears rem old new came.Ended
   at_end rem old new end = inr ([], [], old.conn, old.input, (refl, sym (append-nil old.input)), tt, inr end)
-
-  pub halt_heard : (rem : S → Option (List ℕ)) (old new : Socket S) (answer : Came) → IsHalt answer → TellsNothing rem old new → Hears rem old new answer
-  halt_heard rem old new (came.Line bytes) h k = absurd h
-  halt_heard rem old new came.TooLong h k = absurd h
-  halt_heard rem old new came.Ended h k = absurd h
-  halt_heard rem old new came.Quiet h k = k
-  halt_heard rem old new came.Failed h k = tt
-  halt_heard rem old new came.NoMemory h k = tt
 
   pub still_nothing : (rem : S → Option (List ℕ)) (old mid new : Socket S) → TellsNothing rem old mid → TellsNothing rem mid new → TellsNothing rem old new
   still_nothing rem old mid new h k = (h.0 ++ k.0, then_reads rem old mid new h.0 k.0 h.1 k.1, both_silent h.0 k.0 h.2 k.2)

@@ -67,27 +67,8 @@ impl<T: Read + Write + Drop> WsLink<T> {
         WsLink::with(Peer::Open(Framing::new(alloc, stream)))
     }
 
-    /// A link that makes the handshake in its first calls, as soon as its peer's head has come.
-    pub fn greet(alloc: Global, stream: T) -> WsLink<T>
-        ensures faults { ⟦<WsLink<T> as Link>⟧.faults result ≡ 0 }
-        ensures stage { ⟦<WsLink<T> as Link>⟧.stage result ≡ at.Open }
-        ensures finished { ⟦<WsLink<T> as Link>⟧.finished result ≡ None }
-        ensures waits { waits_for stream None result.peer }
-    {
-        WsLink::greet_from(alloc, stream, None)
-    }
-
-    /// The same, where a peer that names the origin of a page has to name this one, if one is said. Another is answered 403.
-    pub fn greet_from(alloc: Global, stream: T, origin: Option<Arc<Text, Global>>) -> WsLink<T>
-        ensures faults { ⟦<WsLink<T> as Link>⟧.faults result ≡ 0 }
-        ensures stage { ⟦<WsLink<T> as Link>⟧.stage result ≡ at.Open }
-        ensures finished { ⟦<WsLink<T> as Link>⟧.finished result ≡ None }
-        ensures waits { waits_for stream None result.peer }
-    {
-        WsLink::greet_with(alloc, stream, origin, None)
-    }
-
-    /// The same, where a head that asks for no WebSocket is answered by these pages, if there are some.
+    /// A link that makes the handshake in its first calls, as soon as its peer's head has come. A peer that names the origin of a page has to name
+    /// this one, if one is said; another is answered 403. A head that asks for no WebSocket is answered by these pages, if there are some.
     pub fn greet_with(
         alloc: Global,
         stream: T,

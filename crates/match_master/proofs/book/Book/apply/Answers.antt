@@ -1,5 +1,5 @@
 use Rattle.match_master.proofs.ClauseLaws.{judges_by_sight, leaves_others, refuses, tells_alike, tells_streams}
-use Rattle.match_master.proofs.StandsLaws.{done, same_room}
+use Rattle.match_master.proofs.StandsLaws.{done}
 use Rattle.match_master.proofs.book.Book.apply.Goals as goal
 
 pub returns-clause-answered : goal.returns-clause-answered
