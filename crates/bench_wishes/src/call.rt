@@ -36,7 +36,7 @@ pub enum WishCall {
 }
 
 /// What the bench replies.
-#[derive(Clone, Copy, PartialEq, Eq)]
+#[derive(Clone, Copy)]
 pub enum WishReply {
     /// The bot has a row.
     Sat,

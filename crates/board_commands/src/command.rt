@@ -9,7 +9,7 @@ use wire_json::decimal_of;
 const MOST_STEPS: u64 = 1_000_000;
 
 /// What the words after the program's name ask for.
-#[derive(Clone, Copy, PartialEq, Eq)]
+#[derive(Clone, Copy)]
 pub enum Command {
     /// To run a script.
     Script,

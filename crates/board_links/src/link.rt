@@ -34,7 +34,7 @@ pub enum Out {
 }
 
 /// Whether a link's last receive told its end.
-#[derive(Clone, Copy, PartialEq, Eq)]
+#[derive(Clone, Copy)]
 pub enum Stage {
     /// It told no end.
     Open,

@@ -23,7 +23,7 @@ pub enum Scripted {
 }
 
 /// What a link in memory says after its script.
-#[derive(Clone, Copy, PartialEq, Eq)]
+#[derive(Clone, Copy)]
 pub enum AtEnd {
     /// It has ended.
     Ended,

@@ -441,7 +441,7 @@ where
 }
 
 /// Where a server listens, as far as the system says it.
-#[derive(Clone, Copy, PartialEq, Eq)]
+#[derive(Clone, Copy)]
 pub struct Addresses {
     /// For the sessions.
     pub door: Option<SocketAddr>,

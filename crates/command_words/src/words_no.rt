@@ -10,7 +10,7 @@ use game_sheet::NoMemory;
 use thiserror::Error;
 
 /// Why the words of a command give nothing to do.
-#[derive(Clone, Copy, PartialEq, Eq, Debug, Error)]
+#[derive(Clone, Copy, Debug, Error)]
 pub enum WordsNo {
     /// There was no memory to read them.
     #[error("no memory")]

@@ -30,7 +30,7 @@ use std::sync::Wait;
 use std::thread::Threads;
 
 /// How the serving of rooms ends.
-#[derive(Clone, Copy, PartialEq, Eq)]
+#[derive(Clone, Copy)]
 pub enum ServeEnd {
     /// The door is shut, or gave its last session, and the report was printed.
     Done,

@@ -16,7 +16,7 @@ use crate::names::Named;
 use crate::sheet::{Order, PhaseRow, Place, Sheet, SpecRow, StageRow, TurnRow};
 
 /// A sheet breaks a rule.
-#[derive(Clone, Copy, PartialEq, Eq)]
+#[derive(Clone, Copy)]
 pub struct SheetFault {
     /// The number of the first rule that it breaks, from 1 to 10.
     pub rule: u8,

@@ -18,7 +18,7 @@ impl Drop for EventQueue {
 }
 
 /// A seventeenth event was queued.
-#[derive(Clone, Copy, PartialEq, Eq)]
+#[derive(Clone, Copy)]
 pub struct Crowded;
 
 impl Model for EventQueue {

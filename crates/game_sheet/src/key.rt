@@ -5,7 +5,7 @@ ghost use Rattle.std.specs.Prelude.{◌≡◌, ◌↔◌, IsTrue, length};
 use std::marker::Model;
 
 /// Sixteen bytes that only the seat's owner knows. Contracts see the bytes; nothing prints them but the owner's own line.
-#[derive(Clone, Copy, PartialEq, Eq)]
+#[derive(Clone, Copy)]
 pub struct Key {
     bytes: [u8; 16],
 }

@@ -6,7 +6,7 @@ ghost use Rattle.game_sheet.specs.MatchName.{Name};
 use std::marker::Model;
 
 /// A room from 0 to 63 and a serial from 1, which the type keeps.
-#[derive(Clone, Copy, PartialEq, Eq)]
+#[derive(Clone, Copy)]
 pub struct MatchName {
     room: u8,
     serial: u64,

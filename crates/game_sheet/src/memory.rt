@@ -4,7 +4,7 @@ use std::alloc::{AllocError, AllocFailed};
 use std::fmt;
 
 /// The call asked for memory that wasn't there. Unless a call says otherwise, all is then as before it.
-#[derive(Clone, Copy, PartialEq, Eq, Debug)]
+#[derive(Clone, Copy, Debug)]
 pub struct NoMemory;
 
 impl fmt::Display for NoMemory {

@@ -27,7 +27,7 @@ pub enum GameRule {
 }
 
 /// Why a step of a game gave no new state.
-#[derive(Clone, Copy, PartialEq, Eq)]
+#[derive(Clone, Copy)]
 pub enum GameNo {
     /// A rule is broken.
     Broken(GameRule),

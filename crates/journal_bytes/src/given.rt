@@ -9,7 +9,7 @@ use record_file::LONGEST;
 use std::alloc::Global;
 
 /// Why the bytes of a source weren't read.
-#[derive(Clone, Copy, PartialEq, Eq)]
+#[derive(Clone, Copy)]
 pub enum NotGiven {
     /// The source failed.
     ReadFault,

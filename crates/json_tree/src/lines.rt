@@ -27,7 +27,7 @@ pub enum LineFault {
 }
 
 /// A line wasn't written, since an allocation failed.
-#[derive(Clone, Copy, Debug, PartialEq, Eq, Drop)]
+#[derive(Clone, Copy, Debug, Drop)]
 pub struct LineNoMemory;
 
 /// The object that a line of at most `bound` bytes holds.

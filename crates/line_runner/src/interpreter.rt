@@ -7,7 +7,7 @@ use game_sheet::NoMemory;
 use std::alloc::Global;
 
 /// Why a line wasn't run.
-#[derive(Clone, Copy, PartialEq, Eq)]
+#[derive(Clone, Copy)]
 pub enum LineNo {
     /// It is in no form.
     BadLine,

@@ -1,7 +1,7 @@
 //! What the readers of bytes and lines answer.
 
 /// What a reader of lines answers.
-#[derive(Clone, Copy, PartialEq, Eq)]
+#[derive(Clone, Copy)]
 pub enum Next {
     /// The next line stands ready.
     Line,
@@ -18,7 +18,7 @@ pub enum Next {
 }
 
 /// What byte comes next.
-#[derive(Clone, Copy, PartialEq, Eq)]
+#[derive(Clone, Copy)]
 pub enum Peeked {
     /// This byte.
     Byte(u8),

@@ -25,7 +25,7 @@ const MOST_LINES: u32 = 1_000;
 const MOST_QUIET: u32 = 10_000;
 
 /// What the link gave.
-#[derive(Clone, Copy, PartialEq, Eq)]
+#[derive(Clone, Copy)]
 pub enum Given {
     /// A line, which was read.
     Line,

@@ -1,7 +1,7 @@
 //! Why a command is broken off, and what a line of commands comes to.
 
 /// Why a command is broken off.
-#[derive(Clone, Copy, PartialEq, Eq)]
+#[derive(Clone, Copy)]
 pub enum Stop {
     /// The sink failed.
     WriteFault,
@@ -16,7 +16,7 @@ pub enum Stop {
 }
 
 /// What a line of commands comes to.
-#[derive(Clone, Copy, PartialEq, Eq)]
+#[derive(Clone, Copy)]
 pub enum LineStatus {
     /// Its command was done.
     Done,

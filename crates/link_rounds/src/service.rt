@@ -7,7 +7,7 @@ use std::sync::Wait;
 
 /// What a turn means for others: where its session listens now, the rooms that it changed, one bit each, and whether its link may have more
 /// for it already. It says when turns are due and nothing else, so no clause speaks of it.
-#[derive(Clone, Copy, PartialEq, Eq)]
+#[derive(Clone, Copy)]
 pub struct Stir {
     /// The room in which the session listens.
     pub at: Option<u8>,

@@ -14,7 +14,7 @@ use record_file::LONGEST;
 use room_disk::Disk;
 
 /// Why the record of a call wasn't kept.
-#[derive(Clone, Copy, PartialEq, Eq)]
+#[derive(Clone, Copy)]
 pub enum Stop {
     /// There was no memory for its text.
     NoMemory,

@@ -4,7 +4,7 @@ use crate::recorded::Recorded;
 use std::alloc::Global;
 
 /// Why a file wasn't opened.
-#[derive(Clone, Copy, PartialEq, Eq)]
+#[derive(Clone, Copy)]
 pub enum OpenNo {
     /// The disk failed.
     DiskFault,
@@ -20,7 +20,7 @@ pub enum OpenNo {
 }
 
 /// What becomes of a record.
-#[derive(Clone, Copy, PartialEq, Eq)]
+#[derive(Clone, Copy)]
 pub enum Replayed {
     /// The object has made its change again.
     Done,

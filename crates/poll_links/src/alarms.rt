@@ -9,7 +9,7 @@ use std::mem;
 const AHEAD: u64 = 63;
 
 /// After how many seconds a link wants a turn though nothing came: the first time, and then each time.
-#[derive(Clone, Copy, PartialEq, Eq)]
+#[derive(Clone, Copy)]
 pub struct Looks {
     /// The first time, from when it is watched on.
     pub first: Option<u32>,

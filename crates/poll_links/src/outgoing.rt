@@ -12,7 +12,7 @@ use std::marker::Model;
 const KEPT: usize = 65_536;
 
 /// What a write came to.
-#[derive(Clone, Copy, PartialEq, Eq)]
+#[derive(Clone, Copy)]
 pub enum Wrote {
     /// So many bytes were taken.
     Some(usize),

@@ -27,7 +27,7 @@ pub(crate) const DOOR: Token = Token(usize::MAX - 1);
 const AGAIN: u64 = 1;
 
 /// What a worker knows of the door.
-#[derive(Clone, Copy, PartialEq, Eq)]
+#[derive(Clone, Copy)]
 enum Door {
     /// It has none for this worker, as far as it knows.
     Still,

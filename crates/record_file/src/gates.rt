@@ -4,7 +4,7 @@ ghost use Rattle.std.specs.Prelude.{◌<◌, ◌^◌, length};
 ghost use Rattle.record_file.specs.Gates.{IsGate};
 
 /// What stands at the gate at which some bytes begin.
-#[derive(Clone, Copy, PartialEq, Eq)]
+#[derive(Clone, Copy)]
 pub enum Gate {
     /// The gate isn't open: the records end here.
     Closed,

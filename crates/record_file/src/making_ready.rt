@@ -15,7 +15,7 @@ use std::alloc::Global;
 pub const LONGEST: u64 = 268_435_456;
 
 /// Why a file isn't ready.
-#[derive(Clone, Copy, PartialEq, Eq)]
+#[derive(Clone, Copy)]
 pub enum NotReady {
     /// The disk failed.
     DiskFault,

@@ -9,7 +9,7 @@ use room_disk::Disk;
 use std::alloc::Global;
 
 /// Why a file wasn't read.
-#[derive(Clone, Copy, PartialEq, Eq)]
+#[derive(Clone, Copy)]
 pub enum NotRead {
     /// The disk failed.
     DiskFault,

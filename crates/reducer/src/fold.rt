@@ -28,7 +28,7 @@ use std::alloc::Global;
 use undo_redo::Trail;
 
 /// Why a match didn't start.
-#[derive(Clone, Copy, PartialEq, Eq, Debug)]
+#[derive(Clone, Copy, Debug)]
 pub enum StartNo {
     /// The count of seats is outside the bounds of the game's sheet.
     BadSeats,

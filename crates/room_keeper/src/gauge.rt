@@ -16,7 +16,7 @@ pub struct Gauge {
 }
 
 /// What a gauge showed.
-#[derive(Clone, Copy, PartialEq, Eq)]
+#[derive(Clone, Copy)]
 pub struct Seen {
     /// The serial of the match that stands, from 1; 0 where none does, or the room has stopped.
     pub serial: u64,

@@ -32,7 +32,7 @@ pub trait Keeper: Drop {
 }
 
 /// A keeper that names no errand: the type of the keeper where a server has none.
-#[derive(Clone, Copy, PartialEq, Eq)]
+#[derive(Clone, Copy)]
 pub struct NoKeeper;
 
 impl Keeper for NoKeeper {

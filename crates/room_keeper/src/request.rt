@@ -1,7 +1,7 @@
 //! What a request of HTTP asks for, by its head.
 
 /// What is asked for.
-#[derive(Clone, Copy, PartialEq, Eq, Debug)]
+#[derive(Clone, Copy, Debug)]
 pub enum Request {
     /// The status.
     Status,

@@ -37,7 +37,7 @@ pub struct MatchStatus {
 }
 
 /// What is told of the links, and of the bots beside them.
-#[derive(Clone, Copy, PartialEq, Eq)]
+#[derive(Clone, Copy)]
 pub struct Counts {
     /// How many links are open now; bots' not among them.
     pub links: u64,

@@ -1,7 +1,7 @@
 //! What an attempt to end a seat's stage comes to.
 
 /// What an attempt to end a seat's stage comes to.
-#[derive(Clone, Copy, PartialEq, Eq)]
+#[derive(Clone, Copy)]
 pub enum Ended {
     /// The stage has ended.
     Done,

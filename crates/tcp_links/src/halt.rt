@@ -4,7 +4,7 @@ use std::io;
 use std::io::ErrorKind;
 
 /// Why a call of the system brought nothing.
-#[derive(Clone, Copy, PartialEq, Eq)]
+#[derive(Clone, Copy)]
 pub enum Halt {
     /// It would have had to wait, or has to be made again.
     Wait,

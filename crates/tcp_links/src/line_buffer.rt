@@ -28,7 +28,7 @@ pub enum Cut {
 }
 
 /// What a read brought.
-#[derive(Clone, Copy, PartialEq, Eq)]
+#[derive(Clone, Copy)]
 pub enum Fill {
     /// Bytes; another read may bring more.
     Some,

@@ -171,7 +171,7 @@ impl<T> Framing<T> {
 }
 
 /// Why lines can't be sent.
-#[derive(Clone, Copy, PartialEq, Eq)]
+#[derive(Clone, Copy)]
 pub(crate) enum Slip {
     /// A close was sent or read, or the connection failed.
     Closed,

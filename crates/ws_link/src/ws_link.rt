@@ -33,7 +33,7 @@ pub enum Peer<T> {
 }
 
 /// Whether a receive stopped though its stream may have more.
-#[derive(Clone, Copy, PartialEq, Eq)]
+#[derive(Clone, Copy)]
 pub enum Rest {
     /// It didn't.
     Nothing,
