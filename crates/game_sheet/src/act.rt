@@ -49,7 +49,7 @@ impl Act {
 }
 
 /// A change of turn, phase, stage or end that a game queues or a player asks for.
-#[derive(Clone, Copy, PartialEq, Eq, Debug)]
+#[derive(Clone, Copy, PartialEq, Eq)]
 pub enum Event {
     /// Ends the turn.
     EndTurn {

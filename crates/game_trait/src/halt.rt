@@ -4,7 +4,7 @@ use dice_words::Spent;
 use game_sheet::{Crowded, NoMemory};
 
 /// Why a move gave no new state.
-#[derive(Clone, Copy, PartialEq, Eq, Debug)]
+#[derive(Clone, Copy, PartialEq, Eq)]
 pub enum Halt {
     /// The game doesn't allow the move.
     Invalid,
@@ -17,7 +17,7 @@ pub enum Halt {
 }
 
 /// Why a hook, or the setting up of a match, gave no state.
-#[derive(Clone, Copy, PartialEq, Eq, Debug)]
+#[derive(Clone, Copy, PartialEq, Eq)]
 pub enum HookHalt {
     /// The tape had no word left for the action.
     Spent,

@@ -9,7 +9,7 @@ ghost use Rattle.json_tree.specs.Names.{extra_in, has_extra, is_known as name_is
 use serde_json::{Map, Number, Value};
 
 /// Why a member couldn't be read.
-#[derive(Clone, Copy, Debug, PartialEq, Eq, Drop)]
+#[derive(Clone, Copy, PartialEq, Eq, Drop)]
 pub enum FieldFault {
     /// The value is no object, or it has no member of that name.
     Missing,

@@ -3,7 +3,7 @@
 use json_tree::{FieldFault, LineFault};
 
 /// The first fault of a line, in this order; the members' in byte order of their names.
-#[derive(Clone, Copy, Debug, PartialEq, Eq, Drop)]
+#[derive(Clone, Copy, PartialEq, Eq, Drop)]
 pub enum WireNo {
     /// The line holds no object of the wire.
     Line(LineFault),
