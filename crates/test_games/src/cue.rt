@@ -72,7 +72,7 @@ impl Moment {
 }
 
 /// An event, and when it is queued.
-#[derive(Clone, Copy, PartialEq, Eq, Debug)]
+#[derive(Clone, Copy, PartialEq, Eq)]
 pub struct Cue {
     /// When.
     pub moment: Moment,
