@@ -1,4 +1,0 @@
-pub mod InSheet
-pub mod Moment
-pub mod ScriptedGame
-pub mod ScriptedGameLaws

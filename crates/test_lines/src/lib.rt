@@ -1,5 +1,0 @@
-//! Tests of lines that stand in no text of rows.
-#![tactic(auto)]
-
-#[cfg(test)]
-mod edges;

@@ -1,7 +1,0 @@
-use Rattle.test_pool.proofs.watching.both_served.Goals as goal
-
--- the passes of all rows have seen the same
-pub take_watch-passes-requires-clause-seen : goal.take_watch-passes-requires-clause-seen
-take_watch-passes-requires-clause-seen g c =
-    let stood = c.in_ok-desks.ensures.seen in
-    (stood.0, stood.2)

@@ -1,0 +1,242 @@
+//! Rooms that are kept on disks in memory: served, and opened again.
+
+ghost use Rattle.std.specs.Prelude.{◌≡◌, [], IfOk, Some, None, false, map, string_bytes, vec_len};
+
+use crate::serving::{CREATE, JOIN, LEAVE, NobodyOutside, RENAME, door, readies, words};
+use board_commands::serve_kept;
+use board_links::{MemoryDoor, MemoryLink, MemorySink};
+use game_sheet::{List, NoMemory, Number};
+use kept_serve::{ClosedRoom, Shelf};
+use line_runner::Exit;
+use object_journal::OpenNo;
+use room_disk::MemoryDisk;
+use std::alloc::Global;
+use std::process::Abort;
+use std::sync::Wait;
+use std::test::Fail;
+use std::thread::Threads;
+
+/// The disks of rooms, the last one's first, how often there was none, and the numbers of the rooms that were opened and that could not be.
+struct Disks {
+    disks: Vec<MemoryDisk>,
+    faults: u64,
+    opened: u32,
+    refused: u32,
+}
+
+impl Drop for Disks {
+    fn drop(self) {
+        let Disks {
+            disks,
+            faults: _,
+            opened: _,
+            refused: _,
+        } = self;
+        drop(disks);
+    }
+}
+
+impl Shelf for Disks {
+    ghost use Rattle.std.specs.Prelude.{None};
+
+    type D = MemoryDisk;
+
+    ghost given = { λ s. None };
+
+    ghost faults = { λ s. s.faults };
+
+    fn disk(&mut self, _room: u8) -> Option<MemoryDisk> {
+        let disk = self.disks.pop();
+        if disk.is_none() {
+            self.faults = self.faults.saturating_add(1);
+        }
+        disk
+    }
+
+    fn opened(&mut self, _room: u8, serial: u64, _number: Option<Number>) {
+        if serial > 0 {
+            self.opened = self.opened.saturating_add(1);
+        }
+    }
+
+    fn refused(&mut self, _room: u8, _why: &OpenNo) {
+        self.refused = self.refused.saturating_add(1);
+    }
+
+    fn ready(&mut self) {}
+}
+
+/// A shelf of one disk, with these bytes, whose calls of these numbers fail.
+fn shelf(alloc: Global, bytes: &[u8], failing: &[u64]) -> Result<Disks, NoMemory> {
+    let mut disks = Vec::new(alloc);
+    disks.push(MemoryDisk::new(
+        alloc,
+        Vec::from_slice(alloc, bytes)?,
+        List::from_slice(alloc, failing)?,
+    ))?;
+    Ok(Disks {
+        disks,
+        faults: 0,
+        opened: 0,
+        refused: 0,
+    })
+}
+
+/// Serves one room over this shelf, two sessions one after another: how it ends, the rooms, and what was printed.
+fn served<R: Threads + Wait + Sync>(
+    rt: &R,
+    alloc: Global,
+    shelf: &mut Disks,
+    first: &[&[u8]],
+    second: &[&[u8]],
+) -> Result<(Exit, Vec<ClosedRoom<MemoryDisk>>, MemorySink), NoMemory> {
+    let words = words(alloc, &["--rooms", "1", "--keep", "x"])?;
+    let readies = readies(alloc, words.as_slice())?;
+    let door = door(alloc, second, first, &[])?;
+    let mut sink = MemorySink::new(alloc, List::new(alloc));
+    let (exit, door, closed) = serve_kept(
+        rt,
+        alloc,
+        words.as_slice(),
+        shelf,
+        readies,
+        door,
+        &mut sink,
+        [0; 32],
+        NobodyOutside,
+    );
+    drop(door);
+    drop(words);
+    Ok((exit, closed, sink))
+}
+
+#[test]
+fn a_match_outlasts_its_server(rt: HostRuntime) -> Result<(), NoMemory> {
+    let alloc = rt.alloc();
+    let mut shelf_1 = shelf(alloc, b"", &[])?;
+    let (exit, closed, sink) = served(&rt, alloc, &mut shelf_1, &[CREATE, JOIN], &[])?;
+    assert_eq!(rt; exit, Exit::Done);
+    assert_eq!(rt;
+        sink.bytes(),
+        b"sessions 2\nroom 0 serial 1 number 0\n".as_slice()
+    );
+    drop(sink);
+    let [room] = closed.as_slice() else {
+        panic!(rt; "the room didn't come back")
+    };
+    let mut shelf_2 = shelf(alloc, room.disk.bytes(), &[])?;
+    drop(closed);
+    let (exit, closed, sink) = served(&rt, alloc, &mut shelf_2, &[LEAVE], &[CREATE])?;
+    assert_eq!(rt; exit, Exit::Done);
+    assert_eq!(rt; shelf_2.opened, 1);
+    // the player left by the key that the first server gave, so another match could be made
+    assert_eq!(rt;
+        sink.bytes(),
+        b"sessions 2\nroom 0 serial 2 number 0\n".as_slice()
+    );
+    drop(sink);
+    drop(closed);
+    drop(shelf_1);
+    drop(shelf_2);
+    Ok(())
+}
+
+/// Each of the first 40 calls of the disk fails once. Those of the opening end the run before a link is taken; those of the changes, which are two
+/// writes and two syncs each, stop the room.
+#[test]
+fn a_room_whose_disk_fails_stops(rt: HostRuntime) -> Result<(), NoMemory> {
+    let alloc = rt.alloc();
+    let mut stops = 0u8;
+    for failing in 1..41 {
+        let mut shelf_1 = shelf(alloc, b"", &[failing])?;
+        let (exit, closed, sink) = served(
+            &rt,
+            alloc,
+            &mut shelf_1,
+            &[CREATE, JOIN, LEAVE],
+            &[CREATE],
+        )?;
+        if closed.len() == 1 && closed[0].stopped.is_some() {
+            assert_eq!(rt; exit, Exit::StoreFault);
+            assert_eq!(rt; sink.bytes(), b"sessions 2\nroom 0 stopped\n".as_slice());
+            stops = stops.saturating_add(1);
+        } else if closed.len() == 0 {
+            assert_eq!(rt; exit, Exit::StoreFault);
+            assert_eq!(rt; sink.bytes(), b"".as_slice());
+        } else {
+            assert_eq!(rt; exit, Exit::Done);
+        }
+        drop(sink);
+        drop(closed);
+        drop(shelf_1);
+    }
+    assert_eq!(rt; stops, 16);
+    Ok(())
+}
+
+#[test]
+fn a_damaged_journal_is_not_served(rt: HostRuntime) -> Result<(), NoMemory> {
+    let alloc = rt.alloc();
+    let mut shelf_1 = shelf(alloc, b"\x01\x05\0\0\0", &[])?;
+    let (exit, closed, sink) = served(&rt, alloc, &mut shelf_1, &[CREATE], &[CREATE])?;
+    assert_eq!(rt; exit, Exit::BadRecord { place: 0 });
+    assert_eq!(rt; closed.len(), 0);
+    assert_eq!(rt; sink.bytes(), b"".as_slice());
+    assert_eq!(rt; shelf_1.refused, 1);
+    drop(sink);
+    drop(closed);
+    drop(shelf_1);
+    Ok(())
+}
+
+/// How a server over a room with these bytes ends that plays nothing, what it prints, and how many bytes the room has then. The calls of these numbers
+/// fail.
+fn started<R: Threads + Wait + Sync>(
+    rt: &R,
+    alloc: Global,
+    bytes: &[u8],
+    failing: &[u64],
+) -> Result<(Exit, MemorySink, usize), NoMemory> {
+    let mut shelf = shelf(alloc, bytes, failing)?;
+    let (exit, closed, sink) = served(rt, alloc, &mut shelf, &[], &[])?;
+    drop(shelf);
+    let count = match closed.as_slice() {
+        [room] => room.disk.bytes().len(),
+        _ => 0,
+    };
+    drop(closed);
+    Ok((exit, sink, count))
+}
+
+/// The records of a match with its create, a join, two renames and a leave have 119, 83, 85, 85 and 71 bytes; those of one that is made and cleared have
+/// 127 and 21. Once the file has these alone, it stays.
+#[test]
+fn a_file_without_a_match_begins_anew(rt: HostRuntime) -> Result<(), NoMemory> {
+    let alloc = rt.alloc();
+    let mut shelf_1 = shelf(alloc, b"", &[])?;
+    let lines = [CREATE, JOIN, RENAME, RENAME, LEAVE];
+    let (exit, closed, sink) = served(&rt, alloc, &mut shelf_1, &lines, &[])?;
+    assert_eq!(rt; exit, Exit::Done);
+    drop(sink);
+    drop(shelf_1);
+    let [room] = closed.as_slice() else {
+        panic!(rt; "the room didn't come back")
+    };
+    assert_eq!(rt; room.disk.bytes().len(), 444);
+    let (exit, sink, count) = started(&rt, alloc, room.disk.bytes(), &[])?;
+    assert_eq!(rt; exit, Exit::Done);
+    assert_eq!(rt;
+        sink.bytes(),
+        b"sessions 2\nroom 0 serial 1 number -\n".as_slice()
+    );
+    assert_eq!(rt; count, 149);
+    drop(sink);
+    // after a sync, a length and a read
+    let (exit, sink, count) = started(&rt, alloc, room.disk.bytes(), &[4])?;
+    assert_eq!(rt; exit, Exit::StoreFault);
+    assert_eq!(rt; sink.bytes(), b"".as_slice());
+    assert_eq!(rt; count, 0);
+    drop(sink);
+    drop(closed);
+    Ok(())
+}

@@ -1,5 +1,0 @@
-use Rattle.std.proofs.Common.{◌≡◌}
-use Rattle.test_sockets.proofs.tests.heard.Given as goal
-
-abbrev pub invariant-loop : goal.invariant-loop
-invariant-loop g l = g.L.Link.finished l.link ≡ g.L.Link.finished l.fn.link
