@@ -111,9 +111,13 @@ fn print_records(rt: &HostRuntime, disk: &MemoryDisk) -> io::Result<()> {
     let mut sink = MemorySink::new(rt.alloc(), List::new(rt.alloc()));
     let exit = replay(rt.alloc(), &mut source, &mut sink);
     drop(source);
+    print_said(rt, exit, first_line(sink.bytes()))
+}
+
+fn print_said(rt: &HostRuntime, exit: Exit, said: &str) -> io::Result<()> {
     print!(rt; "  ")?;
     print_exit(rt, exit, ", ")?;
-    println!(rt; "{}", first_line(sink.bytes()))
+    println!(rt; "{said}")
 }
 
 /// The first line of some bytes, without its newline.

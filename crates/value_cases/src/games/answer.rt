@@ -50,9 +50,9 @@ fn print_outcome(rt: &HostRuntime, before: &str, outcome: Outcome, after: &str) 
     }
 }
 
-/// Prints the list of the events that a move queued.
-pub fn print_events(rt: &HostRuntime, events: &[Event]) -> io::Result<()> {
-    print!(rt; "[")?;
+/// Prints how many words a move drew, and the list of the events that it queued.
+pub fn print_drawn(rt: &HostRuntime, words: u32, events: &[Event]) -> io::Result<()> {
+    print!(rt; "  {words} words, [")?;
     for place in 0..events.len() {
         if place > 0 {
             print!(rt; ", ")?;

@@ -2,7 +2,7 @@
 
 ghost use Rattle.std.specs.Prelude.{◌<◌, ◌≤◌, ◌≡◌, [], length};
 
-use crate::games::answer::{print_events, print_halt};
+use crate::games::answer::{print_drawn, print_halt};
 use crate::games::ask::print_state;
 use dice_words::Tape;
 use game_sheet::{Args, Ctx, EventQueue, MoveId, Seat};
@@ -48,8 +48,7 @@ fn play<X: Game>(
     match game.play(rt.alloc(), g, ctx, seat, id, args, &mut tape, &mut events) {
         Ok(after) => {
             print_state(rt, game, &after)?;
-            print!(rt; "  {} words, ", tape.used())?;
-            print_events(rt, events.list())
+            print_drawn(rt, tape.used(), events.list())
         }
         Err(halt) => print_halt(rt, halt),
     }
