@@ -46,19 +46,28 @@ def gate(room, hears=lambda line: None):
     """Runs `rt ci` in the copy, prints what it says in brief, gives each of its lines to hears, and returns its status. What a check says of a crate is
     printed only if the crate is not proved."""
     with subprocess.Popen(["rt", "ci"], cwd=room, stdout=subprocess.PIPE, stderr=subprocess.STDOUT, text=True, errors="replace") as ran:
-        held = None
-        for line in ran.stdout:
-            hears(line)
-            line = line.replace(room, ROOT)
-            if line.startswith("== "):
-                held = []
-            if held is None:
-                print(line, end="", flush=True)
-                continue
-            held.append(line)
-            ended = re.match(r"rt: \w+(: its tests are)? (NOT PROVED|proved)$", line)
-            if ended:
-                print("".join(held if ended[2] != "proved" else held[-1:]), end="", flush=True)
-                held = None
-        print("".join(held or []), end="", flush=True)
+        try:
+            for line in in_brief(ran.stdout, hears):
+                print(line.replace(room, ROOT), end="", flush=True)
+        except BaseException:
+            ran.terminate()
+            raise
     return ran.returncode
+
+
+def in_brief(lines, hears):
+    """Gives each line to hears, and yields it, but of a crate that is proved only the line that says so."""
+    held = None
+    for line in lines:
+        hears(line)
+        if line.startswith("== "):
+            held = []
+        if held is None:
+            yield line
+            continue
+        held.append(line)
+        ended = re.match(r"rt: \w+(: its tests are)? (NOT PROVED|proved)$", line)
+        if ended:
+            yield from held if ended[2] != "proved" else held[-1:]
+            held = None
+    yield from held or []

@@ -2,6 +2,7 @@
 import importlib.machinery
 import importlib.util
 import os
+import signal
 import stat
 import subprocess
 import sys
@@ -21,6 +22,8 @@ def found():
     return kit, module
 
 
+# Who is told to stop ends in order: what it started is ended, and its temporary folders are removed.
+signal.signal(signal.SIGTERM, lambda *_: sys.exit(143))
 KIT, rtlib = found()
 # What every program is linked with.
 SYSTEM = [f"{KIT}/c/libos_c.a", f"{KIT}/c/liblibc_c.a"]

@@ -84,10 +84,12 @@ def main(listen, *words):
                 print(line, end="", file=sys.stderr, flush=True)
                 if line.startswith("listening on "):
                     print(f"Play at http://{line.split()[-1]}/ (not proved: `make play` serves the proved server). Ctrl-C ends it.", flush=True)
-        except KeyboardInterrupt:
+        finally:
             server.terminate()
-            return 130
     return server.returncode
 
 
-sys.exit(main(*sys.argv[1:]))
+try:
+    sys.exit(main(*sys.argv[1:]))
+except KeyboardInterrupt:
+    sys.exit(130)
