@@ -1,10 +1,11 @@
 #!/usr/bin/env python3
 """Looks at which matches a server with `--idle 1` clears, and when. It takes some two minutes, and starts the server itself, on a free port.
 
-    bench/idle.py PROGRAM [-- WORDS]
+    bench/idle.py PROGRAM [--short] [-- WORDS]
 
 One match is made and never joined; the player of another one vanishes; a player stays attached to a third, and a spectator to a fourth. Then one
 connection asks for a thousand matches, which fill the other rooms. After a minute or so all are gone but those that somebody looks at.
+With --short the last of them are looked at after five seconds more, in place of thirty.
 """
 import subprocess
 import sys
@@ -79,7 +80,7 @@ def main():
             check(time.monotonic() - began < 90, f"after 90 seconds these stand: {standing(looks)}")
             time.sleep(0.5)
         took = time.monotonic() - began
-        time.sleep(30)
+        time.sleep(5 if "--short" in sys.argv else 30)
         check(standing(looks) == {kept, watched}, "a match was cleared at which somebody looks")
         check(create(looks)["type"] == "created", "there is no room")
         check(server.process.poll() is None, "the server has ended")

@@ -1,0 +1,136 @@
+"""What the programs reach: a graph of calls by name, from the two `main`s over the crates that they stand on."""
+import collections
+import functools
+import re
+
+from . import texts
+from .functions import everywhere
+
+PROGRAMS = ("board_server", "page_program")
+CALL = re.compile(r"(?P<before>\.|(?:\b(?P<owner>\w+)(?:::<[^()]*?>|<[^()]*?>)?::)|)(?P<name>\b[a-z_]\w*)(?P<opens>\s*(?:::<[^;{}]*?>)?\()?")
+TYPE_WORD = re.compile(r"\b[A-Z]\w*")
+
+
+def is_beside(crate):
+    """Tests and cases are no part of the program."""
+    return crate.startswith("test_") or crate.endswith("_cases") or crate == "case_rows"
+
+
+def is_law(function):
+    """A law does nothing: it has no parameters that live as it runs, answers nothing, and calls nothing but laws."""
+    return function.body is not None and not function.result and not any("&mut" in p or "self" in p for p in function.parameters) and not re.search(
+        r"\b(?:for|while|if|match|let mut)\b|[\w)]\?|println!", function.body)
+
+
+@functools.cache
+def reached(tests=False):
+    """The functions that the programs reach, or also those that tests, cases and laws reach.
+
+    A name in a body stands for each function of that name that the body's crate can see: `x.name(..)` for methods,
+    `Type::name` for those of the type, of a trait, or of what a type parameter stands for, a bare `name` for free functions.
+    A method of a trait of the repository is reached in every impl once it is reached in one or in the trait;
+    an impl of a trait of the kit is reached with its type.
+    A method counts only once a reached function outside its type names the type: who never names it has no value of it.
+    """
+    everything = [*texts.listed(), *texts.listed("checks/tests/crates.txt")]
+    programs = [crate for crate in everything if tests or crate in PROGRAMS]
+    inside = frozenset().union(*(texts.below(crate) for crate in programs))
+    functions = [f for f in everywhere() if f.crate in inside]
+    by_name = collections.defaultdict(list)
+    for f in functions:
+        by_name[f.name].append(f)
+    types = {f.owner for f in functions if f.owner} - set(aliases())
+    found, named, parked = {}, set(), collections.defaultdict(list)
+    waits = [
+        f for f in functions
+        if f.name == "main" and f.crate in programs or f.trait and f.trait not in own_traits() or tests and ("#[test]" in f.marks or is_law(f))
+    ]
+    while waits:
+        f = waits.pop()
+        if id(f) in found:
+            continue
+        if f.owner in own_types() and f.owner not in named and not f.declares:
+            parked[f.owner].append(f)
+            continue
+        found[id(f)] = f
+        text = texts.uncommented(f.path)[f.first:f.last]
+        for word in set(TYPE_WORD.findall(text)) - {f.owner}:
+            for name in aliases().get(word, {word}):
+                named.add(name)
+                waits += parked.pop(name, ())
+        waits += called(f, text, by_name, types) if f.body else ()
+        if f.trait in own_traits():
+            waits += [other for other in by_name[f.name] if other.trait == f.trait]
+    return found
+
+
+@functools.cache
+def own_types():
+    return {match[1] for path in texts.sources() for match in re.finditer(r"\b(?:struct|enum)\s+(\w+)", texts.code(path))}
+
+
+@functools.cache
+def own_traits():
+    return {match[1] for path in texts.sources() for match in re.finditer(r"\btrait\s+(\w+)", texts.code(path))}
+
+
+@functools.cache
+def aliases():
+    """Names that stand for types: each with the words of what it stands for."""
+    found = collections.defaultdict(set)
+    for path in texts.sources():
+        for match in re.finditer(r"(?m)^(?:pub(?:\([^)]*\))? )?type (\w+)([^;]*);", texts.code(path)):
+            found[match[1]] |= set(TYPE_WORD.findall(match[2])) | {match[1]}
+    return found
+
+
+def called(function, text, by_name, types):
+    """The functions that a body may mean by its names."""
+    sees = texts.below(function.crate)
+    for match in CALL.finditer(text):
+        name = match["name"]
+        if name not in by_name:
+            continue
+        for other in by_name[name]:
+            if match["before"] == ".":
+                fits = other.owner and match["opens"]
+            elif match["owner"] and match["owner"][0].isupper():
+                owner = function.owner if match["owner"] == "Self" else match["owner"]
+                fits = other.owner and (owner not in types or owner in (other.owner, other.trait) or len(owner) <= 2)
+            else:
+                fits = not other.owner and (match["opens"] or not match["before"] or match["owner"])
+            if fits and (other.crate in sees or other.trait):
+                yield other
+
+
+def unreached():
+    """Public functions that the programs don't reach, and all that tests, cases and laws don't reach either: (function, whether nothing calls it).
+
+    Of a method of a trait of the repository the trait's own declaration is told, once.
+    """
+    by_program, by_anything = reached(), reached(True)
+    for f in everywhere():
+        if is_law(f) or is_beside(f.crate) or f.trait in own_traits() and not f.declares:
+            continue
+        if id(f) not in by_anything:
+            yield f, True
+        elif f.public and id(f) not in by_program:
+            yield f, False
+
+
+def lint():
+    """Each public function is reached from `board_server` or `page_program`, and each other one by tests or cases at least,
+    or it stands in checks/unreached.txt with a reason."""
+    reasons = texts.entries("unreached.txt")
+    titles = set()
+    for f, is_dead in unreached():
+        titles.add(f.title)
+        if f.title not in reasons:
+            who = "nothing calls" if is_dead else "no program reaches"
+            yield texts.shown(f.path), f.line, f"{who} {f.title}: remove it, or give checks/unreached.txt a reason"
+    known = {f.title for f in everywhere()}
+    for title, (reason, place) in reasons.items():
+        if "::" in title and title not in titles:
+            yield *place.split(":"), f"{title} is {'reached now' if title in known else 'gone'}: remove this line"
+        elif not reason:
+            yield *place.split(":"), f"{title} has no reason"
