@@ -53,13 +53,9 @@ def made(crate, stamp):
             print(f"Still building, {time.time() - began:.0f} seconds.", flush=True)
 
     print("Building the server without proofs, once: a minute or two.", flush=True)
-    teller = threading.Thread(target=tells)
-    teller.start()
-    try:
-        why = build(crate.folder, crate.name, libraries([crate]), f"{KEPT}/board_server", sanitizes=False)
-    finally:
-        over.set()
-        teller.join()
+    threading.Thread(target=tells, daemon=True).start()
+    why = build(crate.folder, crate.name, libraries([crate]), f"{KEPT}/board_server", sanitizes=False)
+    over.set()
     if not why:
         with open(f"{KEPT}/stamp", "w", encoding="utf-8") as file:
             file.write(stamp + hashlib.sha256(content(f"{KEPT}/board_server")).hexdigest())
