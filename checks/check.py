@@ -132,12 +132,12 @@ def main(words):
     os.makedirs(KEPT, exist_ok=True)
     outcome = Outcome()
     if "lint" in wanted:
-        outcome.tell("lint", *run("lint", ["checks/lint.py"], 120)[:2])
+        outcome.tell("lint", *run("lint", ["checks/lint.py"], 600)[:2])
     checks = [name for name in CHECKS if name in wanted]
     if "cases" in wanted or checks and not program:
         if os.path.exists(PROGRAMS):
             os.remove(PROGRAMS)
-        outcome.tell("cases", *run("cases", ["checks/quick_test.py", "programs", "--keep", KEPT], 1200)[:2])
+        outcome.tell("cases", *run("cases", ["checks/quick_test.py", "programs", "--keep", KEPT], 1800)[:2])
         program = program or PROGRAMS
     if checks and not os.path.exists(program):
         for name in checks:

@@ -4,7 +4,7 @@ import functools
 import re
 
 from . import texts
-from .functions import everywhere
+from .functions import everywhere, parts
 
 PROGRAMS = ("board_server", "page_program")
 CALL = re.compile(r"(?P<before>\.|(?:\b(?P<owner>\w+)(?:::<[^()]*?>|<[^()]*?>)?::)|)(?P<name>\b[a-z_]\w*)(?P<opens>\s*(?:::<[^;{}]*?>)?\()?")
@@ -84,23 +84,47 @@ def aliases():
     return found
 
 
+USE = re.compile(r"(?m)^[ \t]*(?:pub(?:\([^)]*\))? )?use ([^;]+);")
+
+
+def flat(text):
+    """The paths of a `use`: `a::{b, c::d}` is `a::b` and `a::c::d`."""
+    before, brace, rest = text.partition("{")
+    if not brace:
+        return [text.strip()]
+    return [before.strip() + path for part in parts(rest.rpartition("}")[0]) for path in flat(part)]
+
+
+@functools.cache
+def brought(path):
+    """The names that a file brings in: each with the crate that it comes from, and its name there."""
+    found = {}
+    for match in USE.finditer(texts.code(path)):
+        for item in flat(match[1]):
+            whole, _, here = item.partition(" as ")
+            words = whole.split("::")
+            crate = texts.crate_of(path) if words[0] in ("crate", "self", "super") else words[0]
+            found[here.strip() or words[-1].strip()] = crate, words[-1].strip()
+    return found
+
+
 def called(function, text, by_name, types):
     """The functions that a body may mean by its names."""
     sees = texts.below(function.crate)
+    names = brought(function.path)
     for match in CALL.finditer(text):
-        name = match["name"]
-        if name not in by_name:
-            continue
-        for other in by_name[name]:
-            if match["before"] == ".":
-                fits = other.owner and match["opens"]
-            elif match["owner"] and match["owner"][0].isupper():
-                owner = function.owner if match["owner"] == "Self" else match["owner"]
-                fits = other.owner and (owner not in types or owner in (other.owner, other.trait) or len(owner) <= 2)
-            else:
-                fits = not other.owner and (match["opens"] or not match["before"] or match["owner"])
-            if fits and (other.crate in sees or other.trait):
-                yield other
+        name, owner = match["name"], match["owner"]
+        if match["before"] == ".":
+            if match["opens"]:
+                yield from (f for f in by_name[name] if f.owner and (f.crate in sees or f.trait))
+        elif owner and owner[0].isupper():
+            owner = function.owner if owner == "Self" else names.get(owner, ("", owner))[1]
+            yield from (f for f in by_name[name] if f.owner and (owner not in types or owner in (f.owner, f.trait)) and (f.crate in sees or f.trait))
+        else:
+            crate, there = names.get(owner or name, (owner if owner in texts.listed() else "", name))
+            free = [f for f in by_name[name if owner else there] if not f.owner and f.crate in sees]
+            near = [] if owner else [f for f in free if f.path == function.path]
+            yield from near or [f for f in free if f.crate == crate] or (free if match["opens"] else ())
 
 
 def unreached():
