@@ -48,8 +48,8 @@ def main(names):
         came.setdefault(it, "NOT TRIED")
     wrong = [f"{edit}: {kind}" for edit, kind in came.items() if kind != "refused"]
     print("".join(f"{it}\n" for it in wrong), end="")
-    many = {kind: [*came.values()].count(kind) for kind in ("refused", "NOT REFUSED", "BAD EDIT", "NOT TRIED")}
-    print(f"{len(edits)} edits: {', '.join(f'{many[kind]} {kind.lower()}' for kind in many)}")
+    many = [*came.values()].count
+    print(f"{len(edits)} edits: {many('refused')} refused, {many('NOT REFUSED')} not refused, {many('BAD EDIT')} bad, {many('NOT TRIED')} not tried")
     return 1 if wrong or status or not edits else 0
 
 
