@@ -57,4 +57,5 @@ def wide():
             yield *first[crate], f"{crate} has {count} lines above {MOST_COLUMNS} columns in specs/, and checks/wide.txt allows {most}: the first is here"
     for crate, (most, place) in budget.items():
         if counts[crate] < int(most):
-            yield *place.split(":"), f"{crate} has {counts[crate]} wide lines in specs/ now: lower its number" + ("" if counts[crate] else ", or remove this line")
+            what = "lower its number" if counts[crate] else "remove this line"
+            yield *place.split(":"), f"{crate} has {counts[crate]} wide lines in specs/ now: {what}"
