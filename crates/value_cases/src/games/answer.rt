@@ -57,21 +57,21 @@ pub fn print_drawn(rt: &HostRuntime, words: u32, events: &[Event]) -> io::Result
         if place > 0 {
             print!(rt; ", ")?;
         }
-        print_event(rt, events[place])?;
+        print_event(rt, &events[place])?;
     }
     println!(rt; "]")
 }
 
-fn print_event(rt: &HostRuntime, event: Event) -> io::Result<()> {
+fn print_event(rt: &HostRuntime, event: &Event) -> io::Result<()> {
     match event {
         Event::EndTurn { to: None } => print!(rt; "EndTurn {{ to: None }}"),
-        Event::EndTurn { to: Some(seat) } => print_numbered(rt, "EndTurn", seat),
+        Event::EndTurn { to: Some(seat) } => print_numbered(rt, "EndTurn", *seat),
         Event::EndPhase => print!(rt; "EndPhase"),
         Event::SetPhase { to } => print_numbered(rt, "SetPhase", to.place()),
         Event::EndStage => print!(rt; "EndStage"),
         Event::SetStage { to } => print_numbered(rt, "SetStage", to.place()),
         Event::SetActive { spec } => print_numbered(rt, "SetActive", spec.place()),
-        Event::EndGame { outcome } => print_outcome(rt, "EndGame { outcome: ", outcome, " }"),
+        Event::EndGame { outcome } => print_outcome(rt, "EndGame { outcome: ", *outcome, " }"),
     }
 }
 
