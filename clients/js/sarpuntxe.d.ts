@@ -12,9 +12,15 @@ export type Refusal = "bad-message" | "no-game" | "full" | "bad-seats" | "no-sta
   | "unauthorized" | "already-attached" | "not-attached" | "not-a-bot";
 export type EventName = "endTurn" | "setPhase" | "setStage" | "endPhase" | "endStage" | "endGame";
 
-/** A move of the game. `args` is null in the log where the arguments are hidden from this seat. */
 export interface Move {
-  args: (number | string)[] | null;
+  args: (number | string)[];
+  kind: "move";
+  move: string;
+}
+
+/** A move in the log whose arguments are hidden from this seat. */
+export interface HiddenMove {
+  args: null;
   kind: "move";
   move: string;
 }
@@ -64,7 +70,7 @@ export interface Context {
 
 /** An accepted action. Number, phase and turn are those before it. */
 export interface Entry {
-  act: Act;
+  act: Act | HiddenMove;
   number: number;
   phase: string | null;
   seat: number;
