@@ -1,11 +1,15 @@
 #!/bin/sh
 # Serves the page and its matches to everybody who reaches this machine, until it is stopped by Ctrl-C.
 #   host.sh [PORT]     the port is 7000 if none is given
-# Matches are kept in the folder `rooms` beside this file, or in SARPUNTXE_ROOMS, and are there again at the next start.
+# Matches are kept in the folder `rooms` beside this file (if it is installed: in `sarpuntxe-rooms` at home), or in SARPUNTXE_ROOMS,
+# and are there again at the next start.
 # Further options of board_server stand in SARPUNTXE_OPTIONS, as SARPUNTXE_OPTIONS="--silence 900".
 here=$(cd "$(dirname "$0")" && pwd) || exit 1
 port=${1:-7000}
-rooms=${SARPUNTXE_ROOMS:-$here/rooms}
+case $here in
+  /usr/*) rooms=${SARPUNTXE_ROOMS:-$HOME/sarpuntxe-rooms} ;;
+  *) rooms=${SARPUNTXE_ROOMS:-$here/rooms} ;;
+esac
 
 first() {
   for one in "$@"; do [ -e "$one" ] && { echo "$one"; return; }; done
