@@ -289,9 +289,9 @@ export class Match {
     p.result = this.#result();
     p.lead = part("div", { class: "lead" }, this.#seats.join, p.result);
     p.table = part("section", { class: "table", "aria-label": "Table" }, this.#seats.element, p.watching, p.board);
+    p.back = part("div", { class: "choices back" }, p.undo, p.redo);
     p.bar = part("section", { class: "bar-of-turn", "aria-label": "Your move" }, p.alert, p.note,
-      part("div", { class: "strip" }, p.turn, p.retry), p.actions, part("div", { class: "choices back" }, p.undo, p.redo));
-    p.back = p.bar.querySelector(".back");
+      part("div", { class: "strip" }, p.turn, p.retry), part("div", { class: "controls" }, p.actions, p.back));
     p.inviting = part("div", {});
     p.tabs = tabs("About the match", [
       { id: "moves", label: "Moves", part: part("div", {}, this.#log.element) },
@@ -315,8 +315,8 @@ export class Match {
     const warning = leadsNobodyHere(address)
       ? [element("p", { class: "warning" }, "Others can't open this address: use this machine's address, start with LISTEN=0.0.0.0:7000")] : [];
     const words = element("div", { class: "words" }, element("p", { class: "quiet" }, "Whoever has this link can take a free seat, or watch."),
-      ...warning, link, element("div", { class: "choices" }, copy, ...share));
-    return section("inviting", "Invite", { class: "panel invite" }, words, ...(code ? [squares(code, "The link as a QR code")] : []));
+      ...warning, link);
+    return section("inviting", "Invite", { class: "panel invite" }, words, element("div", { class: "choices" }, copy, ...share), ...(code ? [squares(code, "The link as a QR code")] : []));
   }
 
   /** The part that says how the match ended, and what comes next. */
