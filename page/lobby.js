@@ -5,7 +5,7 @@ import { button, element, keepingFocus, nameField, section, setText, unseen } fr
 import { gameNamed } from "./boards/index.js";
 import { forgetSeat, seatIn } from "./keys.js";
 import * as lines from "./lines.js";
-import { beginMatch } from "./seats.js";
+import { beginMatch, isBot } from "./seats.js";
 import { listed, plain } from "./words.js";
 
 const REFRESH = 4_000;
@@ -166,6 +166,7 @@ export class Lobby {
   #openWords({ match, players, over }) {
     if (over) return "See the result";
     if (seatIn(this.#place.address, match)) return "Play on";
-    return players.some(({ name }) => name === null) ? "Join" : "Watch";
+    if (players.some(({ name }) => name === null)) return "Join";
+    return players.some(({ name }) => isBot(name)) ? "Play a bot" : "Watch";
   }
 }

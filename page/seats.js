@@ -5,7 +5,7 @@ import * as lines from "./lines.js";
 import { plain } from "./words.js";
 
 /** Whether a seat's name is one that the server's bots have. A person may have it too: then the server refuses to ask. */
-const isBot = (name) => name !== null && /^bot\d{1,2}$/.test(name);
+export const isBot = (name) => name !== null && /^bot\d{1,2}$/.test(name);
 
 /** Makes a match and sits down at its first seat. `ask(line)` answers the server's line. The answer is that to the making. */
 export async function beginMatch(ask, address, game, seats, name) {
