@@ -101,7 +101,8 @@ export function keepingFocus(within, run, next) {
   const had = document.activeElement;
   const here = had !== null && had !== document.body && within.contains(had);
   run();
-  if (here && (!had.isConnected || !had.getClientRects().length) && [had, document.body, null].includes(document.activeElement)) next()?.focus({ preventScroll: true });
+  const lost = here && (!had.isConnected || !had.getClientRects().length);
+  if (lost && [had, document.body, null].includes(document.activeElement)) next()?.focus({ preventScroll: true });
 }
 
 /** A picture of squares, dark ones on a light ground, with the quiet edge that a code needs. */
@@ -110,9 +111,8 @@ export function squares(rows, label) {
   const path = document.createElementNS("http://www.w3.org/2000/svg", "path");
   const edge = 4, size = rows.length + 2 * edge;
   path.setAttribute("d", rows.flatMap((row, y) => row.map((dark, x) => dark ? `M${x + edge} ${y + edge}h1v1h-1z` : "")).join(""));
-  for (const [name, value] of [["viewBox", `0 0 ${size} ${size}`], ["class", "qr"], ["role", "img"], ["aria-label", label], ["shape-rendering", "crispEdges"]]) {
-    picture.setAttribute(name, value);
-  }
+  const said = { "viewBox": `0 0 ${size} ${size}`, "class": "qr", "role": "img", "aria-label": label, "shape-rendering": "crispEdges" };
+  for (const [name, value] of Object.entries(said)) picture.setAttribute(name, value);
   picture.append(path);
   return picture;
 }

@@ -17,7 +17,8 @@ export class Lobby {
     this.#place = place;
     this.#alert = element("p", { class: "alert", role: "alert" });
     this.#list = element("div", { class: "games", id: "games", tabIndex: -1 });
-    const intro = element("p", { class: "quiet" }, "Write your name, make a match and send its link to your friends. Or take a free seat in one that is there.");
+    const intro = element("p", { class: "quiet" },
+      "Write your name, make a match and send its link to your friends. Or take a free seat in one that is there.");
     place.main.replaceChildren(element("h1", { tabIndex: -1 }, "Matches"), intro, this.#name.element, this.#alert, this.#list);
     document.title = "Sarpuntxe";
     // A connection takes one of the server's few places, so a lobby that nobody sees gives its place back.
@@ -151,8 +152,10 @@ export class Lobby {
   /** Gives up the own seat of a match that is over. Once all its players have, the match is gone, and its room is free. */
   async #clear(match) {
     const kept = seatIn(this.#place.address, match);
-    if (!kept || !await this.#ask(lines.leave(match, kept.seat, kept.key))) return;
+    const answer = kept && await this.#connection?.ask(lines.leave(match, kept.seat, kept.key)).catch(() => null);
+    if (!answer || answer.type === "again") return;
     forgetSeat(this.#place.address, match);
+    setText(this.#alert, answer.type === "refused" ? lines.inWords(answer) : "");
     this.#refresh();
   }
 

@@ -307,7 +307,8 @@ export class Match {
   /** The part with the match's link: whole, to copy, to share, and as a code for a phone's camera. */
   #invite() {
     const address = linkTo(this.#match);
-    const link = element("textarea", { class: "address", readOnly: true, value: address, rows: Math.ceil(address.length / LINK_LINE), "aria-label": "Link to this match" });
+    const rows = Math.ceil(address.length / LINK_LINE);
+    const link = element("textarea", { class: "address", readOnly: true, value: address, rows, "aria-label": "Link to this match" });
     link.addEventListener("focus", () => link.select());
     const copy = button("Copy the link", () => this.#copy(link, copy), { id: "copy" });
     const share = navigator.share ? [button("Share", () => navigator.share({ url: address, title: this.#game.title }).catch(() => {}), { id: "share" })] : [];
@@ -316,7 +317,8 @@ export class Match {
       ? [element("p", { class: "warning" }, "Others can't open this address: use this machine's address, start with LISTEN=0.0.0.0:7000")] : [];
     const words = element("div", { class: "words" }, element("p", { class: "quiet" }, "Whoever has this link can take a free seat, or watch."),
       ...warning, link);
-    return section("inviting", "Invite", { class: "panel invite" }, words, element("div", { class: "choices" }, copy, ...share), ...(code ? [squares(code, "The link as a QR code")] : []));
+    return section("inviting", "Invite", { class: "panel invite" }, words, element("div", { class: "choices" }, copy, ...share),
+      ...(code ? [squares(code, "The link as a QR code")] : []));
   }
 
   /** The part that says how the match ended, and what comes next. */

@@ -6,12 +6,14 @@ const here = (path) => new URL(path, import.meta.url);
 
 /** Everything to press or fill in has a name, and one that contains what is shown; and no two of a page have the same. */
 const NAMES = `(() => {
-  const shown = [...document.querySelectorAll("button, a, input, select, textarea, summary, section, [role=img], [role=group]")].filter((one) => one.getClientRects().length);
+  const shown = [...document.querySelectorAll("button, a, input, select, textarea, summary, section, [role=img], [role=group]")]
+    .filter((one) => one.getClientRects().length);
   const plain = (words) => words.replace(/\\s+/g, " ").trim();
   const named = shown.map((one) => {
     const by = one.getAttribute("aria-labelledby");
     const label = one.labels?.[0]?.textContent;
-    const words = by ? document.getElementById(by)?.textContent : one.getAttribute("aria-label") ?? label ?? (/^(SECTION|DIV)$/.test(one.tagName) ? "" : one.textContent);
+    const own = /^(SECTION|DIV)$/.test(one.tagName) ? "" : one.textContent;
+    const words = by ? document.getElementById(by)?.textContent : one.getAttribute("aria-label") ?? label ?? own;
     return { tag: one.tagName, name: plain(words ?? ""), seen: /^(BUTTON|A|SUMMARY)$/.test(one.tagName) ? plain(one.innerText) : "" };
   });
   const twice = named.filter(({ tag, name }, at) => named.some((other, place) => place > at && other.tag === tag && other.name === name));
@@ -30,7 +32,8 @@ const CONTRAST = `(([front, ground]) => {
   const light = (name) => {
     box.className = "";
     box.style.color = name.startsWith("#") ? name : "var(--" + name + ")";
-    const parts = getComputedStyle(box).color.match(/[\\d.]+/g).slice(0, 3).map((part) => part / 255).map((part) => part <= .04045 ? part / 12.92 : ((part + .055) / 1.055) ** 2.4);
+    const parts = getComputedStyle(box).color.match(/[\\d.]+/g).slice(0, 3).map((part) => part / 255)
+      .map((part) => part <= .04045 ? part / 12.92 : ((part + .055) / 1.055) ** 2.4);
     return .2126 * parts[0] + .7152 * parts[1] + .0722 * parts[2];
   };
   const [a, b] = [light(front), light(ground)].sort((one, other) => other - one);
@@ -38,10 +41,12 @@ const CONTRAST = `(([front, ground]) => {
   return (a + .05) / (b + .05);
 })`;
 const seats = [...Array(8).keys()].map((at) => `seat${at}`);
-const TEXTS = [["ink", "ground"], ["ink", "sheet"], ["ink", "glow"], ["quiet", "ground"], ["quiet", "sheet"], ["quiet", "glow"], ["main", "ground"], ["main", "sheet"],
-  ["on-main", "main"], ["wrong", "ground"], ["wrong", "sheet"], ["wrong", "wrong-sheet"], ["gold", "sheet"], ["on-felt", "felt"], ["card-red", "card"], ["card-black", "card"],
+const TEXTS = [["ink", "ground"], ["ink", "sheet"], ["ink", "glow"], ["quiet", "ground"], ["quiet", "sheet"], ["quiet", "glow"], ["main", "ground"],
+  ["main", "sheet"], ["on-main", "main"], ["wrong", "ground"], ["wrong", "sheet"], ["wrong", "wrong-sheet"], ["gold", "sheet"], ["on-felt", "felt"],
+  ["card-red", "card"], ["card-black", "card"],
   ...seats.map((seat) => ["on-seat", seat])];
-const MARKS = [["control", "ground"], ["control", "sheet"], ["main", "sheet"], ["main", "glow"], ["gold", "sheet"], ["on-felt", "felt"], ["#ffd27a", "felt"], ["wrong", "sheet"],
+const MARKS = [["control", "ground"], ["control", "sheet"], ["main", "sheet"], ["main", "glow"], ["gold", "sheet"], ["on-felt", "felt"],
+  ["#ffd27a", "felt"], ["wrong", "sheet"],
   ["seat0", "ground"], ["seat1", "ground"], ["seat0", "glow"], ["seat1", "glow"], ["card-black", "card"]];
 
 export async function access(scene) {
@@ -67,7 +72,8 @@ export async function access(scene) {
   const { match } = await session.ask({ game: "pig", seats: 2, type: "create" });
   await ann.until(`document.querySelector("#matches-pig [data-match='${match}'] .open")?.getAttribute("aria-label")`, `Join: Pig, match ${match}`);
   same(await ann.value(NAMES), NONE, "the names in the lobby");
-  same(await ann.value(`[...document.querySelectorAll("section")].map((one) => document.getElementById(one.getAttribute("aria-labelledby"))?.tagName)`), Array(6).fill("H2"), "each part has a heading");
+  const headings = `[...document.querySelectorAll("section")].map((one) => document.getElementById(one.getAttribute("aria-labelledby"))?.tagName)`;
+  same(await ann.value(headings), Array(6).fill("H2"), "each part has a heading");
 
   // The first Tab reaches the way past the head.
   await ann.value("document.activeElement.blur(), scrollTo(0, 0)");

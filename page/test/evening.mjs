@@ -13,8 +13,8 @@ async function wantsAName(page, press) {
     await page.type("#player-name", name);
     await press();
     await page.sees("#player-name-wrong", words);
-    same(await page.value(`[document.activeElement.id, document.activeElement.getAttribute("aria-invalid"), document.activeElement.getAttribute("aria-describedby")]`),
-      ["player-name", "true", "player-name-wrong"], "the field has the focus, and says that it is wrong");
+    const field = `["id", "aria-invalid", "aria-describedby"].map((name) => document.activeElement.getAttribute(name))`;
+    same(await page.value(field), ["player-name", "true", "player-name-wrong"], "the field has the focus, and says that it is wrong");
   }
 }
 
@@ -30,8 +30,8 @@ export async function wayIn(scene) {
   const { link } = await makeMatch(ann, address, "pig", 3, "ann");
   await turn(ann, "Waiting for a second player. You may begin. Roll the die.");
   same(await leads(ann), ["Invite"], "the invitation stands first");
-  same(await ann.value(`(({ scrollWidth, clientWidth, scrollHeight, clientHeight }) => [scrollWidth <= clientWidth, scrollHeight <= clientHeight])(document.querySelector(".address"))`),
-    [true, true], "the link is whole");
+  const fits = `["Width", "Height"].map((way) => document.querySelector(".address")["scroll" + way] <= document.querySelector(".address")["client" + way])`;
+  same(await ann.value(fits), [true, true], "the link is whole");
   const alone = new URL(address).hostname === "127.0.0.1";
   same(await ann.texts(".warning"), alone ? ["Others can't open this address: use this machine's address, start with LISTEN=0.0.0.0:7000"] : [], "the warning");
   await ann.value(`document.querySelector(".address").focus()`);
@@ -72,6 +72,7 @@ export async function wayOut(scene) {
   await bob.goto(link);
   await sit(bob, 1, "bob");
   await ann.click("Boast 4");
+  await ann.until((page) => page.texts(".scores li").then(([first]) => first), "1 ann has yet to choose boasts 4", "the boast");
   for (const [page, bid] of [[ann, "30"], [bob, "20"]]) {
     await page.type("#bid", bid);
     await page.click("Seal the bid");
@@ -83,7 +84,8 @@ export async function wayOut(scene) {
     same(await page.texts(".result .chips li"), ["1 ann 30", "2 bob 20"], "the scores");
     same(await page.texts(".scores li"), ["1 ann 30 boasts 4", "2 bob 20 boasts nothing"], "the last position");
     await page.click("About");
-    same(await page.texts("#undo, #redo, #rename, #give-up, #new-name, .actions button, .boasts button, #bid, #invite-tab, .turn"), [], "what can't be used any more is gone");
+    const dead = "#undo, #redo, #rename, #give-up, #new-name, .actions button, .boasts button, #bid, #invite-tab, .turn";
+    same(await page.texts(dead), [], "what can't be used any more is gone");
     same(await page.texts(".result button, .result a"), ["New match of the same game", "Back to the lobby"], "what comes next");
   }
 
