@@ -290,7 +290,7 @@ export class Match {
     p.lead = part("div", { class: "lead" }, this.#seats.join, p.result);
     p.table = part("section", { class: "table", "aria-label": "Table" }, this.#seats.element, p.watching, p.board);
     p.back = part("div", { class: "choices back" }, p.undo, p.redo);
-    p.bar = part("section", { class: "bar-of-turn", "aria-label": "Your move" }, p.alert, p.note,
+    p.bar = part("section", { class: "bar-of-turn", "aria-label": "Turn" }, p.alert, p.note,
       part("div", { class: "strip" }, p.turn, p.retry), part("div", { class: "controls" }, p.actions, p.back));
     p.inviting = part("div", {});
     p.tabs = tabs("About the match", [
