@@ -102,7 +102,7 @@ export async function cuts(scene) {
 
   // The server answers nothing any more: the page notices by itself, and connects anew.
   const answered = relay.connections;
-  relay.onAsked = () => {};
+  relay.onAsked = (line, { pass }) => { if (relay.connections > answered) pass(line); };
   await ann.until(async () => relay.connections > answered, true, "a new connection after a long silence");
   relay.onAsked = (line, { pass }) => pass(line);
   await ready(ann);

@@ -71,6 +71,8 @@ export async function wayOut(scene) {
   const { match, link } = await makeMatch(ann, address, "blind-bid", 2, "ann");
   await bob.goto(link);
   await sit(bob, 1, "bob");
+  // The invitation goes once all sit, and the board moves up.
+  await ann.until(leads, [], "nothing stands before the board");
   await ann.click("Boast 4");
   await ann.until((page) => page.texts(".scores li").then(([first]) => first), "1 ann has yet to choose boasts 4", "the boast");
   for (const [page, bid] of [[ann, "30"], [bob, "20"]]) {

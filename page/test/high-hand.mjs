@@ -64,13 +64,13 @@ export async function highHand(scene) {
   await shows(7);
   const laid = `laid the ${held[0][1].replace("Lay the ", "")}`;
   same((await log(eve)).slice(0, 3), [`ann did again: ${laid}`, `ann took back: ${laid}`, `ann ${laid}`], "the log");
-  await bob.reload();
-  await bob.until(hand, held[1], "bob's hand after a reload");
   await ann.click("End the turn");
   await bob.sees(".turn", "Your turn. Lay a card of your hand.");
   await bob.click(held[1][0]);
   await shows(9);
   if (scene.pictures) await bob.picture(`${scene.pictures}/page-high-hand.png`, { width: 1000, height: 780 });
+  await bob.reload();
+  await bob.until(hand, [held[1][1]], "bob's hand after a reload");
   await bob.click("End the turn");
   await shows(10);
   const [first, second] = [held[0][1], held[1][0]].map((card) => card.replace("Lay the ", ""));

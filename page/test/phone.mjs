@@ -61,6 +61,7 @@ export async function phone(scene) {
   await ann.goto(address);
   await ann.until((page) => page.texts(".game").then((all) => all.length), 6, "games");
   await isForPhones(ann, "the lobby");
+  await ann.value(`document.getElementById("player-name").value = "ann"`);
   if (scene.pictures) await ann.picture(`${scene.pictures}/page-lobby.png`, { width: 1000, height: 780 });
   await done(ann);
 }
