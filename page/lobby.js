@@ -90,12 +90,13 @@ export class Lobby {
     form.addEventListener("submit", (event) => { event.preventDefault(); this.#create(name, Number(seats.value)); });
     const matches = element("ul", { class: "matches", id: `matches-${name}` });
     const none = element("p", { class: "quiet" }, "No match is on.");
-    const summary = element("summary", {});
+    const count = element("span");
+    const summary = element("summary", {}, count, unseen(` of ${game.title}`));
     const finished = element("ul", { class: "matches", id: `finished-${name}` });
     const folded = element("details", { hidden: true }, summary, finished);
     const whole = section(`game-${name}`, game.title, { class: "game" }, element("p", { class: "quiet" }, game.rules), form, none, matches, folded);
     whole.querySelector("h2").prepend(element("span", { class: "glyph", "aria-hidden": "true" }, game.glyph));
-    return { section: whole, title: game.title, matches, none, finished, folded, summary };
+    return { section: whole, title: game.title, matches, none, finished, folded, count };
   }
 
   /** Makes a match and sits down in it, once there is a name. */
@@ -107,10 +108,10 @@ export class Lobby {
     if (answer) this.#place.go(answer.match);
   }
 
-  #showMatches({ section: whole, title, matches, none, finished, folded, summary }, rows) {
+  #showMatches({ section: whole, title, matches, none, finished, folded, count }, rows) {
     const over = rows.filter((row) => row.over), on = rows.filter((row) => !row.over);
     none.hidden = on.length > 0;
-    setText(summary, `${over.length} finished`);
+    setText(count, `${over.length} finished`);
     keepingFocus(whole, () => {
       folded.hidden = over.length === 0;
       this.#showRows(matches, on, title);

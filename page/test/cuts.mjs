@@ -29,7 +29,7 @@ export async function cuts(scene) {
   await turn(ann, "Connection lost – reconnecting …");
   const controls = `[...document.querySelectorAll(".bar-of-turn button, .board button, .own-seat button")].filter((one) => one.id !== "retry")
     .map((one) => one.getAttribute("aria-disabled"))`;
-  same(new Set(await ann.value(controls)), new Set(["true"]), "all controls are off");
+  same([...new Set(await ann.value(controls))], ["true"], "all controls are off");
   same((await ann.value(controls)).length >= 6, true, "there are controls");
   same(await ann.value("document.title"), "Connection lost · Countdown", "the title says so too");
   const asked = relay.asked.length;
