@@ -27,8 +27,8 @@ export async function cuts(scene) {
   relay.open = false;
   relay.cut();
   await turn(ann, "Connection lost – reconnecting …");
-  const controls = `[...document.querySelectorAll(".bar-of-turn button, .board button, .own-seat button")].filter((one) => one.id !== "retry")
-    .map((one) => one.getAttribute("aria-disabled"))`;
+  const controls = `[...document.querySelectorAll(".bar-of-turn button:not(#retry), .board button, #rename, #give-up, #give-up-really")]
+    .filter((one) => one.getClientRects().length || one.closest(".own-seat")).map((one) => one.getAttribute("aria-disabled"))`;
   same([...new Set(await ann.value(controls))], ["true"], "all controls are off");
   same((await ann.value(controls)).length >= 6, true, "there are controls");
   same(await ann.value("document.title"), "Connection lost · Countdown", "the title says so too");
