@@ -1,7 +1,8 @@
-// The socket to the server. It is made again when it breaks, after pauses that grow. One connection is one session of the server.
+// The socket to the server. It is made again when it breaks, after pauses that grow, and short ones while somebody looks.
+// One connection is one session of the server.
 import { isAnswer } from "./lines.js";
 
-const SHORTEST_PAUSE = 500, LONGEST_PAUSE = 30_000;
+const SHORTEST_PAUSE = 500, LONGEST_PAUSE = 5_000, LONGEST_PAUSE_HIDDEN = 30_000;
 const SLOW_TO_OPEN = 8_000;
 const SLOW_TO_ANSWER = 20_000;
 const AGAIN_PAUSE = 400, AGAIN_TIMES = 8;
@@ -13,7 +14,8 @@ const later = (pause) => new Promise((done) => setTimeout(done, pause));
 
 export class Connection {
   #address; #opened; #heard; #told;
-  #socket = null; #waiting = []; #failures = 0; #timers = new Set(); #ended = false;
+  #socket = null; #waiting = []; #failures = 0; #timers = new Set(); #ended = false; #pausing = null;
+  #onVisible = () => { if (!document.hidden && this.#pausing) this.connect(); };
 
   /**
    * `opened()` is called whenever a connection stands, `heard(line, text)` for each line that the server sends, and
@@ -22,6 +24,7 @@ export class Connection {
   constructor(address, { opened, heard, told }) {
     [this.#address, this.#opened, this.#heard, this.#told] = [address, opened, heard, told];
     this.#timers.add(setInterval(() => this.#check(), 2_000));
+    document.addEventListener("visibilitychange", this.#onVisible);
     this.connect();
   }
 
@@ -29,7 +32,8 @@ export class Connection {
   connect() {
     if (this.#ended) return;
     this.#drop();
-    clearTimeout(this.pause);
+    clearTimeout(this.#pausing);
+    this.#pausing = null;
     this.#told("connecting");
     let socket;
     try {
@@ -59,7 +63,8 @@ export class Connection {
   close() {
     this.#ended = true;
     this.#drop();
-    clearTimeout(this.pause);
+    clearTimeout(this.#pausing);
+    document.removeEventListener("visibilitychange", this.#onVisible);
     this.#timers.forEach(clearInterval);
   }
 
@@ -82,9 +87,10 @@ export class Connection {
   #broke() {
     this.#drop();
     if (this.#ended) return;
-    const pause = Math.min(LONGEST_PAUSE, SHORTEST_PAUSE * 2 ** this.#failures++) * (0.75 + Math.random() / 2);
+    const longest = document.hidden ? LONGEST_PAUSE_HIDDEN : LONGEST_PAUSE;
+    const pause = Math.min(longest, SHORTEST_PAUSE * 2 ** this.#failures++ * (0.75 + Math.random() / 2));
     this.#told("broken", Math.ceil(pause / 1_000));
-    this.pause = setTimeout(() => this.connect(), pause);
+    this.#pausing = setTimeout(() => this.connect(), pause);
   }
 
   /** Forgets the socket. What waits for an answer gets none. */

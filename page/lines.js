@@ -21,22 +21,22 @@ export const redo = () => ({ kind: "redo" });
 /** Whether a line answers the oldest line that has no answer yet. The others are the stream's own. */
 export const isAnswer = (line) => !["update", "change", "bye"].includes(line.type);
 
-/** How many bytes a text takes on a line, which is what names and captions are measured in. */
+/** How many bytes a text takes on a line, which is what names and captions are measured in. A plain letter takes one. */
 export const bytes = (text) => new TextEncoder().encode(text).length;
 
 const refusals = {
   "bad-message": "The server did not understand that.",
   "no-game": "The server does not play that game.",
-  "full": "The server has no room for another match. Try again when one has ended.",
+  "full": "The server has no room for another match now. Clear away a finished match of yours, or try again later.",
   "bad-seats": "The game is not played by so many.",
   "no-start": "The game could not begin.",
   "no-match": "There is no such match on this server.",
-  "no-seat": "The match has no such seat, or nobody sits there.",
+  "no-seat": "There is no such seat, or nobody sits there.",
   "seat-taken": "Somebody else has just taken that seat.",
-  "bad-name": "A name has 1 to 32 bytes, and no control characters.",
-  "unauthorized": "That seat is not yours: its key is another one.",
+  "bad-name": "Please write your name (up to 32 letters).",
+  "unauthorized": "That seat is no longer yours.",
   "already-attached": "This connection follows a match already.",
-  "not-attached": "This connection follows no match. It is made anew.",
+  "not-attached": "The connection had lost the match, and is made anew. Choose once more.",
   "not-a-bot": "A person plays that seat, or nobody: only a bot can be asked to leave it.",
 };
 
@@ -66,7 +66,7 @@ const byes = {
   lagging: "This page fell too far behind, and the server ended its session.",
 };
 
-const fields = { name: "A name has 1 to 32 bytes, and no control characters.", act: "A text has at most 64 bytes, and a number has to be whole." };
+const fields = { name: refusals["bad-name"], act: "That is too long, or no whole number." };
 
 /** What a line that is no success means in words: a refusal, a verdict `no`, an `again` or a `bye`. */
 export function inWords(line) {

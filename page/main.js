@@ -19,6 +19,7 @@ function show() {
   const match = matchNamed();
   const place = { address: serverAddress(), main: by("main"), told, go };
   by("home").href = linkTo(null);
+  setText(by("skip"), match === null ? "Skip to the games" : "Skip to the board");
   shown = match === null ? new Lobby(place) : new Match(place, match);
   scrollTo(0, 0);
 }
@@ -29,7 +30,7 @@ function told(state, seconds) {
     connecting: "Connecting …",
     silent: "The server does not answer yet: all its places may be taken.",
     open: "Connected",
-    broken: `The connection broke. Trying again in ${seconds} s.`,
+    broken: `Connection lost. Trying again in ${seconds} s.`,
     wrong: "This address cannot be connected to.",
     rests: "",
   };
@@ -39,6 +40,10 @@ function told(state, seconds) {
 }
 
 by("link-now").onclick = () => shown.connect();
+by("skip").onclick = (event) => {
+  event.preventDefault();
+  (by("board") ?? by("games") ?? by("main")).focus();
+};
 by("home").onclick = (event) => {
   if (event.button || event.ctrlKey || event.metaKey || event.shiftKey) return;
   event.preventDefault();

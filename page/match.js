@@ -1,25 +1,26 @@
 // A match: its stream, its board, who sits where, and what a player does.
-import { linkTo, mayGuess } from "./address.js";
+import { leadsNobodyHere, linkTo, mayGuess, qrCode } from "./address.js";
 import { gameNamed, isKnown } from "./boards/index.js";
 import { Connection, Cut } from "./connection.js";
-import { button, element, offer, setText } from "./elements.js";
+import { button, dot, element, keepingFocus, offer, section, setText, squares, tabs } from "./elements.js";
 import { startProgram } from "./guess.js";
-import { forgetSeat, keepSeat, seatIn } from "./keys.js";
+import { forgetSeat, keepSeat, lastName, seatIn } from "./keys.js";
 import * as lines from "./lines.js";
 import { Log } from "./log.js";
-import { Seats } from "./seats.js";
+import { beginMatch, Seats } from "./seats.js";
 import { View } from "./view.js";
-import { activeSeats, backAndForth, ending, plain, turnWords } from "./words.js";
+import { activeSeats, backAndForth, ending, nameFault, plain, turnWords } from "./words.js";
 
 const LOOK = 4_000;
 const PAUSE_AFTER_REFUSAL = 5_000;
+const LINK_LINE = 34;
 const STREAM = ["sync", "update", "change", "ok", "no", "again", "bye"];
 
 export class Match {
   #place; #match; #connection; #timer;
   #row = null; #gameName = null; #game = null; #board = null; #view = null; #seat = null; #key = null;
   #shown = null; #before = null; #acting = []; #program = mayGuess() ? startProgram() : Promise.resolve(null); #wanted = null; #turn = 0;
-  #parts = {}; #log = new Log(); #seats;
+  #lost = null; #table = null; #parts = {}; #log = new Log(); #seats;
 
   constructor(place, match) {
     [this.#place, this.#match] = [place, match];
@@ -58,14 +59,23 @@ export class Match {
     }
   }
 
-  /** Without a connection there is no view: what is shown may be old, and nothing can be asked for. */
+  /**
+   * Without a connection there is no view: what is shown may be old, and nothing can be asked for.
+   * Until there is something to show the head of the page says how the connection is, and then the turn's strip.
+   */
   #told(state, seconds) {
     if (state !== "open") {
       this.#shown = this.#view?.settled ?? this.#shown;
       this.#view = null;
     }
-    this.#place.told(state, seconds);
+    if (["broken", "silent", "wrong"].includes(state)) this.#lost = state;
+    this.#place.told(this.#parts.all.hidden ? state : "rests", seconds);
     this.#draw();
+  }
+
+  /** Whether the server cannot be asked now. */
+  get #off() {
+    return !this.#view?.shown;
   }
 
   /** A new connection: finds the match, and begins its stream from the kept seat, or as a spectator. */
@@ -75,7 +85,12 @@ export class Match {
     if (turn !== this.#turn) return;
     const found = await this.#look();
     const answer = found.type === "match" ? await this.#syncFromKept() : found;
-    if (answer.type === "sync") return this.#settle();
+    if (answer.type === "sync") {
+      this.#lost = null;
+      this.#place.told("rests");
+      this.#draw();
+      return this.#settle();
+    }
     this.#say(lines.inWords(answer));
     setTimeout(() => this.connect(), PAUSE_AFTER_REFUSAL);
   }
@@ -85,7 +100,7 @@ export class Match {
     const answer = await this.#sync(kept?.seat ?? null, kept?.key ?? null);
     if (!kept || answer.reason !== "unauthorized") return answer;
     forgetSeat(this.#place.address, this.#match);
-    this.#say("The seat that you had here is no longer yours. You look on.");
+    this.#say("The seat that you had here is no longer yours. You are watching now.");
     return this.#sync(null, null);
   }
 
@@ -129,6 +144,7 @@ export class Match {
     if (shown === this.#shown) return;
     this.#before = shown.number === this.#shown?.number + 1 ? this.#shown : null;
     this.#shown = shown;
+    if (this.#before) this.#log.learn(shown.log, this.#game.tell?.(shown.log.at(-1), this.#before, shown, (seat) => this.#name(seat)) ?? null);
     this.#draw();
   }
 
@@ -152,7 +168,7 @@ export class Match {
 
   /** Acts. Where actions are guessed a next one can follow before the server has judged the last. */
   #act(asked) {
-    if (!this.#view?.shown) return this.#say("There is no connection yet, and what you see may be old. Wait a moment.");
+    if (this.#off) return;
     if (this.#acting.length >= (this.#view.guesses ? this.#game.ahead : 1)) return;
     const view = this.#view, act = { asked, number: view.settled.number };
     if (this.#key === null) return;
@@ -165,7 +181,8 @@ export class Match {
       // A guess that is answered `again` was taken back, so that line isn't sent again.
       const answer = await this.#connection.ask(line, view.guesses ? 1 : undefined);
       this.#acting = this.#acting.filter((one) => one !== act);
-      if (answer.type !== "ok") this.#say(lines.inWords(answer));
+      const against = answer.reason === "invalid-move" ? this.#game.against?.(asked, this.#table) : null;
+      if (answer.type !== "ok") this.#say(against ?? lines.inWords(answer));
       if (answer.reason === "not-attached") this.connect();
       this.#draw();
     });
@@ -175,7 +192,7 @@ export class Match {
   #askFor(seat, name) {
     this.#request(lines.takeover(this.#match, seat), () => {
       this.#wanted = { seat, name };
-      this.#say("The bot of that seat was asked to leave it. You get the seat as soon as it is free.");
+      this.#note("The bot was asked for its seat. You sit down as soon as it has left.");
     });
   }
 
@@ -183,6 +200,7 @@ export class Match {
     const wanted = this.#wanted;
     if (!wanted || this.#row.players[wanted.seat]?.name !== null) return;
     this.#wanted = null;
+    this.#note("");
     if (this.#seat === null) this.#take(wanted.seat, wanted.name);
   }
 
@@ -204,6 +222,19 @@ export class Match {
     });
   }
 
+  /** Makes a new match of the same game, for as many, and goes there. */
+  #again() {
+    if (this.#off) return;
+    this.#say("");
+    const name = lastName().trim();
+    this.#guard(async () => {
+      const ask = (line) => this.#connection.ask(line);
+      const [game, seats] = [this.#gameName, this.#shown.ctx.numPlayers];
+      const made = nameFault(name) ? await ask(lines.create(game, seats)) : await beginMatch(ask, this.#place.address, game, seats, name);
+      if (made.type === "created") this.#place.go(made.match); else this.#say(lines.inWords(made));
+    });
+  }
+
   /** Sends a request, and does something if it is granted. A refusal is said, and the seats are looked at again. */
   #request(line, granted) {
     this.#say("");
@@ -220,8 +251,15 @@ export class Match {
 
   // ---- what is shown
 
+  /** Says what went wrong. */
   #say(words) {
     setText(this.#parts.all.hidden ? this.#parts.early : this.#parts.alert, words);
+    if (words) this.#note("");
+  }
+
+  /** Says what goes on, where nothing is wrong. */
+  #note(words) {
+    setText(this.#parts.note, words);
   }
 
   #name(seat) {
@@ -232,80 +270,163 @@ export class Match {
   /** Lays out the parts that every game has. */
   #lay() {
     const part = (tag, properties, ...children) => element(tag, properties, ...children);
-    const link = part("input", { class: "address", readOnly: true, value: linkTo(this.#match), "aria-label": "Link to this match" });
-    const copy = button("Copy the link", () => this.#copy(link, copy));
     this.#parts = {
       title: part("h1", { tabIndex: -1 }, "Match"),
-      rules: part("p", { class: "quiet" }),
+      rules: part("p", { class: "quiet rules" }),
+      about: part("p", {}),
       turn: part("p", { class: "turn", role: "status" }),
-      details: part("p", { class: "quiet details" }),
+      retry: button("Try now", () => this.connect(), { id: "retry", hidden: true }),
       alert: part("p", { class: "alert", role: "alert", id: "alert" }),
-      board: part("div", { class: "board", id: "board" }),
+      note: part("p", { class: "note", role: "status", id: "note" }),
+      board: part("div", { class: "board", id: "board", tabIndex: -1, role: "group", "aria-label": "The game" }),
+      actions: part("div", { class: "actions" }),
       undo: button("Undo", () => this.#act(lines.undo()), { id: "undo" }),
       redo: button("Redo", () => this.#act(lines.redo()), { id: "redo" }),
+      watching: part("p", { class: "quiet watching" }, "You are watching."),
     };
     const p = this.#parts;
-    p.back = part("div", { class: "choices", hidden: true }, p.undo, p.redo);
-    const table = part("section", { class: "table" }, p.turn, p.details, p.alert, p.board, p.back);
-    const beside = part("div", { class: "beside" },
-      part("section", {}, part("h2", {}, "Invite"), part("p", { class: "quiet" }, "Whoever has this link can take a free seat, or look on."),
-        part("div", { class: "choices" }, link, copy)),
-      part("section", {}, part("h2", {}, "What was done"), this.#log.element));
+    p.invite = this.#invite();
+    p.result = this.#result();
+    p.lead = part("div", { class: "lead" }, this.#seats.join, p.result);
+    p.table = part("section", { class: "table", "aria-label": "Table" }, this.#seats.element, p.watching, p.board);
+    p.back = part("div", { class: "choices back" }, p.undo, p.redo);
+    p.bar = part("section", { class: "bar-of-turn", "aria-label": "Turn" }, p.alert, p.note,
+      part("div", { class: "strip" }, p.turn, p.retry), part("div", { class: "controls" }, p.actions, p.back));
+    p.inviting = part("div", {});
+    p.tabs = tabs("About the match", [
+      { id: "moves", label: "Moves", part: part("div", {}, this.#log.element) },
+      { id: "invite", label: "Invite", part: p.inviting },
+      { id: "about", label: "About", part: part("div", {}, p.about, this.#seats.own) },
+    ]);
     // Nothing is shown before the first state, so that nothing moves under a finger.
-    p.all = part("div", { class: "match", hidden: true }, table, this.#seats.element, beside);
-    p.early = part("p", { class: "quiet" }, `Match ${this.#match} is being fetched …`);
+    p.all = part("div", { class: "match", hidden: true }, p.lead, p.table, p.bar, p.tabs.element);
+    p.early = part("p", { class: "quiet" }, "The match is being fetched …");
     this.#place.main.replaceChildren(p.title, p.rules, p.early, p.all);
+  }
+
+  /** The part with the match's link: whole, to copy, to share, and as a code for a phone's camera. */
+  #invite() {
+    const address = linkTo(this.#match);
+    const rows = Math.ceil(address.length / LINK_LINE);
+    const link = element("textarea", { class: "address", readOnly: true, value: address, rows, "aria-label": "Link to this match" });
+    link.addEventListener("focus", () => link.select());
+    const copy = button("Copy the link", () => this.#copy(link, copy), { id: "copy" });
+    const share = navigator.share ? [button("Share", () => navigator.share({ url: address, title: this.#game.title }).catch(() => {}), { id: "share" })] : [];
+    const code = qrCode(address);
+    const warning = leadsNobodyHere(address)
+      ? [element("p", { class: "warning" }, "Others can't open this address: use this machine's address, start with LISTEN=0.0.0.0:7000")] : [];
+    const words = element("div", { class: "words" }, element("p", { class: "quiet" }, "Whoever has this link can take a free seat, or watch."),
+      ...warning, link);
+    return section("inviting", "Invite", { class: "panel invite" }, words, element("div", { class: "choices" }, copy, ...share),
+      ...(code ? [squares(code, "The link as a QR code")] : []));
+  }
+
+  /** The part that says how the match ended, and what comes next. */
+  #result() {
+    const p = this.#parts;
+    const home = element("a", { class: "as-button", id: "back-to-lobby", href: linkTo(null) }, "Back to the lobby");
+    home.addEventListener("click", (event) => {
+      if (event.button || event.ctrlKey || event.metaKey || event.shiftKey) return;
+      event.preventDefault();
+      this.#place.go(null);
+    });
+    p.again = button("New match of the same game", () => this.#again(), { id: "again", class: "first" });
+    p.scores = element("ul", { class: "chips" });
+    const made = section("result", "", { class: "panel result", hidden: true }, p.scores, element("div", { class: "choices" }, p.again, home));
+    p.ended = made.querySelector("h2");
+    p.ended.tabIndex = -1;
+    const said = element("div", { role: "status" });
+    made.prepend(said);
+    said.append(p.ended);
+    return made;
   }
 
   #layGame(name) {
     // A server that was started anew may have another match of this name.
     [this.#gameName, this.#game, this.#shown, this.#before] = [name, gameNamed(name), null, null];
     this.#board = this.#game.make((asked) => this.#act(asked));
-    setText(this.#parts.title, this.#game.title);
-    setText(this.#parts.rules, `Match ${this.#match}. ${this.#game.rules}`);
-    this.#parts.board.replaceChildren(this.#board.element);
+    const p = this.#parts;
+    setText(p.title, this.#game.title);
+    setText(p.rules, this.#game.rules);
+    setText(p.about, `${this.#game.rules} This is match ${this.#match}.`);
+    p.board.replaceChildren(this.#board.element);
+    p.actions.replaceChildren(...(this.#board.actions ? [this.#board.actions] : []));
   }
 
   #draw() {
     if (!this.#shown || !this.#row) return;
+    keepingFocus(this.#place.main, () => this.#drawAll(), () => this.#parts.result.hidden ? this.#parts.board : this.#parts.ended);
+  }
+
+  #drawAll() {
     const { ctx, log, number } = this.#shown;
     const name = (seat) => this.#name(seat);
+    const { players } = this.#row;
+    const off = this.#off, over = Boolean(ctx.gameover);
     const active = activeSeats(ctx);
-    const may = active.some((one) => one.seat === this.#seat);
+    const turns = active.some((one) => one.seat === this.#seat);
     const settled = this.#view?.settled ?? this.#shown;
     const guessed = Math.max(0, number - settled.number);
     const full = guessed > 0 && this.#acting.length >= this.#game.ahead;
-    const table = { ...this.#shown, before: this.#before, settled, guessed, seat: this.#seat, may: may && !full, seats: ctx.numPlayers, name };
+    const may = turns && !full && !off;
+    const table = { ...this.#shown, before: this.#before, settled, guessed, seat: this.#seat, may, turns, seats: ctx.numPlayers, name };
+    this.#table = table;
     const p = this.#parts;
-    [p.early.hidden, p.all.hidden] = [true, false];
-    const end = ending(ctx.gameover, this.#seat, name);
+    if (p.early.isConnected) {
+      p.early.hidden = true;
+      this.#place.told("rests");
+    }
+    p.all.hidden = false;
+    const end = ending(ctx.gameover, this.#seat, name, this.#game.scores?.(this.#shown.g));
     const turn = full ? "Your move is shown already, and on its way to the server."
-      : [turnWords(ctx, this.#seat, name), may ? this.#game.hint(table) : ""].join(" ").trim();
-    setText(p.turn, end ?? turn);
-    p.turn.classList.toggle("own", may);
-    p.turn.classList.toggle("over", end !== null);
-    const stage = active.find((one) => one.seat === this.#seat)?.stage;
-    setText(p.details, [`Turn ${ctx.turn}`, ctx.phase && `phase ${ctx.phase}`, stage && `stage ${stage}`,
-      `${number} ${number === 1 ? "action" : "actions"} so far`, guessed > 0 && `${guessed} of them guessed`,
-      this.#seat === null && "you look on"].filter(Boolean).join(" · "));
+      : [turnWords(ctx, this.#seat, name, players), turns ? this.#game.hint(table) : ""].join(" ").trim();
+    setText(p.turn, this.#lost ? this.#lostWords() : end ?? turn);
+    p.turn.classList.toggle("own", turns && !this.#lost);
+    p.turn.classList.toggle("lost", this.#lost !== null);
+    p.retry.hidden = this.#lost !== "broken";
     this.#board.show(table);
     p.board.classList.toggle("guessed", guessed > 0);
-    p.board.classList.toggle("waits", (this.#acting.length > 0 && !guessed) || !this.#view?.shown);
-    this.#drawBack(may && !full);
-    const joins = this.#seat === null && end === null && this.#row.players.some((player) => player.name === null);
-    p.all.classList.toggle("joins", joins);
-    this.#seats.show({ players: this.#row.players, active, seat: this.#seat, joins, asks: this.#seat === null && end === null });
+    p.board.classList.toggle("waits", (this.#acting.length > 0 && !guessed) || off);
+    this.#drawBack(may);
+    p.actions.hidden = over || this.#seat === null;
+    p.watching.hidden = this.#seat !== null || over;
+    p.bar.classList.toggle("ended", over && !this.#lost);
+    this.#seats.show({ players, active, seat: this.#seat, over, off });
+    this.#drawLead(end, over, off, name);
     const pending = this.#view ? this.#acting.map(({ asked }) => ({ act: asked, seat: this.#seat })) : [];
-    this.#log.show(log, pending, this.#game, name);
-    document.title = `${end ?? (may ? "Your turn" : "Waiting")} · ${this.#game.title}`;
+    this.#log.show(log, pending, this.#game, name, (seat) => players[seat]?.name !== null);
+    document.title = `${this.#lost ? "Connection lost" : end ?? (turns ? "Your turn" : "Waiting")} · ${this.#game.title}`;
   }
 
-  /** Undo and redo, for a player of a game that has moves which can be undone. */
+  #lostWords() {
+    return this.#lost === "silent" ? "Connection lost – the server does not answer yet …" : "Connection lost – reconnecting …";
+  }
+
+  /** What stands first: how it ended, or what invites others until all seats are taken, or what lets one sit down. */
+  #drawLead(end, over, off, name) {
+    const p = this.#parts;
+    const free = this.#row.players.some((player) => player.name === null);
+    const first = !over && free && this.#seat !== null;
+    const where = first ? p.lead : p.inviting;
+    if (p.invite.parentElement !== where) where.append(p.invite);
+    p.tabs.offer("invite", !first && !over);
+    p.rules.hidden = over || !free;
+    p.result.hidden = !over;
+    setText(p.ended, end ?? "");
+    offer(p.again, !off);
+    const scores = over ? this.#game.scores?.(this.#shown.g) ?? [] : [];
+    p.scores.hidden = scores.length === 0;
+    const best = Math.max(...scores);
+    p.scores.replaceChildren(...scores.map((score, at) => element("li", { class: score === best ? "best" : "" }, dot(at),
+      element("bdi", {}, name(at)), element("strong", {}, String(score)))));
+  }
+
+  /** Undo and redo, where there is something to undo or to do again. */
   #drawBack(may) {
     const { undo, redo } = backAndForth(this.#shown, this.#seat, this.#game.undoable);
-    this.#parts.back.hidden = this.#seat === null || this.#game.undoable?.length === 0;
-    offer(this.#parts.undo, may && undo);
-    offer(this.#parts.redo, may && redo);
+    this.#parts.undo.hidden = !(may && undo);
+    this.#parts.redo.hidden = !(may && redo);
+    this.#parts.back.hidden = this.#parts.undo.hidden && this.#parts.redo.hidden;
   }
 
   /** The match isn't there, or no longer. */
@@ -315,15 +436,19 @@ export class Match {
     this.#place.told("rests");
     const home = element("a", { href: linkTo(null) }, "See the matches that there are");
     home.addEventListener("click", (event) => { event.preventDefault(); this.#place.go(null); });
-    this.#place.main.replaceChildren(element("h1", { tabIndex: -1 }, `Match ${this.#match}`), element("p", { class: "alert", role: "alert" }, words),
+    this.#place.main.replaceChildren(element("h1", { tabIndex: -1 }, "No such match"), element("p", { class: "alert", role: "alert" }, words),
       element("p", {}, "It may have been removed with its last player, or the server was started anew."), element("p", {}, home));
     document.title = "No such match";
   }
 
   async #copy(link, copy) {
-    link.select();
     const written = navigator.clipboard?.writeText(link.value) ?? Promise.reject();
-    const copied = await written.then(() => true, () => document.execCommand("copy"));
+    const copied = await written.then(() => true, () => {
+      link.focus();
+      const done = document.execCommand("copy");
+      copy.focus();
+      return done;
+    });
     setText(copy, copied ? "Copied" : "Copy it by hand");
     setTimeout(() => setText(copy, "Copy the link"), 2_000);
   }

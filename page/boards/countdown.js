@@ -10,6 +10,8 @@ export default {
   undoable: ["take", "wild"],
   say: ({ move: name, args }) => name === "take" ? `took ${args[0]}` : "took as many as a die said",
   hint: ({ ctx }) => ctx.numMoves ? "Move once more, or end the turn." : "Take 1, 2 or 3, or let a die choose.",
+  against: (act, { g }) => g.heap < 3 ? `Only ${g.heap} ${g.heap === 1 ? "is" : "are"} left.` : null,
+  tell: ({ act }, before, after) => act.move === "wild" ? `took ${before.g.heap - after.g.heap}, as a die said` : null,
 
   make(act) {
     const count = element("p", { class: "big" });
@@ -20,19 +22,19 @@ export default {
     const next = element("select", { id: "next-seat" });
     const end = button("End the turn", () => act(endTurn(next.value === "" ? null : Number(next.value))));
     const ends = element("div", { class: "choices" }, end, element("label", { for: "next-seat" }, "then plays"), next);
-    const choices = element("div", {}, element("div", { class: "choices" }, ...takes, wild), ends);
     return {
-      element: element("div", {}, count, element("div", { class: "stones", "aria-hidden": "true" }, ...stones), last, choices),
-      show({ g, ctx, may, name, seat, seats }) {
+      element: element("div", {}, count, element("div", { class: "stones", "aria-hidden": "true" }, ...stones), last),
+      actions: element("div", {}, element("div", { class: "choices" }, ...takes, wild), ends),
+      show({ g, ctx, may, turns, name, seats }) {
         setText(count, g.heap === 1 ? "1 is left" : `${g.heap} are left`);
         stones.forEach((stone, at) => stone.classList.toggle("taken", at >= g.heap));
         setText(last, g.last === null ? "Nobody has taken any." : `${name(g.last)} took last.`);
         takes.forEach((take, at) => offer(take, may && at < g.heap));
         offer(wild, may);
-        offer(end, may && ctx.numMoves > 0);
+        offer(end, may);
+        ends.hidden = !turns || ctx.numMoves === 0;
         if (next.options.length !== seats + 1) next.replaceChildren(...[null, ...Array(seats).keys()].map((to) => new Option("", to ?? "")));
         [...next.options].forEach((option, at) => setText(option, at ? name(at - 1) : "the next in order"));
-        choices.hidden = seat === null;
       },
     };
   },

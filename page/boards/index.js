@@ -7,11 +7,16 @@
 //   undoable               the moves that the game lets be undone, or null if the page doesn't know
 //   say(act)               a move in words, behind the player's name
 //   hint(table)            what the player may do now, in words
-//   make(act)              its board, as { element, show(table) }; `act(asked)` asks the server for an action
+//   tell(entry, before, after, name)   a move or an event in words, where the two states tell more of it, or null; it may be left out, as the next two
+//   against(act, table)    what the rules have against a move that the server has refused by them, or null
+//   scores(g)              the seats' scores, for the end, or null
+//   make(act)              its board, as { element, actions, show(table) }; `act(asked)` asks the server for an action,
+//                          and `actions`, which may be left out, are the main controls: they stand beside the turn
 //
 // A table is what there is to show: { g, ctx, log, number } of the snapshot, `settled`, the last one that the server settled, `guessed`, how many
 // actions this one is ahead of it, `before`, the snapshot before this one if it was seen,
-// `seat`, one's own or null, `may`, whether that seat may act, `seats`, how many there are, and `name(seat)`.
+// `seat`, one's own or null, `turns`, whether it is that seat's turn, `may`, whether it may act just now, as not without a connection,
+// `seats`, how many there are, and `name(seat)`.
 import ticTacToe from "./tic-tac-toe.js";
 import countdown from "./countdown.js";
 import pig from "./pig.js";

@@ -17,6 +17,12 @@ export default {
   rules: "Roll as often as you dare, then hold. A 1 loses the pot and the turn. The first with 20 points wins.",
   undoable: [],
   say: ({ move: name }) => name === "roll" ? "rolled the die" : "held",
+  against: () => "The pot is empty: roll first.",
+  tell({ act }, before, after) {
+    const face = rolled({ ...after, before });
+    return act.move === "hold" ? `held ${before.g.pot}` : face === 1 ? "rolled a 1 and lost the pot" : face ? `rolled a ${face}` : null;
+  },
+  scores: (g) => g.totals,
   hint: ({ g }) => g.pot ? `Roll once more, or hold the ${g.pot}.` : "Roll the die.",
 
   make(act) {
@@ -27,19 +33,19 @@ export default {
     const totals = element("ul", { class: "scores" });
     const roll = button("Roll", () => act(move("roll")), { class: "first" });
     const hold = button("Hold", () => act(move("hold")));
-    const choices = element("div", { class: "choices" }, roll, hold);
     return {
-      element: element("div", {}, element("div", { class: "rolls" }, die, element("div", {}, pot, fell)), choices, totals),
+      element: element("div", {}, element("div", { class: "rolls" }, die, element("div", {}, pot, fell)), totals),
+      actions: element("div", { class: "choices" }, roll, hold),
       show(table) {
-        const { g, may, name, seat } = table;
+        const { g, may, name } = table;
         const face = rolled(table);
+        die.classList.toggle("blank", face === null);
         die.setAttribute("aria-label", face ? `The die shows ${face}` : "The die");
         pips.forEach((pip, at) => pip.classList.toggle("on", Boolean(face && PIPS[face]?.includes(at))));
         setText(fell, face === null ? "" : face === 1 ? "A 1: the pot is lost." : `A ${face}.`);
         setText(pot, `Pot ${g.pot}`);
         offer(roll, may);
         offer(hold, may && g.pot > 0);
-        choices.hidden = seat === null;
         totals.replaceChildren(...g.totals.map((total, at) => element("li", {}, dot(at), element("bdi", {}, name(at)),
           element("meter", { max: GOAL, value: total, "aria-hidden": "true" }), element("strong", {}, String(total)))));
       },

@@ -15,6 +15,7 @@ export default {
   undoable: [],
   say: ({ args }) => `marked ${PLACES[args[0]]}`,
   hint: () => "Choose a free cell.",
+  against: () => "That cell is taken.",
 
   make(act) {
     const cells = PLACES.map((place, at) => button("", () => act(move("clickCell", at)), { class: "cell" }));

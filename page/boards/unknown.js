@@ -26,9 +26,9 @@ export const unknown = (name) => ({
     form.addEventListener("submit", (event) => { event.preventDefault(); act(move(moved.value.trim(), ...argumentsOf(typed.value))); });
     return {
       element: element("div", {}, state, form),
-      show({ g, may, seat }) {
+      show({ g, ctx, may, seat }) {
         setText(state, JSON.stringify(g, null, 1).split("\n").map(plain).join("\n"));
-        form.hidden = seat === null;
+        form.hidden = seat === null || Boolean(ctx.gameover);
         offer(go, may);
         offer(end, may);
       },

@@ -1,5 +1,5 @@
 // A person against a bot: two bots wait in a match until somebody comes. One of them is asked for its seat, and the other is played to the end.
-import { done, same } from "./people.mjs";
+import { done, notes, same, turn } from "./people.mjs";
 import { Session } from "./server.mjs";
 
 const BOTS = ["--links", "32", "--bots", "tic-tac-toe", "--seats", "2", "--pace", "2"];
@@ -26,6 +26,7 @@ async function playsABot(scene, server) {
   await ann.until((page) => page.texts(".seats li bdi"), ["bot0", "bot1"], "the bots");
   await ann.type("#player-name", "ann");
   await ann.click("#ask-1");
+  await notes(ann, "The bot was asked for its seat. You sit down as soon as it has left.");
   await ann.until((page) => page.texts(".seats li bdi"), ["bot0", "ann"], "the seat of the bot");
   const looker = await Session.open(server.address);
   await looker.follow(match);
@@ -44,7 +45,7 @@ async function playsABot(scene, server) {
   const marked = log.filter(({ seat }) => seat === 1).length;
   same(acts > 0 && marked >= acts, true, "the person's marks stand in the log");
   await ann.until(marks, marked, "the marks of the person's seat");
-  await ann.sees(".turn", gameover.winner === 1 ? "You have won!" : gameover.winner === 0 ? "bot0 has won." : "It is a draw.");
+  await turn(ann, gameover.winner === 1 ? "You have won!" : gameover.winner === 0 ? "bot0 has won." : "It is a draw.");
   const { row } = await looker.ask({ match, type: "look" });
   same([row.over, row.players.map(({ name }) => name)], [true, ["bot0", "ann"]], "the server says that it is over");
   looker.close();

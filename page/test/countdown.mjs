@@ -13,18 +13,17 @@ export async function countdown(scene) {
     }
   };
   await heap(21);
-  await ann.click("End the turn");
-  await says(ann, "The turn cannot end yet: make a move first.");
-  await ann.click("Undo");
-  await says(ann, "There is nothing to take back in this turn.");
-  await bob.click("Undo");
-  await says(bob, "Nothing can be taken back or done again now: others may act too, or it is not your turn.");
-  await ann.click("Redo");
-  await says(ann, "There is nothing to do again.");
+  // What can't be done yet isn't there.
+  const beside = (page) => page.texts(".actions button, .back button");
+  const takes = ["Take 1", "Take 2", "Take 3", "Take by a die, 1 to 3"];
+  same([await beside(ann), await beside(bob), await beside(eve)], [takes, takes, []], "the choices");
+  await bob.click("Take 1");
+  await says(bob, "It is not your turn.");
 
   await ann.click("Take 3");
   await heap(18);
-  await turns(all, ["Your turn. Move once more, or end the turn.", "ann's turn.", "ann's turn."]);
+  await turns(all, ["Your turn. Move once more, or end the turn.", "ann is thinking.", "ann is thinking."]);
+  same([await beside(ann), await beside(bob)], [[...takes, "End the turn", "Undo"], takes], "the choices after a move");
   await ann.click("Undo");
   await heap(21);
   await eve.until(undone, ["ann took 3"], "the undone entry is struck");
@@ -35,12 +34,11 @@ export async function countdown(scene) {
   same(await undone(eve), [], "what was done again is struck no more");
   await ann.choose("#next-seat", "0");
   await ann.click("End the turn");
-  await turns(all, ["Your turn. Take 1, 2 or 3, or let a die choose.", "ann's turn.", "ann's turn."]);
+  await turns(all, ["Your turn. Take 1, 2 or 3, or let a die choose.", "ann is thinking.", "ann is thinking."]);
   same((await log(eve))[0], "ann ended the turn, and ann is next", "a turn that is kept");
-  await ann.click("Undo");
-  await says(ann, "There is nothing to take back in this turn.");
-  await ann.choose("#next-seat", "");
+  same(await beside(ann), takes, "nothing of the turn before can be taken back");
   await ann.click("Take 1");
+  await ann.choose("#next-seat", "");
   await heap(17);
   await ann.click("End the turn");
   await bob.sees(".turn", "Your turn. Take 1, 2 or 3, or let a die choose.");
@@ -48,6 +46,7 @@ export async function countdown(scene) {
   const { g, number } = await raw.at(7);
   same([1, 2, 3].includes(17 - g.heap), true, "a die takes 1 to 3");
   await heap(g.heap);
+  same((await log(eve))[0], `bob took ${17 - g.heap}, as a die said`, "the log of a die");
   same(await eve.text(".board .quiet"), "bob took last.", "who took last");
 
   // Bob takes once more, which ends his turn; from then on each takes what is there.

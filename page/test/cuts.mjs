@@ -1,35 +1,47 @@
 // Connections that break, a server that is out of memory, a page that lags, and a game that the page doesn't know.
 import { readFile } from "node:fs/promises";
-import { done, log, makeMatch, pageAt, same, says, sit } from "./people.mjs";
+import { done, log, makeMatch, pageAt, same, says, seats, sits, turn } from "./people.mjs";
 import { startRelay } from "./relay.mjs";
 
 const ready = (page) => page.until(`document.querySelectorAll(".board:not(.waits)").length`, 1, "the stream has begun");
+const WAITS = "Waiting for a second player. You may begin. Take 1, 2 or 3, or let a die choose.";
 const ofType = (type) => (line) => JSON.parse(line).type === type;
 
 export async function cuts(scene) {
   const { browser, files, server } = scene;
   const relay = await startRelay(server);
   const ann = await browser.page("ann");
-  const { match } = await makeMatch(ann, pageAt(files, relay.address), "countdown", 2);
+  const { match } = await scene.session.ask({ game: "countdown", seats: 2, type: "create" });
+  await ann.goto(`${pageAt(files, relay.address)}&match=${match}`);
   // A seat is asked for, and the connection breaks before the answer.
   relay.onAsked = (line, { pass }) => ofType("join")(line) ? relay.cut() : pass(line);
   await ann.type("#player-name", "ann");
-  await ann.click("#take-0");
+  await ann.click("#join");
   await says(ann, "The connection broke before that was answered.");
   relay.onAsked = (line, { pass }) => pass(line);
   await ready(ann);
-  await sit(ann, 0, "ann");
+  await ann.click("Join as ann");
+  await sits(ann, 0);
 
-  // The connection breaks, and is refused for a while.
+  // The connection breaks, and is refused for a while: the turn's strip says so, and nothing can be pressed.
   relay.open = false;
   relay.cut();
-  await ann.until(`/^The connection broke. Trying again in \\d+ s.$/.test(document.getElementById("link-words").innerText)`, true);
-  await ann.until(`Number(/in (\\d+) s/.exec(document.getElementById("link-words").innerText)?.[1]) >= 2`, true, "the pauses grow");
-  relay.open = true;
+  await turn(ann, "Connection lost – reconnecting …");
+  const controls = `[...document.querySelectorAll(".bar-of-turn button:not(#retry), .board button, #rename, #give-up, #give-up-really")]
+    .filter((one) => one.getClientRects().length || one.closest(".own-seat")).map((one) => one.getAttribute("aria-disabled"))`;
+  same([...new Set(await ann.value(controls))], ["true"], "all controls are off");
+  same((await ann.value(controls)).length >= 6, true, "there are controls");
+  same(await ann.value("document.title"), "Connection lost · Countdown", "the title says so too");
+  const asked = relay.asked.length;
   await ann.click("Take 3");
-  await says(ann, "There is no connection yet, and what you see may be old. Wait a moment.");
+  await ann.click("About");
+  await ann.click("Change my name");
+  await ann.click("Moves");
+  same(relay.asked.length, asked, "nothing is asked");
+  await pausesAreShort(ann);
+  relay.open = true;
   await ann.click("Try now");
-  await ann.sees("#link-words", "Connected");
+  await turn(ann, WAITS);
   await ready(ann);
   await ann.click("Take 2");
   await ann.sees(".big", "19 are left");
@@ -70,7 +82,6 @@ export async function cuts(scene) {
   await ann.until(async () => relay.connections > connections, true, "a new connection after lagging");
   await ready(ann);
   await ann.sees(".big", "20 are left");
-  await ann.sees("#link-words", "Connected");
 
   // An update is missing: the page begins the stream anew.
   const before = relay.connections;
@@ -91,10 +102,11 @@ export async function cuts(scene) {
 
   // The server answers nothing any more: the page notices by itself, and connects anew.
   const answered = relay.connections;
-  relay.onAsked = () => {};
+  relay.onAsked = (line, { pass }) => { if (relay.connections > answered) pass(line); };
   await ann.until(async () => relay.connections > answered, true, "a new connection after a long silence");
   relay.onAsked = (line, { pass }) => pass(line);
-  await ann.sees("#link-words", "Connected");
+  await ready(ann);
+  same(await ann.texts(".turn.lost"), [], "the strip says nothing of it any more");
 
   // A server whose places are all taken hears a new connection only later.
   relay.silent = true;
@@ -120,7 +132,8 @@ export async function cuts(scene) {
   await ann.until(async () => relay.standing(), 0, "no connection of a page that was left");
   await ann.goBack();
   await ready(ann);
-  await ann.until((page) => page.texts(".seats .notes"), ["you", "may act"], "the seat after going back");
+  await ann.until(seats, ["1 ann you", "2 free to play"], "the seat after going back");
+  await turn(ann, "Waiting for a second player.");
   await ann.until(async () => relay.standing(), 1, "one connection after going back");
 
   // An address that is none is said.
@@ -128,6 +141,16 @@ export async function cuts(scene) {
   await ann.sees("#link-words", "This address cannot be connected to.");
   await done(ann);
   relay.close();
+}
+
+/** The pauses between two tries grow, but to five seconds at most while somebody looks. */
+async function pausesAreShort(page) {
+  const pauses = await page.value(`import("./connection.js").then(({ Connection }) => new Promise((done) => {
+    const pauses = [];
+    const connection = new Connection("ws://127.0.0.1:1/", { opened() {}, heard() {}, told(state, seconds) { if (state === "broken") pauses.push(seconds); } });
+    setTimeout(() => { connection.close(); done(pauses); }, 10_000);
+  }))`);
+  same(pauses.length >= 4 && pauses.every((seconds) => seconds <= 5) && pauses.at(-1) > pauses[0], true, `pauses of ${pauses} seconds`);
 }
 
 /** Every reason that docs/PROTOCOL.md names has words of its own. */
@@ -153,9 +176,8 @@ export async function unknownGame(scene) {
   const relay = await startRelay(server);
   relay.onTold = (line) => line.replaceAll('"game":"countdown"', '"game":"mystery"');
   const ann = await browser.page("ann");
-  await makeMatch(ann, pageAt(files, relay.address), "countdown", 2);
+  await makeMatch(ann, pageAt(files, relay.address), "countdown", 2, "ann");
   await ann.sees("h1", "mystery");
-  await sit(ann, 0, "ann");
   same((await ann.text(".state")).replace(/\s/g, ""), '{"heap":21,"last":null}', "the state as it is");
   await ann.type("#move-name", "take");
   await ann.type("#move-arguments", "4");

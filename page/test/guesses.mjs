@@ -11,8 +11,7 @@ export async function guesses(scene) {
   if (!existsSync(new URL("../page_program.wasm", import.meta.url))) return "there is no page/page_program.wasm";
   const relay = await startRelay(server);
   const [ann, bob, eve] = [await browser.page("ann"), await browser.page("bob"), await browser.page("eve")];
-  const { match, link } = await makeMatch(ann, guessingAt(files, relay.address), "tic-tac-toe", 2);
-  await sit(ann, 0, "ann");
+  const { match, link } = await makeMatch(ann, guessingAt(files, relay.address), "tic-tac-toe", 2, "ann");
   await bob.goto(link);
   await sit(bob, 1, "bob");
   await eve.goto(link);

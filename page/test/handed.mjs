@@ -2,7 +2,7 @@
 import { readdirSync, readFileSync } from "node:fs";
 import { request } from "node:http";
 import { connect } from "node:net";
-import { done, makeMatch, same, sit } from "./people.mjs";
+import { done, makeMatch, same } from "./people.mjs";
 
 const here = (path) => new URL(path, import.meta.url);
 const KINDS = { html: "text/html; charset=utf-8", css: "text/css; charset=utf-8", js: "text/javascript; charset=utf-8", svg: "image/svg+xml", wasm: "application/wasm" };
@@ -47,8 +47,7 @@ export async function handed(scene) {
 
   // A page that came from the server plays, by its own address.
   const ann = await browser.page("ann");
-  await makeMatch(ann, page, "pig", 2);
-  await sit(ann, 0, "ann");
+  await makeMatch(ann, page, "pig", 2, "ann");
   await done(ann);
   return null;
 }

@@ -15,8 +15,12 @@ export async function highHand(scene) {
   const { ann, bob, eve, all, match, link } = await seated(scene, "high-hand");
   const raw = await Session.open(scene.server);
   await raw.follow(match);
+  // A round that is over stays on the table until the next card.
+  let seen = null;
   const shows = async (number) => {
-    const { g: { common } } = await raw.at(number);
+    const { g: { common: told } } = await raw.at(number);
+    const common = told.table.some((card) => card !== null) || !seen?.table.every((card) => card !== null) ? told : { ...told, table: seen.table };
+    seen = common;
     for (const page of all) {
       await page.until(table, common.table.map((card) => card === null ? null : named(card)), "the table");
       const words = common.scores.map((score, at) => `${score} ${score === 1 ? "point" : "points"}, ${common.hands[at]} in hand`);
@@ -25,14 +29,13 @@ export async function highHand(scene) {
     }
   };
   await shows(0);
-  await turns(all, ["Your turn. Draw a card.", "ann's turn.", "ann's turn."]);
-  same(await ann.text(".details"), "Turn 1 · phase draw · 0 actions so far", "the phase");
+  await turns(all, ["Your turn. Draw a card.", "ann is thinking.", "ann is thinking."]);
+  same(await ann.texts(".hand"), [], "a hand without a card isn't shown");
   for (const [number, page] of [ann, ann, bob, bob].entries()) {
     await page.until(`document.querySelector(".turn").classList.contains("own")`, true);
     await page.click("Draw a card");
     await shows(number + 1);
   }
-  same(await eve.text(".details"), "Turn 3 · phase play · 4 actions so far · you look on", "the phase after the draw");
   const held = [await hand(ann), await hand(bob)];
   same(held.map((cards) => cards.length), [2, 2], "two cards each");
   same(await hand(eve), [], "a spectator has no hand");
@@ -50,26 +53,30 @@ export async function highHand(scene) {
 
   await ann.click(held[0][1]);
   await shows(5);
-  await turns(all, ["Your turn. End the turn, or take the card back.", "ann's turn.", "ann's turn."]);
+  await turns(all, ["Your turn. End the turn, or take the card back.", "ann is thinking.", "ann is thinking."]);
   same(await hand(ann), [held[0][0]], "a laid card has left the hand");
   await ann.click(held[0][0]);
-  await says(ann, "The rules of the game do not allow that.");
+  await says(ann, "You have laid a card already.");
   await ann.click("Undo");
   await shows(6);
   await ann.until(hand, held[0], "the card is back in the hand");
   await ann.click("Redo");
   await shows(7);
-  const laid = "laid card 2 of the hand";
+  const laid = `laid the ${held[0][1].replace("Lay the ", "")}`;
   same((await log(eve)).slice(0, 3), [`ann did again: ${laid}`, `ann took back: ${laid}`, `ann ${laid}`], "the log");
-  await bob.reload();
-  await bob.until(hand, held[1], "bob's hand after a reload");
   await ann.click("End the turn");
   await bob.sees(".turn", "Your turn. Lay a card of your hand.");
   await bob.click(held[1][0]);
   await shows(9);
   if (scene.pictures) await bob.picture(`${scene.pictures}/page-high-hand.png`, { width: 1000, height: 780 });
+  await bob.reload();
+  await bob.until(hand, [held[1][1]], "bob's hand after a reload");
   await bob.click("End the turn");
   await shows(10);
+  const [first, second] = [held[0][1], held[1][0]].map((card) => card.replace("Lay the ", ""));
+  const taker = raw.snapshot.g.common.scores[0] ? ["ann", first] : ["bob", second];
+  same(await eve.text(".story"), `${taker[0]} takes the round with the ${taker[1]}.`, "who takes the round");
+  same((await log(eve))[0], `bob ended the turn: ${taker[0]} takes the round with the ${taker[1]}`, "the log of a round");
   for (const [number, page, what] of [[11, ann, held[0][0]], [12, ann, "End the turn"], [13, bob, held[1][1]], [14, bob, "End the turn"]]) {
     await page.until(`document.querySelector(".turn").classList.contains("own")`, true);
     await page.click(what);

@@ -9,23 +9,25 @@ export async function ticTacToe(scene) {
   same(await ann.value(`document.querySelectorAll("main b").length`), 0, "a name is never read as HTML");
   same(await eve.text(".legend"), "✕ <b>ann</b>, ◯ bob & \"co\"", "the legend");
   await shows(".........");
-  await turns(all, ["Your turn. Choose a free cell.", "<b>ann</b>'s turn.", "<b>ann</b>'s turn."]);
-  same(await eve.texts(".details"), ["Turn 1 · 0 actions so far · you look on"], "the spectator's details");
-  same(await eve.texts("#take-0, #take-1"), [], "a full match offers no seat");
+  await turns(all, ["Your turn. Choose a free cell.", "<b>ann</b> is thinking.", "<b>ann</b> is thinking."]);
+  same(await eve.texts(".watching"), ["You are watching."], "the spectator is told so");
+  same(await eve.texts("#join, #ask-0, #ask-1"), [], "a full match offers no seat");
 
+  await ann.click("Invite");
   await ann.click("Copy the link");
-  await ann.until((page) => page.texts(".address + button"), ["Copied"], "the link is copied");
+  await ann.until((page) => page.texts("#copy"), ["Copied"], "the link is copied");
+  await ann.click("Moves");
   await bob.click("middle: free");
   await says(bob, "It is not your turn.");
   await ann.click("middle: free");
   await shows("....✕....");
-  await turns(all, ["bob & \"co\"'s turn.", "Your turn. Choose a free cell.", "bob & \"co\"'s turn."]);
+  await turns(all, ["bob & \"co\" is thinking.", "Your turn. Choose a free cell.", "bob & \"co\" is thinking."]);
   same(await bob.text("title"), null, "the title is no text of the page");
   await bob.until("document.title", "Your turn · Tic-tac-toe");
 
   await bob.click("middle: cross");
-  await says(bob, "The rules of the game do not allow that.");
-  same(await bob.text(".details"), "Turn 2 · 1 action so far", "a refused act changes nothing");
+  await says(bob, "That cell is taken.");
+  same((await log(bob)).length, 1, "a refused act changes nothing");
 
   // By keyboard: one cell is reached by Tab, the arrows go on from there.
   await bob.value(`document.querySelector(".cell[tabindex='0']").focus()`);
