@@ -1,4 +1,4 @@
-.PHONY: program demo serve served page play try page-test test quick-test edits check bench
+.PHONY: program demo serve served page play try page-test test quick-test edits check bench dist
 
 SHELL := bash
 .SHELLFLAGS := -o pipefail -c
@@ -55,6 +55,10 @@ page/page_program.wasm: $(wildcard page/wasm/*) crates.txt $(shell find crates -
 	@checks/prove_program.py page_program --module page_program
 	@crates/page_program/out/page_program <crates/page_program/stdin | cmp - crates/page_program/stdout
 	@page/wasm/compile.sh crates/page_program/out/page_program.bc $@
+
+# Makes an archive and a Debian package of the proved program, the page, the clients and the documents.
+dist: program page
+	@deploy/dist.py
 
 # Serves matches over WebSockets at an address, and the page, until it is stopped. Bots sit at a first match, and answer after so many seconds.
 BOTS ?= tic-tac-toe

@@ -59,25 +59,25 @@ def content(path, other=b""):
 
 
 def moved(crates):
-    """Returns the crates of tests in checks/tests, as checks/tests/crates.txt lists them."""
+    """Returns the crates of tests in checks/tests, as checks/tests/tests.txt lists them."""
     by_name, found = {it.name: it for it in crates}, []
-    for line in content(f"{MOVED}/crates.txt").decode().splitlines():
+    for line in content(f"{MOVED}/tests.txt").decode().splitlines():
         head, colon, below = line.partition("#")[0].partition(":")
         if not colon:
             continue
         name, below = head.split()[0], below.split()
         if name in by_name:
-            sys.exit(f"quick_test.py: {name} stands in crates.txt and in checks/tests/crates.txt")
+            sys.exit(f"quick_test.py: {name} stands in crates.txt and in checks/tests/tests.txt")
         if not os.path.isfile(f"{MOVED}/{name}/lib.rt.in"):
-            sys.exit(f"quick_test.py: checks/tests/crates.txt lists {name}, and there is no checks/tests/{name}/lib.rt.in")
+            sys.exit(f"quick_test.py: checks/tests/tests.txt lists {name}, and there is no checks/tests/{name}/lib.rt.in")
         for it in below:
             if it not in by_name and not os.path.isdir(f"{KIT}/rlibs/{it}.rlib"):
-                sys.exit(f"quick_test.py: checks/tests/crates.txt: {it} is no crate and no library of the toolchain")
+                sys.exit(f"quick_test.py: checks/tests/tests.txt: {it} is no crate and no library of the toolchain")
         found.append(Moved(name, f"{MOVED}/{name}", [it for it in below if it not in by_name], [by_name[it] for it in below if it in by_name]))
     listed = {it.name for it in found}
     for name in sorted(os.listdir(MOVED)) if os.path.isdir(MOVED) else []:
         if os.path.isdir(f"{MOVED}/{name}") and name not in listed:
-            sys.exit(f"quick_test.py: checks/tests/crates.txt does not list {name}")
+            sys.exit(f"quick_test.py: checks/tests/tests.txt does not list {name}")
     return found
 
 

@@ -32,7 +32,7 @@ def reached(tests=False):
     an impl of a trait of the kit is reached with its type.
     A method counts only once a reached function outside its type names the type: who never names it has no value of it.
     """
-    everything = [*texts.listed(), *texts.listed("checks/tests/crates.txt")]
+    everything = [*texts.listed(), *texts.listed("checks/tests/tests.txt")]
     programs = [crate for crate in everything if tests or crate in PROGRAMS]
     inside = frozenset().union(*(texts.below(crate) for crate in programs))
     functions = [f for f in everywhere() if f.crate in inside]

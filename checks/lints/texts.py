@@ -71,7 +71,7 @@ def listed(name="crates.txt"):
 @functools.cache
 def stands_on(crate):
     """What a crate stands on, as crates.txt or that of checks/tests says."""
-    return (listed().get(crate) or listed("checks/tests/crates.txt").get(crate, ((), 0)))[0]
+    return (listed().get(crate) or listed("checks/tests/tests.txt").get(crate, ((), 0)))[0]
 
 
 @functools.cache
