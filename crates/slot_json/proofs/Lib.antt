@@ -1,0 +1,9 @@
+pub mod NameBytes
+pub mod PartLaws
+pub mod ReadLaws
+pub mod RowLaws
+pub mod SlotLaws
+pub mod TableLaws
+pub mod TakenLaws
+pub mod TextLaws
+pub mod WalkLaws

@@ -1,0 +1,4 @@
+pub mod PartText
+pub mod SlotForms
+pub mod TableForms
+pub mod TextBytes
