@@ -1,7 +1,7 @@
 """The edits that the prover must refuse: where they stand, and whether the program has what they change."""
 from . import texts
 from .functions import in_file
-from .reached import is_beside, is_law, reached
+from .reached import is_beside, is_law, reached, waits
 
 
 def pairs(path):
@@ -44,7 +44,7 @@ def lint():
             around = [f for f in in_file(source) if f.line <= row <= texts.line_at(texts.read(source), f.last)]
             runs = runs or not around or any(id(f) in there or is_law(f) for f in match(around))
         else:
-            if pairs(path) and not runs and not is_beside(crate):
+            if pairs(path) and not runs and not is_beside(crate) and not waits(crate):
                 named.add(title)
                 if title not in reasons:
                     yield texts.shown(path), 1, "changes only what no program reaches: let it change what runs"

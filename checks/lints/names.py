@@ -6,7 +6,7 @@ from pathlib import Path
 
 from . import texts
 from .functions import everywhere
-from .reached import is_law
+from .reached import is_law, waits
 
 SIGNATURE = re.compile(r"(?P<indent> *)(?:(?:pub|abbrev|unfoldable) +)*(?P<name>[A-Za-z_][\w']*(?:-[\w']+)*) :(?: |$)")
 TYPE = re.compile(r"(?P<indent> *)(?:pub +)?(?:record|data) +(?P<name>[A-Za-z_][\w']*)(?![\w'])(?=.*\b(?:where|:)|$)")
@@ -120,8 +120,11 @@ def dead():
 
 def definitions_and_lemmas():
     """Each definition and lemma of specs/ and proofs/ is named outside itself by more than an import: by another, a clause, an edit or a
-    `using(..)`. The goals of proofs/FILE/FUNCTION are the toolchain's names and are passed over. What only unnamed ones name is told too."""
+    `using(..)`. The goals of proofs/FILE/FUNCTION are the toolchain's names and are passed over. What only unnamed ones name is told too.
+    A crate on which no program stands yet has lemmas for those above it."""
     for definition in dead():
+        if waits(texts.crate_of(definition.path)):
+            continue
         yield texts.shown(definition.path), definition.first + 1, f"nothing names {definition.name}"
 
 
@@ -139,6 +142,8 @@ def functions():
         if counts[name] <= declared[name] and name != "main":
             line = texts.line_at(texts.read(path), place)
             function = by_name.get((path, line))
+            if waits(texts.crate_of(path)):
+                continue
             if not function or not is_law(function) and "#[test]" not in function.marks:
                 yield texts.shown(path), line, f"nothing names {name}"
 

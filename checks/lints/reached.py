@@ -142,19 +142,31 @@ def unreached():
             yield f, False
 
 
+def waits(crate):
+    """Whether checks/unreached.txt says of a whole crate, as `crate::*`, that no program stands on it yet."""
+    return f"{crate}::*" in texts.entries("unreached.txt")
+
+
 def lint():
     """Each public function is reached from `board_server` or `page_program`, and each other one by tests or cases at least,
-    or it stands in checks/unreached.txt with a reason."""
+    or it stands in checks/unreached.txt with a reason, or its whole crate does, as long as no program stands on that."""
     reasons = texts.entries("unreached.txt")
     titles = set()
+    below = frozenset().union(*({program, *texts.below(program)} for program in PROGRAMS))
     for f, is_dead in unreached():
+        if waits(f.crate):
+            continue
         titles.add(f.title)
         if f.title not in reasons:
             who = "nothing calls" if is_dead else "no program reaches"
             yield texts.shown(f.path), f.line, f"{who} {f.title}: remove it, or give checks/unreached.txt a reason"
     known = {f.title for f in everywhere()}
     for title, (reason, place) in reasons.items():
-        if "::" in title and title not in titles:
+        if title.endswith("::*"):
+            crate = title.removesuffix("::*")
+            if crate in below or crate not in texts.listed():
+                yield *place.split(":"), f"{crate} is {'below a program now' if crate in below else 'gone'}: remove this line"
+        elif "::" in title and title not in titles:
             yield *place.split(":"), f"{title} is {'reached now' if title in known else 'gone'}: remove this line"
-        elif not reason:
+        if not reason:
             yield *place.split(":"), f"{title} has no reason"
