@@ -1,4 +1,4 @@
-.PHONY: program demo serve served page play try page-test test quick-test edits check bench dist
+.PHONY: program demo serve served page play try page-test test quick-test edits check bench dist clients-test
 
 SHELL := bash
 .SHELLFLAGS := -o pipefail -c
@@ -59,6 +59,12 @@ page/page_program.wasm: $(wildcard page/wasm/*) crates.txt $(shell find crates -
 # Makes an archive and a Debian package of the proved program, the page, the clients and the documents.
 dist: program page
 	@deploy/dist.py
+
+# Plays by the clients against the program, or SARPUNTXE_PROGRAM, and checks the schema of lines. It wants node.
+clients-test:
+	@clients/check_lines.py
+	@cd clients/js && npm test
+	@python3 clients/python/test_sarpuntxe.py
 
 # Serves matches over WebSockets at an address, and the page, until it is stopped. Bots sit at a first match, and answer after so many seconds.
 BOTS ?= tic-tac-toe

@@ -115,6 +115,11 @@ class Play(unittest.TestCase):
         cls.line.stop()
         cls.web.stop()
 
+    def program(self, *words, port=0):
+        server = Program(*words, port=port)
+        self.addCleanup(server.stop)
+        return server
+
     def raises(self, kind, reason, call, *args):
         with self.assertRaises(sarpuntxe.SarpuntxeError) as seen:
             call(*args)
@@ -204,21 +209,21 @@ class Play(unittest.TestCase):
 
     def test_a_server_that_keeps_its_rooms_comes_back(self):
         with tempfile.TemporaryDirectory() as rooms:
-            server = Program("--keep", rooms)
+            server = self.program("--keep", rooms)
             address = f"127.0.0.1:{server.port}"
             ann, bob, eve = [sarpuntxe.Match(address, place) for place in self.table(address, "tic-tac-toe")]
             ann.move("clickCell", 4)
             bob.wait(10)
             server.stop()
-            server = Program("--keep", rooms, port=server.port)
+            server = self.program("--keep", rooms, port=server.port)
             self.raises("fault", "cut", bob.move, "clickCell", 0)
             self.assertEqual(bob.move("clickCell", 0), 2)
-            self.assertTrue(ann.until(lambda match: match.view["number"] == 2, 10))
+            for one in (ann, eve):
+                self.assertTrue(one.until(lambda match: match.view["number"] == 2, 10))
             server.stop()
-            server = Program(port=server.port)
+            server = self.program(port=server.port)
             self.table(address, "tic-tac-toe")
             self.raises("refused", "unauthorized", ann.wait, 10)
-            eve.view["log"].append("what another match has not")
             self.raises("ended", "replaced", eve.wait, 10)
             server.stop()
 
