@@ -34,7 +34,6 @@ CHECKS = {
     "serve_kills": (["bench/serve_kills.py", SERVER, "8"], 240),
     "anew_kills": (["bench/anew_kills.py", SERVER, "20"], 240),
     "lines": (["clients/check_lines.py"], 120),
-    "client_js": (["npm", "--prefix", "clients/js", "test"], 240),
     "client_python": (["python3", "clients/python/test_sarpuntxe.py"], 240),
     "page": (PLAY, 900),
 }
