@@ -144,7 +144,10 @@ export class Match {
     if (shown === this.#shown) return;
     this.#before = shown.number === this.#shown?.number + 1 ? this.#shown : null;
     this.#shown = shown;
-    if (this.#before) this.#log.learn(shown.log, this.#game.tell?.(shown.log.at(-1), this.#before, shown, (seat) => this.#name(seat)) ?? null);
+    // What is guessed has no entry in the log yet.
+    if (this.#before && shown.log.length > this.#before.log.length) {
+      this.#log.learn(shown.log, this.#game.tell?.(shown.log.at(-1), this.#before, shown, (seat) => this.#name(seat)) ?? null);
+    }
     this.#draw();
   }
 
