@@ -5,24 +5,39 @@ import re
 
 from . import texts
 from .functions import closing, everywhere
+from .reached import PROGRAMS, is_law, reached
 
 PLAIN = re.compile(r"[a-z][a-z0-9_]*")
 TICKED = re.compile(r"`([^`]*)`")
 
 
+HEAD = ["crate", "function", "clause", "reached by"]
+REACHED = {(): "neither", ("board_server",): "server", ("page_program",): "page", PROGRAMS: "both"}
+
+
 def rows(path):
-    """The rows of tables of promises: (line, crate, function cell, clause cell); a crate that is left out is that of the row above."""
+    """The rows of tables of promises: (line, crate, function cell, clause cell, what reaches it); a crate that is left out is that of the row above."""
     crate, inside, found = "", False, []
     for number, line in enumerate(texts.read(path).splitlines(), 1):
         cells = [cell.strip() for cell in re.split(r"(?<!\\)\|", line.strip().strip("|"))] if line.startswith("|") else []
-        if len(cells) != 4:
+        if len(cells) != 5:
             inside = False
-        elif cells[1:] == ["crate", "function", "clause"]:
+        elif cells[1:] == HEAD:
             inside, crate = True, ""
         elif inside and not set(cells[0]) <= set("-: "):
             crate = cells[1] or crate
-            found.append((number, TICKED.findall(crate), cells[2], cells[3]))
+            found.append((number, TICKED.findall(crate), *cells[2:]))
     return found
+
+
+def reached_by(groups):
+    """What reaches a row of these groups of functions: a program does if it reaches one of each group, and in part if one of some."""
+    groups = [found for found in groups if found]
+    if groups and all(is_law(f) for found in groups for f in found):
+        return "law"
+    seen = {p: [any(id(f) in reached(programs=(p,)) for f in found) for found in groups] for p in PROGRAMS}
+    programs = tuple(p for p in PROGRAMS if all(seen[p]))
+    return REACHED[programs] if programs or not any(map(any, seen.values())) else "in part"
 
 
 @functools.cache
@@ -78,17 +93,23 @@ def lint():
     """Each row of a table of promises names a crate, functions of it, and clauses that one of them has.
 
     A clause is a plain word between commas; what stands behind `:` or in brackets is a part of one, and other words are prose.
+    The last column says which program reaches the functions, the server, the page's client, both or neither; that some of them
+    aren't reached; or that it is a law.
     """
     for path in sorted((texts.TOP / "docs").glob("PROVED*.md")):
-        for line, crates, cell, clause_cell in rows(path):
+        for line, crates, cell, clause_cell, said in rows(path):
             for crate in crates:
                 if crate not in texts.listed():
                     yield texts.shown(path), line, f"there is no crate {crate}"
-            functions = []
+            functions, groups = [], []
             for name, found in meant(crates, cell):
                 functions += found
+                groups.append(found)
                 if not found and name not in own_types():
                     yield texts.shown(path), line, f"{', '.join(crates)} has no {name}"
+            by = reached_by(groups)
+            if said != by:
+                yield texts.shown(path), line, f"the row is reached by {by}, and says {said or 'nothing'}"
             has = clauses_of(functions)
             for part in re.sub(r"\([^)]*\)", "", clause_cell).split(";"):
                 for word in part.partition(":")[0].split(","):

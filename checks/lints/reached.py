@@ -23,8 +23,8 @@ def is_law(function):
 
 
 @functools.cache
-def reached(tests=False):
-    """The functions that the programs reach, or also those that tests, cases and laws reach.
+def reached(tests=False, programs=PROGRAMS):
+    """The functions that these programs reach, or also those that tests, cases and laws reach.
 
     A name in a body stands for each function of that name that the body's crate can see: `x.name(..)` for methods,
     `Type::name` for those of the type, of a trait, or of what a type parameter stands for, a bare `name` for free functions.
@@ -33,8 +33,8 @@ def reached(tests=False):
     A method counts only once a reached function outside its type names the type: who never names it has no value of it.
     """
     everything = [*texts.listed(), *texts.listed("checks/tests/tests.txt")]
-    programs = [crate for crate in everything if tests or crate in PROGRAMS]
-    inside = frozenset().union(*(texts.below(crate) for crate in programs))
+    roots = [crate for crate in everything if tests or crate in programs]
+    inside = frozenset().union(*(texts.below(crate) for crate in roots))
     functions = [f for f in everywhere() if f.crate in inside]
     by_name = collections.defaultdict(list)
     for f in functions:
@@ -43,7 +43,7 @@ def reached(tests=False):
     found, named, parked = {}, set(), collections.defaultdict(list)
     waits = [
         f for f in functions
-        if f.name == "main" and f.crate in programs or f.trait and f.trait not in own_traits() or tests and ("#[test]" in f.marks or is_law(f))
+        if f.name == "main" and f.crate in roots or f.trait and f.trait not in own_traits() or tests and ("#[test]" in f.marks or is_law(f))
     ]
     while waits:
         f = waits.pop()
