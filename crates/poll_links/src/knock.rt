@@ -13,18 +13,18 @@ pub(crate) enum Knock {
     Nothing,
     /// One had failed before it was taken, so the listener has to be asked again.
     Lost,
-    /// The system has no descriptor or no memory left for one. It waits until there is.
+    /// The system gives none now, as where it has no descriptor or no memory left for one. It may later.
     Full,
-    /// The listener failed.
-    Failed,
+    /// The listener is gone.
+    Gone,
 }
 
 /// Errors of a connection that failed before it was taken, as accept(2) lists them: EPERM, EPROTO, ENOPROTOOPT, EOPNOTSUPP, ENETDOWN,
 /// ENETUNREACH, EHOSTDOWN, EHOSTUNREACH and ENONET.
 const LOST: [i32; 9] = [1, 71, 92, 95, 100, 101, 112, 113, 64];
 
-/// Errors of a system that has no room for one more: ENFILE, EMFILE, ENOBUFS and ENOMEM.
-const FULL: [i32; 4] = [23, 24, 105, 12];
+/// Errors of what is no listener, or is one no more: EBADF, EINVAL and ENOTSOCK.
+const GONE: [i32; 3] = [9, 22, 88];
 
 /// Asks for a connection, once.
 pub(crate) fn asked(listener: &TcpListener) -> Knock {
@@ -34,7 +34,7 @@ pub(crate) fn asked(listener: &TcpListener) -> Knock {
     }
 }
 
-/// Why no connection came.
+/// Why no connection came. Whatever else an error says, the listener is asked again after a while.
 fn refused(error: io::Error) -> Knock {
     let kind = error.kind();
     let code = error.raw_os_error().unwrap_or(0);
@@ -43,7 +43,7 @@ fn refused(error: io::Error) -> Knock {
         ErrorKind::WouldBlock => Knock::Nothing,
         ErrorKind::Interrupted | ErrorKind::ConnectionAborted => Knock::Lost,
         _ if LOST.contains(&code) => Knock::Lost,
-        _ if FULL.contains(&code) => Knock::Full,
-        _ => Knock::Failed,
+        _ if GONE.contains(&code) => Knock::Gone,
+        _ => Knock::Full,
     }
 }

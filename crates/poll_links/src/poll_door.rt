@@ -18,9 +18,9 @@ use std::sync::{Arc, Wait};
 /// How many connections that failed before they were taken one call passes over.
 const TRIES: u32 = 64;
 
-/// A door over a TCP listener that never waits: it answers `Quiet` where no connection is there, or the system has no room for one more. It is
-/// never shut, and doesn't tell how many links are left. Once it has given its last link, or failed, it listens no more: who connects is refused,
-/// and it fails where it is asked for another.
+/// A door over a TCP listener that never waits: it answers `Quiet` where no connection is there, or the system gives none now. It is never shut, and
+/// doesn't tell how many links are left. Once it has given its last link, or its listener is gone, it listens no more: who connects is refused, and it
+/// fails where it is asked for another.
 #[derive(Drop)]
 pub struct PollDoor<C> {
     clock: C,
@@ -79,7 +79,7 @@ impl<C: Clock + Copy + Drop> PollDoor<C> {
     /// What the listener answers, past connections that failed before they were taken.
     fn ask(&self) -> Knock {
         let Some(listener) = &self.listener else {
-            return Knock::Failed;
+            return Knock::Gone;
         };
         for _ in 0..TRIES {
             match asked(listener) {
@@ -113,7 +113,7 @@ impl<C: Clock + Copy + Drop> Door for PollDoor<C> {
         let answer = if self.given < self.sessions {
             self.ask()
         } else {
-            Knock::Failed
+            Knock::Gone
         };
         match answer {
             Knock::Came(stream) => {
@@ -132,7 +132,7 @@ impl<C: Clock + Copy + Drop> Door for PollDoor<C> {
                 self.bells.say_full(true);
                 Visit::Quiet
             }
-            Knock::Failed => {
+            Knock::Gone => {
                 self.listener = None;
                 self.faults = self.faults.saturating_add(1);
                 Visit::Failed

@@ -12,7 +12,7 @@ use Rattle.websocket.specs.View.{GivesError, KeepsRest, ReadLeaves, Returns}
 use Rattle.websocket.specs.declared.error.Error.{Error}
 use Rattle.websocket.specs.declared.protocol.context.Step.{Step}
 use Rattle.websocket.specs.declared.protocol.frame.codec.FrameStatus.TheVariants.{Partial, Complete}
-use Rattle.ws_link.specs.Frames.{Brings, Hears, IsCutOff, IsOver, IsSilent, ReadsRun, Tells, TellsNothing, frame_tells, line_limit, message_tells, tells}
+use Rattle.ws_link.specs.Frames.{Brings, Hears, IsCutOff, IsLarge, IsOver, IsSilent, IsTooLarge, ReadsRun, Tells, TellsNothing, frame_tells, line_limit, message_tells, tells}
 use Rattle.ws_link.specs.Refusals.{Refused}
 use Rattle.ws_link.proofs.Roles.{runs_keep}
 
@@ -101,10 +101,22 @@ module _ {S : Type 0} where
     k.6,
   )
 
+  then_large : (rem : S → Option (List ℕ)) (old mid new : Socket S) → TellsNothing rem old mid → IsTooLarge mid → IsTooLarge old
+  then_large rem old mid new h k = (
+    h.0 ++ k.0,
+    h.1.got ++ k.1,
+    k.2,
+    k.3,
+    runs_over old.conn mid.conn k.2 old.input mid.input k.3 h.1.got k.1 h.0 k.0 h.1.frames k.4,
+    both_silent h.0 k.0 h.2 k.5,
+    k.6,
+  )
+
   -- after frames that told nothing, what the next ones tell is what all of them tell
   pub then_hears : (rem : S → Option (List ℕ)) (old mid new : Socket S) (answer : Came) → TellsNothing rem old mid → Hears rem mid new answer → Hears rem old new answer
   then_hears rem old mid new (came.Line bytes) h k = then_tells rem old mid new (came.Line bytes) h k
-  then_hears rem old mid new came.TooLong h k = then_tells rem old mid new came.TooLong h k
+  then_hears rem old mid new came.TooLong h (inl k) = inl (then_tells rem old mid new came.TooLong h k)
+  then_hears rem old mid new came.TooLong h (inr k) = inr (then_large rem old mid new h k)
   then_hears rem old mid new came.Ended h (inl k) = inl (then_tells rem old mid new came.Ended h k)
   then_hears rem old mid new came.Ended h (inr k) = inr (then_cut_off rem old mid new h k)
   then_hears rem old mid new came.Quiet h k = still_nothing rem old mid new h k
@@ -127,7 +139,7 @@ module _ {S : Type 0} where
 
   frame_answers : (rem : S → Option (List ℕ)) (old new : Socket S) (p : ℕ × Effect) (answer : Came) → ReadsRun rem old new (p ∷ []) → frame_tells p.1 ≡ Some answer → Hears rem old new answer
   frame_answers rem old new p (came.Line bytes) r e = (p ∷ [], r, e)
-  frame_answers rem old new p came.TooLong r e = (p ∷ [], r, e)
+  frame_answers rem old new p came.TooLong r e = inl (p ∷ [], r, e)
   frame_answers rem old new p came.Ended r e = inl (p ∷ [], r, e)
   frame_answers rem old new p came.Quiet r e = absurd (none_quiet p.1.message e)
   frame_answers rem old new p came.Failed r e = tt
@@ -171,10 +183,14 @@ module _ {S : Type 0} where
   over_by old e (inl starved) h = absurd (rw starved at h)
   over_by old e (inr is) h = (e, is, h)
 
+  large_by : (old : Socket S) (e : Error) → GivesError (read_step old.conn old.input) e → IsLarge e → (x : Error) × (read_step old.conn old.input ≡ Err x) × IsLarge x
+  large_by old e (inl starved) h = absurd (rw starved at h)
+  large_by old e (inr is) h = (e, is, h)
+
   -- what a refusal tells
   pub refusal_heard : (rem : S → Option (List ℕ)) (old new : Socket S) (e : Error) (answer : Came) → GivesError (read_step old.conn old.input) e → Refused e answer → Hears rem old new answer
   refusal_heard rem old new e (came.Line bytes) g h = absurd h
-  refusal_heard rem old new e came.TooLong g h = absurd h
+  refusal_heard rem old new e came.TooLong g h = inr ([], [], old.conn, old.input, (refl, sym (append-nil old.input)), tt, large_by old e g h)
   refusal_heard rem old new e came.Ended g h = inr ([], [], old.conn, old.input, (refl, sym (append-nil old.input)), tt, inl (over_by old e g h))
   refusal_heard rem old new e came.Quiet g h = absurd h
   refusal_heard rem old new e came.Failed g h = tt

@@ -1,4 +1,5 @@
 pub mod Heads
 pub mod Heard
+pub mod Limits
 pub mod Roles
 pub mod Said

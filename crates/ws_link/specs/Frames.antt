@@ -1,5 +1,5 @@
 -- What the frames of a WebSocket tell a link, and what lines are as frames.
-use Rattle.std.specs.Prelude.{◌≡◌, ◌⊎◌, ◌++◌, ◌∷◌, ◌-◌, ℕ, nat_lt, cond, if◌then◌else◌, List, [], length, map, take, drop, Option, None, Some, Err}
+use Rattle.std.specs.Prelude.{◌≡◌, ◌⊎◌, ◌++◌, ◌∷◌, ◌-◌, ℕ, false, nat_lt, cond, if◌then◌else◌, List, [], length, map, take, drop, Option, None, Some, Err}
 use Rattle.std.specs.List.{concat}
 use Rattle.std.specs.Io.KnownBytes.{Appends, Consumes, IsAtEnd}
 use Rattle.board_links.specs.declared.link.Came.{Came}
@@ -13,10 +13,26 @@ use Rattle.tungstenite.specs.Text.{is_utf8}
 use Rattle.websocket.specs.declared.error.Error.{Error as FrameError}
 use Rattle.websocket.specs.declared.error.Error.TheVariants as frame
 use Rattle.websocket.specs.declared.error.ProtocolError.TheVariants.{ResetWithoutClosingHandshake}
+use Rattle.websocket.specs.declared.protocol.incomplete.MessageType.{MessageType}
 
 -- how many bytes a line may have
 abbrev pub line_limit : ℕ
 line_limit = 65536
+
+-- how many bytes may be held of frames that aren't whole: a frame of a line's bytes with its header, and what one read brings
+abbrev pub held_limit : ℕ
+held_limit = 69646
+
+-- the bytes so far of a message whose last frame is still to come are no more than a line's
+abbrev pub FitsLine : Option (MessageType × List ℕ) → Type 0
+FitsLine None = Unit {0}
+FitsLine (Some begun) = nat_lt line_limit (length begun.1) ≡ false
+
+-- a connection that takes no message and no frame of more bytes than a line has
+pub record IsLimited (c : Connection) : Type 0 where
+  pub messages : c.config.max_message_size ≡ Some line_limit
+  pub frames : c.config.max_frame_size ≡ Some line_limit
+  pub begun : FitsLine c.fragments
 
 -- these bytes are a line, or too long for one
 abbrev pub line_told : List ℕ → Came
@@ -54,6 +70,11 @@ IsOver frame.ConnectionClosed = Unit {0}
 IsOver (frame.Protocol why) = why ≡ ResetWithoutClosingHandshake
 IsOver error = ⊥
 
+-- the protocol's word for a message or a frame of too many bytes
+abbrev pub IsLarge : FrameError → Type 0
+IsLarge (frame.Capacity why) = Unit {0}
+IsLarge error = ⊥
+
 module _ {S : Type 0} where
   -- The frames of a run were read from the bytes left over and those that the stream gave, one after another, and the socket is where
   -- they led, on the same side. The bytes were the next of those that the stream tells, and what the frames asked for as replies, and nothing else,
@@ -73,6 +94,12 @@ module _ {S : Type 0} where
   abbrev pub TellsNothing : (S → Option (List ℕ)) → Socket S → Socket S → Type 0
   TellsNothing remaining old new = (ps : Run) × ReadsRun remaining old new ps × IsSilent ps
 
+  -- after frames that tell nothing, the header of a frame that is too large was read, or a frame that makes a message too large
+  abbrev pub IsTooLarge : Socket S → Type 0
+  IsTooLarge old =
+      (ps : Run) × (got : List ℕ) × (c : Connection) × (i : List ℕ) × Runs old.conn (old.input ++ got) ps c i × IsSilent ps
+      × ((x : FrameError) × (read_step c i ≡ Err x) × IsLarge x)
+
   -- after frames that tell nothing, the connection is over or the stream is at its end
   abbrev pub IsCutOff : (S → Option (List ℕ)) → Socket S → Socket S → Type 0
   IsCutOff remaining old new =
@@ -82,7 +109,7 @@ module _ {S : Type 0} where
   -- what a receive made of the socket, by its answer
   abbrev pub Hears : (S → Option (List ℕ)) → Socket S → Socket S → Came → Type 0
   Hears remaining old new (came.Line bytes) = Tells remaining old new (came.Line bytes)
-  Hears remaining old new came.TooLong = Tells remaining old new came.TooLong
+  Hears remaining old new came.TooLong = Tells remaining old new came.TooLong ⊎ IsTooLarge old
   Hears remaining old new came.Ended = Tells remaining old new came.Ended ⊎ IsCutOff remaining old new
   Hears remaining old new came.Quiet = TellsNothing remaining old new
   Hears remaining old new came.Failed = Unit {0}

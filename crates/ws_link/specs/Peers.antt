@@ -1,6 +1,7 @@
 -- What a call makes of a link's peer where the handshake was made, and the numbers of closes.
-use Rattle.std.specs.Prelude.{◌≡◌, ◌⊎◌, ◌==◌, ℕ, Bool, true, false, List, [], length, Option, None, Some}
+use Rattle.std.specs.Prelude.{◌≡◌, ◌≤◌, ◌⊎◌, ◌==◌, ℕ, Bool, true, false, List, [], length, Option, None, Some}
 use Rattle.board_links.specs.declared.link.Came.{Came}
+use Rattle.board_links.specs.declared.link.Came.TheVariants as came
 use Rattle.board_links.specs.declared.link.Out.{Out}
 use Rattle.board_links.specs.declared.link.Out.TheVariants as out
 use Rattle.board_links.specs.declared.link.SessionEnd.{SessionEnd}
@@ -9,7 +10,7 @@ use Rattle.game_sheet.specs.declared.act.Bye.TheVariants as bye
 use Rattle.page_files.specs.declared.page.Pages.{Pages}
 use Rattle.tungstenite.specs.Socket.{IsFresh, Socket}
 use Rattle.websocket.specs.declared.protocol.config.Role.TheVariants.{Server}
-use Rattle.ws_link.specs.Frames.{HandsOn, Hears, Says}
+use Rattle.ws_link.specs.Frames.{HandsOn, Hears, IsLimited, Says, held_limit}
 use Rattle.ws_link.specs.Pages.{Asks, ReadsOn, answer_by, pages_of}
 use Rattle.ws_link.specs.declared.greeting.Greeting.{Greeting}
 use Rattle.ws_link.specs.declared.ws_link.Peer.{Peer}
@@ -43,6 +44,29 @@ module _ {T : Type 0} where
   is_clear (peer.Open socket) = length socket.output == 0
   is_clear (peer.Answers socket) = length socket.output == 0
   is_clear other = true
+
+  -- how many bytes came of what is no line yet
+  abbrev pub held_of : Peer T → ℕ
+  held_of (peer.Greets greeting) = length greeting.head.items
+  held_of (peer.Open socket) = length socket.input
+  held_of (peer.Answers socket) = length socket.input
+  held_of peer.Gone = 0
+
+  -- past its handshake no message is taken of more bytes than a line has, and no more are held of one whose last frame is still to come
+  abbrev pub TakesLines : Peer T → Type 0
+  TakesLines (peer.Open socket) = IsLimited socket.conn
+  TakesLines other = Unit {0}
+
+  -- where a call leaves a peer that may be heard again
+  abbrev pub StaysLimited : Peer T → Peer T → Came → Type 0
+  StaysLimited old new (came.Line bytes) = TakesLines old → TakesLines new
+  StaysLimited old new came.Quiet = TakesLines old → TakesLines new
+  StaysLimited old new answer = Unit {0}
+
+  -- a receive lets no more bytes be held than the limit
+  pub record IsBounded (old new : Peer T) (answer : Came) : Type 0 where
+    pub held : held_of old ≤ held_limit → held_of new ≤ held_limit
+    pub limited : StaysLimited old new answer
 
   -- a peer that was open is open still, and this holds of its socket before and after
   abbrev pub StaysOpen : (Socket T → Socket T → Type 0) → Peer T → Peer T → Type 0

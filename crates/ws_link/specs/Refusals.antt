@@ -4,11 +4,12 @@ use Rattle.board_links.specs.declared.link.Came.{Came}
 use Rattle.board_links.specs.declared.link.Came.TheVariants as came
 use Rattle.websocket.specs.declared.error.Error.{Error}
 use Rattle.websocket.specs.declared.error.Error.TheVariants as error
-use Rattle.ws_link.specs.Frames.{IsOver}
+use Rattle.ws_link.specs.Frames.{IsLarge, IsOver}
 
 -- silence is the stream's answer alone, and a link doesn't fail for want of memory
 abbrev pub Refused : Error → Came → Type 0
 Refused cause came.Ended = IsOver cause
+Refused cause came.TooLong = IsLarge cause
 Refused cause came.Failed = cause ≢ error.OutOfMemory
 Refused cause came.NoMemory = Unit {0}
 Refused cause answer = ⊥

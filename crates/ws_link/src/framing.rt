@@ -9,7 +9,7 @@ ghost use Rattle.websocket.specs.Connection.{read_step, write_step};
 ghost use Rattle.websocket.specs.Content.{IsReceivedInside, HasValidText, message_content, received_content};
 ghost use Rattle.websocket.specs.View.{GivesError, IfMessage, IfReceived, KeepsRest, Leaves, ReadLeaves, Returns};
 ghost use Rattle.websocket.specs.declared.protocol.config.Role.TheVariants.{Server};
-ghost use Rattle.ws_link.specs.Frames.{HandsOn, Hears, Says, TellsNothing, frames_of, line_told, message_of, message_tells, tells};
+ghost use Rattle.ws_link.specs.Frames.{HandsOn, Hears, IsLimited, Says, TellsNothing, frames_of, held_limit, line_told, message_of, message_tells, tells};
 ghost use Rattle.ws_link.specs.Refusals.{IsHalt, Refused};
 
 use board_links::Came;
@@ -31,6 +31,9 @@ pub const LINE: u32 = 65_536;
 
 /// How many bytes are read at once.
 const ROOM: usize = 4_096;
+
+/// How many bytes a frame has at most that can't be read yet: a header and those of a line.
+const FRAME: usize = 65_550;
 
 /// How many pings and pongs one receive reads.
 const CONTROLS: u32 = 64;
@@ -70,11 +73,12 @@ impl<T> Framing<T> {
         ensures fresh { IsFresh (record result { input = []; output = [] }) stream Server }
         ensures input { result.input ≡ input.items }
         ensures output { result.output ≡ output }
+        ensures limits { IsLimited result.conn }
     {
         Framing {
             alloc,
             stream,
-            context: WebSocketContext::new(alloc, Role::Server, WebSocketConfig::default()),
+            context: WebSocketContext::new(alloc, Role::Server, limits()),
             input,
             output,
         }
@@ -200,9 +204,10 @@ impl<T: Write> Framing<T> {
 
 impl<T: Read> Framing<T> {
     /// The next line. It reads what the stream has, as far as a line needs it, and passes over pings and pongs; none where it stopped though the
-    /// stream may have more.
+    /// stream may have more. A message of more bytes than a line has is told as soon as the header of a frame says so.
     pub(crate) fn hear(&mut self) -> Option<Came>
         ensures hears { Hears T.remaining self.old self.new (unwrap_or result Quiet) }
+        ensures held { length self.old.input ≤ held_limit → length self.new.input ≤ held_limit }
         ensures within { IfSome result (IsWithin 65536) }
     {
         let mut controls = 0;
@@ -220,6 +225,7 @@ impl<T: Read> Framing<T> {
     /// What the next frame tells, or what a read does where none stands whole; none where it tells nothing. A ping or a pong is counted.
     fn hear_once(&mut self, controls: &mut u32) -> Option<Came>
         ensures hears { MatchOption result (TellsNothing T.remaining self.old self.new) (Hears T.remaining self.old self.new) }
+        ensures held { length self.old.input ≤ held_limit → length self.new.input ≤ held_limit }
         ensures within { IfSome result (IsWithin 65536) }
     {
         let mut reply = Vec::new(self.alloc);
@@ -238,11 +244,16 @@ impl<T: Read> Framing<T> {
         }
     }
 
-    /// Reads once, and holds what came. Room is taken first, so that want of memory loses no byte.
+    /// Reads once, and holds what came. Room is taken first, so that want of memory loses no byte. Nothing is read where more bytes came already than a
+    /// frame can have that isn't whole.
     fn fill(&mut self) -> Option<Came>
         ensures hears { MatchOption result (TellsNothing T.remaining self.old self.new) (Hears T.remaining self.old self.new) }
+        ensures held { length self.old.input ≤ held_limit → length self.new.input ≤ held_limit }
         ensures within { IfSome result (IsWithin 65536) }
     {
+        if self.input.len() > FRAME {
+            return Some(Came::Failed);
+        }
         if self.input.reserve(ROOM).is_err() {
             return Some(Came::NoMemory);
         }
@@ -256,6 +267,16 @@ impl<T: Read> Framing<T> {
             Err(error) => Some(halted(&error)),
         }
     }
+}
+
+/// What a peer may send: no message and no frame of more bytes than a line has.
+fn limits() -> WebSocketConfig
+    ensures messages { result.max_message_size ≡ Some 65536 }
+    ensures frames { result.max_frame_size ≡ Some 65536 }
+{
+    WebSocketConfig::default()
+        .max_message_size(Some(LINE as usize))
+        .max_frame_size(Some(LINE as usize))
 }
 
 /// Adds bytes for which there is room.
@@ -293,7 +314,7 @@ fn line(alloc: Global, bytes: &[u8]) -> Result<Came, NoMemory>
     Ok(Came::Line(Bytes::from_vec(Vec::from_slice(alloc, bytes)?)))
 }
 
-/// What bytes tell that break the protocol, or came after a close.
+/// What bytes tell that break the protocol or its limits, or came after a close.
 fn refused(error: &Error) -> Came
     ensures refused { Refused error.now result }
     ensures within { IsWithin 65536 result }
@@ -302,6 +323,7 @@ fn refused(error: &Error) -> Came
         Error::ConnectionClosed | Error::Protocol(ProtocolError::ResetWithoutClosingHandshake) =>
             Came::Ended,
         Error::OutOfMemory => Came::NoMemory,
+        Error::Capacity(_) => Came::TooLong,
         _ => Came::Failed,
     }
 }

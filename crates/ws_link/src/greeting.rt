@@ -1,9 +1,10 @@
 //! The handshake of a WebSocket, as far as its head has come.
 
-ghost use Rattle.std.specs.Prelude.{◌≡◌, ◌≤◌, [], IfOk, None, MatchOption, length, take};
+ghost use Rattle.std.specs.Prelude.{◌≡◌, ◌≤◌, ◌+◌, [], IfOk, None, MatchOption, length, take};
 ghost use Rattle.memchr.specs.Find.{FindsNeedle};
 ghost use Rattle.tungstenite.specs.Socket.{IsFresh};
 ghost use Rattle.websocket.specs.declared.protocol.config.Role.TheVariants.{Server};
+ghost use Rattle.ws_link.specs.Frames.{IsLimited, held_limit};
 ghost use Rattle.ws_link.specs.Pages.{IsHead, ReadsFor, answer_by, head_end, pages_of};
 
 use crate::framing::Framing;
@@ -118,6 +119,7 @@ impl<T: Read + Write + Drop> Greeting<T> {
     pub(crate) fn read_head(&mut self) -> Result<usize, Halt>
         ensures reads { ReadsFor T.remaining self.old self.new result }
         ensures head { IfOk result (IsHead self.new.head.items) }
+        ensures held { length self.old.head.items ≤ held_limit → length self.new.head.items ≤ held_limit }
     {
         for _ in 0..HEAD {
             if let Some(count) = head_length(self.head.as_slice()) {
@@ -139,7 +141,8 @@ impl<T: Read + Write + Drop> Greeting<T> {
 
     /// Reads once.
     fn read(&mut self) -> Result<(), Halt>
-        ensures { ReadsFor T.remaining self.old self.new result }
+        ensures reads { ReadsFor T.remaining self.old self.new result }
+        ensures held { length self.new.head.items ≤ length self.old.head.items + 1024 }
     {
         let mut room = [0u8; ROOM];
         match self.stream.read(&mut room) {
@@ -168,7 +171,8 @@ impl<T: Read + Write + Drop> Greeting<T> {
 
     /// Its stream with an answer that waits to be sent, after which nothing is heard.
     pub(crate) fn answering(self, output: Outgoing) -> Framing<T>
-        ensures { (result.stream ≡ self.stream) × (result.output ≡ output) }
+        ensures answers { (result.stream ≡ self.stream) × (result.output ≡ output) }
+        ensures held { result.input ≡ [] }
     {
         let Greeting {
             alloc,
@@ -183,7 +187,9 @@ impl<T: Read + Write + Drop> Greeting<T> {
     /// The WebSocket that a head of so many bytes asks for; the answer to the head waits to be sent, and what came behind the head is the first of its bytes. A
     /// head that names another origin than is taken is answered so.
     pub(crate) fn open(self, count: usize) -> Result<Framing<T>, Halt>
-        ensures { IfOk result (λ f. IsFresh (record f { input = []; output = [] }) self.stream Server) }
+        ensures fresh { IfOk result (λ f. IsFresh (record f { input = []; output = [] }) self.stream Server) }
+        ensures limits { IfOk result (λ f. IsLimited f.conn) }
+        ensures held { IfOk result (λ f. length f.input ≤ length self.head.items) }
     {
         let Greeting {
             alloc,

@@ -5,7 +5,8 @@ ghost use Rattle.std.specs.Prelude.{◌≡◌, ◌≤◌, ◌&&◌, None, Some, 
 ghost use Rattle.board_links.specs.Answers.{CameRaises, IsWithin, OutRaises, stage_after};
 ghost use Rattle.board_links.specs.Faults.{HasRisen};
 ghost use Rattle.board_links.specs.declared.link.Stage.TheVariants as at;
-ghost use Rattle.ws_link.specs.Peers.{FramesFlushed, FramesHanded, FramesHeard, FramesSaid, HeadMet, IsMet, IsOpen, IsRaw, PageAnswered, close_number, is_clear, is_done, waits_for};
+ghost use Rattle.ws_link.specs.Frames.{held_limit};
+ghost use Rattle.ws_link.specs.Peers.{FramesFlushed, FramesHanded, FramesHeard, FramesSaid, HeadMet, IsBounded, IsMet, IsOpen, IsRaw, PageAnswered, TakesLines, close_number, held_of, is_clear, is_done, waits_for};
 ghost use Rattle.tungstenite.specs.CloseCode.{close_code_number};
 
 use crate::framing::{Framing, LINE, Slip};
@@ -63,6 +64,7 @@ impl<T: Read + Write + Drop> WsLink<T> {
         ensures stage { ⟦<WsLink<T> as Link>⟧.stage result ≡ at.Open }
         ensures finished { ⟦<WsLink<T> as Link>⟧.finished result ≡ None }
         ensures raw { IsRaw stream result.peer }
+        ensures limits { TakesLines result.peer }
     {
         WsLink::with(Peer::Open(Framing::new(alloc, stream)))
     }
@@ -125,6 +127,7 @@ impl<T: Read + Write + Drop> WsLink<T> {
     fn come(&mut self) -> Came
         ensures frames { FramesHeard T.remaining self.old.peer self.new.peer result }
         ensures page { PageAnswered T.remaining self.old.peer self.new.peer }
+        ensures bounded { IsBounded self.old.peer self.new.peer result }
         ensures within { IsWithin 65536 result }
         ensures same { self.new ≡ record self.old { peer = self.new.peer; rest = self.new.rest } }
     {
@@ -140,6 +143,8 @@ fn greeted<T: Read + Write + Drop>(peer: &mut Peer<T>) -> Result<(), Halt>
     ensures open { IsOpen peer.old → IsOk result }
     ensures same { IsOpen peer.old → peer.new ≡ peer.old }
     ensures met { HeadMet T.remaining peer.old peer.new }
+    ensures held { held_of peer.old ≤ held_limit → held_of peer.new ≤ held_limit }
+    ensures limits { TakesLines peer.old → TakesLines peer.new }
 {
     let count = match peer {
         Peer::Greets(greeting) => match greeting.read_head() {
@@ -167,7 +172,9 @@ fn greeted<T: Read + Write + Drop>(peer: &mut Peer<T>) -> Result<(), Halt>
 /// A peer whose head of so many bytes has come: answered with a file of the page, or past its handshake.
 fn met<T: Read + Write + Drop>(greeting: Greeting<T>, count: usize) -> Result<Peer<T>, Halt>
     requires { count ≤ length greeting.head.items }
-    ensures { IfOk result (IsMet greeting (take count greeting.head.items)) }
+    ensures met { IfOk result (IsMet greeting (take count greeting.head.items)) }
+    ensures held { IfOk result (λ peer. held_of peer ≤ length greeting.head.items) }
+    ensures limits { IfOk result TakesLines }
 {
     match greeting.page(count)? {
         Some(answer) => Ok(Peer::Answers(greeting.answering(answer))),
@@ -179,6 +186,7 @@ fn met<T: Read + Write + Drop>(greeting: Greeting<T>, count: usize) -> Result<Pe
 fn come<T: Read + Write + Drop>(peer: &mut Peer<T>, rest: &mut Rest) -> Came
     ensures frames { FramesHeard T.remaining peer.old peer.new result }
     ensures page { PageAnswered T.remaining peer.old peer.new }
+    ensures bounded { IsBounded peer.old peer.new result }
     ensures within { IsWithin 65536 result }
 {
     match greeted(peer) {
@@ -283,6 +291,7 @@ impl<T: Read + Write + Drop> Link for WsLink<T> {
         ensures finished { self.new.finished ≡ self.old.finished }
         ensures frames { FramesHeard T.remaining self.old.peer self.new.peer result }
         ensures page { PageAnswered T.remaining self.old.peer self.new.peer }
+        ensures bounded { IsBounded self.old.peer self.new.peer result }
     {
         let came = self.come();
         match &came {
