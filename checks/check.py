@@ -33,6 +33,7 @@ CHECKS = {
     "bots": (["bench/bots.py", SERVER], 300),
     "serve_kills": (["bench/serve_kills.py", SERVER, "8"], 240),
     "anew_kills": (["bench/anew_kills.py", SERVER, "20"], 240),
+    "endless_messages": (["bench/attacks/endless_messages.py", SERVER], 120),
     "lines": (["clients/check_lines.py"], 120),
     "client_python": (["python3", "clients/python/test_sarpuntxe.py"], 240),
     "page": (PLAY, 900),
