@@ -31,6 +31,9 @@ const ENDED: &[u8] = b"\x88\x02\x03\xe8";
 /// The close of one whose line was too long.
 const TOO_LONG: &[u8] = b"\x88\x02\x03\xf1";
 
+/// The header alone of a binary message of 65,537 bytes.
+const PAST_THE_LIMIT: &[u8] = b"\x82\xff\x00\x00\x00\x00\x00\x01\x00\x01\x00\x00\x00\x00";
+
 /// One room and a bench, and a pass to each.
 #[derive(Drop)]
 struct Rooms {
@@ -125,11 +128,7 @@ fn matches_by_frames(rt: HostRuntime) -> Result<(), Fail> {
 #[test]
 fn a_message_past_the_limit(rt: HostRuntime) -> Result<(), Fail> {
     let alloc = rt.alloc();
-    let mut bytes = Vec::from_slice(
-        alloc,
-        b"\x82\xff\x00\x00\x00\x00\x00\x01\x00\x01\x00\x00\x00\x00",
-    )?;
-    bytes.resize(14 + 65_537, b' ')?;
+    let bytes = Vec::from_slice(alloc, PAST_THE_LIMIT)?;
     let mut sent = Vec::new(alloc);
     let end = served(&rt, alloc, bytes, &mut sent)?;
     assert_eq!(rt; end, SessionEnd::TooLong);
