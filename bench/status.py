@@ -20,8 +20,8 @@ from served import Session, compact
 ROOMS = 5
 GAME = "tic-tac-toe"
 NAMES = ["Xanthippe", "Quillfeather"]
-MEMBERS = ["rooms", "links", "bots", "refused", "received", "sent"]
-EMPTY = {"game": None, "number": None, "seats": 0, "taken": 0}
+MEMBERS = ["rooms", "open", "links", "bots", "refused", "received", "sent"]
+EMPTY = {"game": None, "number": None, "over": None, "seats": 0, "taken": 0}
 
 
 def check(holds, why):
@@ -113,12 +113,12 @@ def play(server, secrets):
     """Plays a little, and compares each member with what is known."""
     status = server.status()
     check(all(row == {"room": row["room"], "serial": 0, "sessions": 0, **EMPTY} for row in status["rooms"]), f"rooms are there already: {status}")
-    check([status[member] for member in MEMBERS[1:]] == [0] * 5, f"something is counted already: {status}")
+    check([status[member] for member in MEMBERS[1:]] == [True] + [0] * 5, f"something is counted already: {status}")
 
     ann, bob, looks = Counted(server), Counted(server), Counted(server)
     server.comes_to(lambda status: status["links"] == 3, "three connections are open")
     match = ann.ask({"game": GAME, "seats": 2, "type": "create"}, "created")["match"]
-    stands = {"game": GAME, "serial": 1, "number": 0, "seats": 2}
+    stands = {"game": GAME, "serial": 1, "number": 0, "over": False, "seats": 2}
     check(room_0(server.status()) == {**stands, "taken": 0, "sessions": 0}, f"a match was made: {server.status()}")
 
     keys = []
@@ -181,19 +181,43 @@ def requests(server):
 
 
 def slow(server):
-    """A slow peer is dropped after a second, and others wait no longer."""
-    with socket.create_connection(server.asked) as silent:
-        silent.settimeout(10)
-        silent.sendall(b"GET /status HT")
-        began = time.monotonic()
-        server.status()
-        took = time.monotonic() - began
-        check(took < 2, f"a slow peer held another up for {took:.1f} s")
-        check(silent.recv(1) == b"", "a slow peer was answered")
-    with socket.create_connection(server.asked):
-        pass
+    """Slow peers hold nobody up, and are let go after a second; for a ninth the oldest is let go at once."""
+    silent = [socket.create_connection(server.asked) for _ in range(7)]
+    for peer in silent:
+        peer.settimeout(10)
+        peer.sendall(b"GET /status HT")
+    began = time.monotonic()
+    server.status()
+    took = time.monotonic() - began
+    check(took < 0.5, f"slow peers held another up for {took:.1f} s")
+    for peer in silent:
+        check(peer.recv(1) == b"", "a slow peer was answered")
+        peer.close()
+    began = time.monotonic()
+    crowd = [socket.create_connection(server.asked) for _ in range(9)]
+    crowd[0].settimeout(10)
+    check(crowd[0].recv(1) == b"" and time.monotonic() - began < 0.8, "the oldest of nine wasn't let go at once")
+    for peer in crowd:
+        peer.close()
     server.status()
     return took
+
+
+def numbers(server):
+    """The metrics are what the status says, and the server says that it is well."""
+    first, headers, body = server.request(b"GET /healthz HTTP/1.1\r\n\r\n")
+    check(first == "HTTP/1.1 200 OK" and body == b"ok\n", f"the health is answered by {first} {body}")
+    first, headers, body = server.request(b"GET /metrics HTTP/1.1\r\n\r\n")
+    check(first == "HTTP/1.1 200 OK" and headers["content-type"].startswith("text/plain"), f"the metrics are answered by {first} {headers}")
+    rows = dict(line.rsplit(" ", 1) for line in body.decode().splitlines() if not line.startswith("#"))
+    status = server.status()
+    check(int(rows["sarpuntxe_open"]) == status["open"], f"another word on whether links are taken: {rows}")
+    for name, member in [("links", "links"), ("received_bytes_total", "received"), ("sent_bytes_total", "sent")]:
+        check(int(rows[f"sarpuntxe_{name}"]) == status[member], f"another number of {member}: {rows}")
+    free = sum(row["game"] is None for row in status["rooms"])
+    check(int(rows['sarpuntxe_rooms{state="free"}']) == free, f"{free} rooms are free: {rows}")
+    refused = sum(int(rows['sarpuntxe_sessions_ended_total{end="%s"}' % end]) for end in ("too-long", "fault", "no-memory"))
+    check(refused == status["refused"], f"another number of refused sessions: {rows}")
 
 
 def ends(program, words):
@@ -208,6 +232,7 @@ def main():
     try:
         play(server, secrets)
         requests(server)
+        numbers(server)
         took = slow(server)
         taken = ends(program, ["--status", "%s:%d" % server.asked])
         check(server.process.poll() is None, "the server has ended")
@@ -237,7 +262,7 @@ def main():
 
     for secret in secrets:
         check(not any(secret.encode() in answer for answer in answers), f"an answer has {secret}")
-    print(f"{len(answers)} answers were right, and none has a key or a name; a slow peer held one up for {took:.1f} s")
+    print(f"{len(answers)} answers were right, and none has a key or a name; beside seven slow peers one was answered after {took:.1f} s")
 
 
 if __name__ == "__main__":

@@ -1,12 +1,19 @@
-//! A connection on which somebody asks for the status by HTTP.
+//! Connections on which somebody asks for the status by HTTP.
 
 use game_sheet::NoMemory;
 use memchr::memmem;
 use room_keeper::{Request, request_of};
 use std::alloc::Global;
-use std::io::{Read, Write};
+use std::io::{ErrorKind, Read, Write};
+use std::mem;
 use std::net::{Shutdown, TcpListener, TcpStream};
 use std::time::{Duration, Instant};
+
+/// How many peers may be asking at once.
+const MOST: usize = 8;
+
+/// How many bytes are read at once.
+const ROOM: usize = 512;
 
 /// How many bytes the head of a request may have.
 const HEAD: usize = 4_096;
@@ -19,6 +26,10 @@ const PATIENCE: u64 = 1;
 
 /// How often bytes are passed over that came behind a request.
 const REST: u32 = 16;
+
+/// The answer to who asks whether the server is there.
+const HEALTHY: &[u8] =
+    b"HTTP/1.1 200 OK\r\nContent-Type: text/plain\r\nCache-Control: no-store\r\nContent-Length: 3\r\nConnection: close\r\n\r\nok\n";
 
 /// The answer to another path.
 const NOT_FOUND: &[u8] =
@@ -36,55 +47,151 @@ const BAD_REQUEST: &[u8] =
 const UNAVAILABLE: &[u8] =
     b"HTTP/1.1 503 Service Unavailable\r\nContent-Length: 0\r\nConnection: close\r\n\r\n";
 
-/// A connection, and for how much longer its peer may keep the server waiting.
+/// A connection, what of its request has come, and for how much longer its peer may keep the server waiting.
 #[derive(Drop)]
 pub struct Asker {
     rt: HostRuntime,
     stream: TcpStream,
+    begun: Instant,
+    head: Vec<u8>,
     patience: Duration,
 }
 
-/// Somebody who asks for the status at this listener, which doesn't block, if anybody does. Other requests are answered at once.
-pub fn asker_at(rt: HostRuntime, listener: &TcpListener) -> Option<Asker> {
-    let (stream, _addr) = listener.accept().ok()?;
-    let mut asker = Asker {
-        rt,
-        stream,
-        patience: Duration::from_secs(PATIENCE),
-    };
-    match asker.request() {
-        Some(Request::Status) => return Some(asker),
-        Some(Request::Elsewhere) => asker.answer(NOT_FOUND),
-        Some(Request::OtherMethod) => asker.answer(NOT_ALLOWED),
-        Some(Request::Unreadable) => asker.answer(BAD_REQUEST),
-        None => drop(asker),
+/// What a look at a connection brought.
+#[derive(Clone, Copy)]
+enum Look {
+    /// The request may still come.
+    Waits,
+    /// The request has come.
+    Asks(Request),
+    /// The peer has ended, failed, or is slow.
+    Gone,
+}
+
+/// Those whose requests haven't come whole, the oldest first.
+#[derive(Drop)]
+pub struct Askers {
+    rt: HostRuntime,
+    listener: TcpListener,
+    waiting: Vec<Asker>,
+}
+
+impl Askers {
+    /// At this listener, which doesn't block.
+    pub fn new(rt: HostRuntime, listener: TcpListener) -> Askers {
+        Askers {
+            rt,
+            listener,
+            waiting: Vec::new(rt.alloc()),
+        }
     }
-    None
+
+    /// Somebody who asks for the status or the metrics, if anybody does. Other requests are answered at once. It doesn't wait for what hasn't come.
+    pub fn next(&mut self) -> Option<(Asker, Request)> {
+        self.take();
+        let waiting = mem::replace(&mut self.waiting, Vec::new(self.rt.alloc()));
+        let mut found = None;
+        for asker in waiting {
+            found = self.sorted(asker, found);
+        }
+        found
+    }
+
+    /// Who is to be told of the rooms: the one who was found before, or else this one, if it asks for that. Else it waits on, or is let go.
+    fn sorted(
+        &mut self,
+        mut asker: Asker,
+        found: Option<(Asker, Request)>,
+    ) -> Option<(Asker, Request)> {
+        match asker.look() {
+            Look::Waits => self.keep(asker),
+            Look::Gone => drop(asker),
+            Look::Asks(request) => match request {
+                Request::Status | Request::Metrics => match found {
+                    None => return Some((asker, request)),
+                    Some(_) => self.keep(asker),
+                },
+                _ => asker.answer(answer_to(request)),
+            },
+        }
+        found
+    }
+
+    /// Takes those who have come. Where there are more than may ask at once, the oldest is let go.
+    fn take(&mut self) {
+        for _ in 0..MOST {
+            let Ok((stream, _addr)) = self.listener.accept() else {
+                return;
+            };
+            if stream.set_nonblocking(true).is_err() {
+                return;
+            }
+            let Ok(begun) = Instant::now(&self.rt) else {
+                return;
+            };
+            if self.waiting.len() >= MOST {
+                drop(self.waiting.remove(0));
+            }
+            self.keep(Asker {
+                rt: self.rt,
+                stream,
+                begun,
+                head: Vec::new(self.rt.alloc()),
+                patience: Duration::from_secs(PATIENCE),
+            });
+        }
+    }
+
+    /// Waits for the rest of a request; without memory for that its peer is let go.
+    fn keep(&mut self, asker: Asker) {
+        let _kept = self.waiting.push(asker);
+    }
+}
+
+/// What is answered at once.
+fn answer_to(request: Request) -> &'static [u8] {
+    match request {
+        Request::Health => HEALTHY,
+        Request::Elsewhere => NOT_FOUND,
+        Request::OtherMethod => NOT_ALLOWED,
+        Request::Unreadable => BAD_REQUEST,
+        Request::Status | Request::Metrics => UNAVAILABLE,
+    }
 }
 
 impl Asker {
-    /// What the peer asks for; none where it ends, fails or is slow.
-    fn request(&mut self) -> Option<Request> {
-        let begun = Instant::now(&self.rt).ok()?;
-        let mut head = [0; HEAD];
-        let mut filled = 0;
+    /// Reads what has come.
+    fn look(&mut self) -> Look {
         for _ in 0..HEAD {
-            let left = self.left(begun)?;
-            self.stream.set_read_timeout(Some(left)).ok()?;
-            match self.stream.read(&mut head[filled..]) {
-                Ok(0) | Err(_) => return None,
-                Ok(count) => filled += count,
+            if let Some(end) = memmem::find(self.head.as_slice(), &HEAD_END) {
+                return Look::Asks(request_of(&self.head.as_slice()[..end + 2]));
             }
-            if let Some(end) = memmem::find(&head[..filled], &HEAD_END) {
-                self.patience = self.left(begun)?;
-                return Some(request_of(&head[..end + 2]));
+            if self.head.len() >= HEAD {
+                return Look::Asks(Request::Unreadable);
             }
-            if filled == HEAD {
-                self.patience = self.left(begun)?;
-                return Some(Request::Unreadable);
+            let mut room = [0; ROOM];
+            let most = ROOM.min(HEAD - self.head.len());
+            match self.stream.read(&mut room[..most]) {
+                Ok(0) => return Look::Gone,
+                Ok(count) => {
+                    if self.head.extend_from_slice(&room[..count]).is_err() {
+                        return Look::Gone;
+                    }
+                }
+                Err(error) => return self.halted(error.kind()),
             }
         }
-        None
+        Look::Gone
+    }
+
+    /// What it means that nothing could be read.
+    fn halted(&self, kind: ErrorKind) -> Look {
+        match kind {
+            ErrorKind::WouldBlock | ErrorKind::Interrupted if self.left(self.begun).is_some() => {
+                Look::Waits
+            }
+            _ => Look::Gone,
+        }
     }
 
     /// For how much longer the peer may keep the server waiting, that has waited from this moment on; none where it may no longer.
@@ -93,14 +200,14 @@ impl Asker {
         self.patience.checked_sub(now.duration_since(begun))
     }
 
-    /// Gives the status, and closes the connection.
-    pub fn tell(self, alloc: Global, status: Result<Vec<u8>, NoMemory>) {
-        let Ok(status) = status else {
+    /// Gives a text of this type, and closes the connection.
+    pub fn tell(self, alloc: Global, kind: &str, text: Result<Vec<u8>, NoMemory>) {
+        let Ok(text) = text else {
             self.answer(UNAVAILABLE);
             return;
         };
-        let whole = answer_of(alloc, status.as_slice());
-        drop(status);
+        let whole = answer_of(alloc, kind, text.as_slice());
+        drop(text);
         match whole {
             Ok(whole) => {
                 self.answer(whole.as_slice());
@@ -123,6 +230,7 @@ impl Asker {
     /// Writes an answer; none where the peer doesn't take it in time.
     fn write(&mut self, bytes: &[u8]) -> Option<()> {
         let begun = Instant::now(&self.rt).ok()?;
+        self.stream.set_nonblocking(false).ok()?;
         let mut rest = bytes;
         for _ in 0..bytes.len() {
             if rest.is_empty() {
@@ -151,14 +259,14 @@ impl Asker {
     }
 }
 
-/// The answer that has this status.
-fn answer_of(alloc: Global, status: &[u8]) -> Result<Vec<u8>, NoMemory> {
+/// The answer that has this text, of this type.
+fn answer_of(alloc: Global, kind: &str, text: &[u8]) -> Result<Vec<u8>, NoMemory> {
     let head = format!(in alloc;
-        "HTTP/1.1 200 OK\r\nContent-Type: application/json\r\nCache-Control: no-store\r\nContent-Length: {}\r\nConnection: close\r\n\r\n",
-        status.len()
+        "HTTP/1.1 200 OK\r\nContent-Type: {kind}\r\nCache-Control: no-store\r\nContent-Length: {}\r\nConnection: close\r\n\r\n",
+        text.len()
     )?;
     let mut whole = Vec::from_slice(alloc, head.as_bytes())?;
     drop(head);
-    whole.extend_from_slice(status)?;
+    whole.extend_from_slice(text)?;
     Ok(whole)
 }

@@ -60,6 +60,9 @@ impl<'a, D: Door> Door for CountedDoor<'a, D> {
             Visit::Quiet => Visit::Quiet,
             Visit::Shut => Visit::Shut,
             Visit::Failed => {
+                if let Some(tally) = self.tally {
+                    tally.closed();
+                }
                 // A line that can't be written is lost; the program's end says the same.
                 let _said = eprintln!(self.rt; "no more connections are taken");
                 Visit::Failed

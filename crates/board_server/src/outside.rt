@@ -1,9 +1,9 @@
 //! What the keeper of a server's rooms knows of the world: the system's clock, and who asks for the status.
 
-use crate::asker::{Asker, asker_at};
+use crate::asker::{Asker, Askers};
 use crate::tally::Tally;
 use game_sheet::NoMemory;
-use room_keeper::{Outside, RoomStatus, status_text};
+use room_keeper::{Outside, Request, RoomStatus, metrics_text, status_text};
 use std::net::TcpListener;
 use std::time::Instant;
 
@@ -12,11 +12,18 @@ use std::time::Instant;
 pub struct SystemOutside<'a> {
     rt: HostRuntime,
     begun: Option<Instant>,
-    listener: Option<TcpListener>,
+    askers: Option<Askers>,
     tally: &'a Tally,
     bots: u8,
-    asker: Option<Asker>,
+    /// Who was found asking, and for what.
+    asker: Option<(Asker, Request)>,
 }
+
+/// The type of the status.
+const JSON: &str = "application/json";
+
+/// The type of the metrics.
+const METRICS: &str = "text/plain; version=0.0.4";
 
 impl<'a> SystemOutside<'a> {
     /// From now on, with this listener, which doesn't block. The status has what the tally counts, and so many bots.
@@ -27,10 +34,14 @@ impl<'a> SystemOutside<'a> {
         bots: u8,
     ) -> SystemOutside<'a> {
         let begun = Instant::now(&rt).ok();
+        let askers = match listener {
+            Some(listener) => Some(Askers::new(rt, listener)),
+            None => None,
+        };
         SystemOutside {
             rt,
             begun,
-            listener,
+            askers,
             tally,
             bots,
             asker: None,
@@ -47,25 +58,28 @@ impl<'a> Outside for SystemOutside<'a> {
     }
 
     fn is_watched(&self) -> bool {
-        self.listener.is_some()
+        self.askers.is_some()
     }
 
     fn asked(&mut self) -> bool {
-        if let Some(listener) = &self.listener {
-            self.asker = asker_at(self.rt, listener);
+        if let Some(askers) = &mut self.askers {
+            self.asker = askers.next();
         }
         self.asker.is_some()
     }
 
     fn answer(&mut self, rooms: Result<&[RoomStatus], NoMemory>) {
-        let Some(asker) = self.asker.take() else {
+        let Some((asker, request)) = self.asker.take() else {
             return;
         };
         let alloc = self.rt.alloc();
-        let status = match rooms {
-            Ok(rooms) => status_text(alloc, rooms, self.tally.counts(self.bots)),
-            Err(NoMemory) => Err(NoMemory),
-        };
-        asker.tell(alloc, status);
+        let counts = self.tally.counts(self.bots);
+        match (rooms, request) {
+            (Ok(rooms), Request::Metrics) => {
+                asker.tell(alloc, METRICS, metrics_text(alloc, rooms, counts));
+            }
+            (Ok(rooms), _) => asker.tell(alloc, JSON, status_text(alloc, rooms, counts)),
+            (Err(NoMemory), _) => asker.tell(alloc, JSON, Err(NoMemory)),
+        }
     }
 }

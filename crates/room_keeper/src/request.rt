@@ -3,9 +3,13 @@
 /// What is asked for.
 #[derive(Clone, Copy, Debug)]
 pub enum Request {
-    /// The status.
+    /// The status, as JSON.
     Status,
-    /// Another path than `/status`, by whichever method.
+    /// The same as metrics, as Prometheus reads them.
+    Metrics,
+    /// Whether the server is there.
+    Health,
+    /// Another path than these three, by whichever method.
     Elsewhere,
     /// Another method than GET.
     OtherMethod,
@@ -39,11 +43,19 @@ fn request_in(line: &str) -> Request {
         Some((path, _query)) => path,
         None => target,
     };
-    if path != "/status" {
-        Request::Elsewhere
-    } else if method != "GET" {
-        Request::OtherMethod
-    } else {
-        Request::Status
+    match at(path) {
+        Some(_) if method != "GET" => Request::OtherMethod,
+        Some(request) => request,
+        None => Request::Elsewhere,
+    }
+}
+
+/// What a path gives.
+fn at(path: &str) -> Option<Request> {
+    match path {
+        "/status" => Some(Request::Status),
+        "/metrics" => Some(Request::Metrics),
+        "/healthz" => Some(Request::Health),
+        _ => None,
     }
 }

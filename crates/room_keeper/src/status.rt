@@ -1,4 +1,4 @@
-//! What a server tells of its rooms and links to whoever asks for its status, and the text of it. No key and no player's name is in it, and nothing
+//! What a server tells of its rooms and links to whoever asks for its status, and its text as JSON. No key and no player's name is in it, and nothing
 //! that isn't shown to everybody.
 
 use crate::gauge::Seen;
@@ -30,6 +30,8 @@ pub struct MatchStatus {
     pub game: Text,
     /// Its state number.
     pub number: Number,
+    /// Whether it has ended.
+    pub over: bool,
     /// How many seats it has.
     pub seats: u64,
     /// At how many of them a player sits.
@@ -39,16 +41,46 @@ pub struct MatchStatus {
 /// What is told of the links, and of the bots beside them.
 #[derive(Clone, Copy)]
 pub struct Counts {
+    /// Whether links are taken.
+    pub open: bool,
     /// How many links are open now; bots' not among them.
     pub links: u64,
     /// How many seats the server's own bots were given.
     pub bots: u64,
-    /// How many sessions ended for what came: a line that was too long, a fault of the link, or want of memory.
-    pub refused: u64,
+    /// How sessions have ended.
+    pub ends: Ends,
+    /// How many lines came over links.
+    pub lines: u64,
     /// How many bytes of lines came over links.
     pub received: u64,
     /// How many bytes of lines were sent over links.
     pub sent: u64,
+}
+
+/// How many sessions have ended for each cause.
+#[derive(Clone, Copy)]
+pub struct Ends {
+    /// Their peer ended them.
+    pub ended: u64,
+    /// Their seat was left, or their match removed.
+    pub left: u64,
+    /// They fell behind.
+    pub lagging: u64,
+    /// A line was too long.
+    pub too_long: u64,
+    /// Their link failed.
+    pub faults: u64,
+    /// There was no memory, or their room has stopped.
+    pub starved: u64,
+}
+
+impl Ends {
+    /// How many ended for what came: a line that was too long, a fault of the link, or want of memory.
+    pub(crate) fn refused(self) -> u64 {
+        self.too_long
+            .saturating_add(self.faults)
+            .saturating_add(self.starved)
+    }
 }
 
 impl RoomStatus {
@@ -75,6 +107,7 @@ impl RoomStatus {
             stands: Some(MatchStatus {
                 game: row.game.copy(alloc)?,
                 number: seen.number,
+                over: row.over,
                 seats: seats.len() as u64,
                 taken: players_in(seats),
             }),
@@ -107,10 +140,11 @@ pub fn status_text(
         put_comma(&mut out, room > 0)?;
         put_room(alloc, &mut out, room as u64, status)?;
     }
-    out.push(b']')?;
+    out.extend_from_slice(b"],\"open\":")?;
+    put_boolean(&mut out, counts.open)?;
     put_member(&mut out, b",\"links\":", counts.links)?;
     put_member(&mut out, b",\"bots\":", counts.bots)?;
-    put_member(&mut out, b",\"refused\":", counts.refused)?;
+    put_member(&mut out, b",\"refused\":", counts.ends.refused())?;
     put_member(&mut out, b",\"received\":", counts.received)?;
     put_member(&mut out, b",\"sent\":", counts.sent)?;
     out.extend_from_slice(b"}\n")?;
@@ -156,6 +190,8 @@ fn put_match(
             put_string(alloc, out, stands.game.as_str())?;
             put_member(out, b",\"serial\":", serial)?;
             put_member(out, b",\"number\":", u64::from(stands.number))?;
+            out.extend_from_slice(b",\"over\":")?;
+            put_boolean(out, stands.over)?;
             put_member(out, b",\"seats\":", stands.seats)?;
             put_member(out, b",\"taken\":", stands.taken)
         }
@@ -163,6 +199,8 @@ fn put_match(
             put_null(out)?;
             put_member(out, b",\"serial\":", serial)?;
             out.extend_from_slice(b",\"number\":")?;
+            put_null(out)?;
+            out.extend_from_slice(b",\"over\":")?;
             put_null(out)?;
             put_member(out, b",\"seats\":", 0)?;
             put_member(out, b",\"taken\":", 0)

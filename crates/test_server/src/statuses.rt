@@ -5,8 +5,8 @@ ghost use Rattle.std.specs.Prelude.{◌≤◌};
 use game_sheet::{List, MatchName, NoMemory, Text};
 use room_history::RoomReply;
 use room_keeper::{
-    Counts, Errand, Gauge, HallKeeper, Keeper, MatchStatus, Outside, Request, RoomStatus,
-    request_of, status_text,
+    Counts, Ends, Errand, Gauge, HallKeeper, Keeper, MatchStatus, Outside, Request, RoomStatus,
+    metrics_text, request_of, status_text,
 };
 use std::alloc::Global;
 use std::sync::Arc;
@@ -16,16 +16,25 @@ use wire_json::MatchRow;
 
 /// Some counts.
 const COUNTS: Counts = Counts {
+    open: true,
     links: 5,
     bots: 2,
-    refused: 0,
+    ends: Ends {
+        ended: 10,
+        left: 11,
+        lagging: 12,
+        too_long: 1,
+        faults: 2,
+        starved: 4,
+    },
+    lines: 99,
     received: 1234,
     sent: 56789,
 };
 
 /// The status of three rooms, with these counts.
 const STATUS: &[u8] =
-    b"{\"rooms\":[{\"room\":0,\"game\":\"pig\",\"serial\":3,\"number\":17,\"seats\":2,\"taken\":1,\"sessions\":4},{\"room\":1,\"stopped\":true},{\"room\":2,\"game\":null,\"serial\":12,\"number\":null,\"seats\":0,\"taken\":0,\"sessions\":1}],\"links\":5,\"bots\":2,\"refused\":0,\"received\":1234,\"sent\":56789}\n";
+    b"{\"rooms\":[{\"room\":0,\"game\":\"pig\",\"serial\":3,\"number\":17,\"over\":false,\"seats\":2,\"taken\":1,\"sessions\":4},{\"room\":1,\"stopped\":true},{\"room\":2,\"game\":null,\"serial\":12,\"number\":null,\"over\":null,\"seats\":0,\"taken\":0,\"sessions\":1}],\"open\":true,\"links\":5,\"bots\":2,\"refused\":7,\"received\":1234,\"sent\":56789}\n";
 
 /// A room of each kind.
 fn rooms(alloc: Global) -> Result<Vec<RoomStatus>, NoMemory> {
@@ -34,6 +43,7 @@ fn rooms(alloc: Global) -> Result<Vec<RoomStatus>, NoMemory> {
         stands: Some(MatchStatus {
             game: Text::from_str(alloc, "pig")?,
             number: 17,
+            over: false,
             seats: 2,
             taken: 1,
         }),
@@ -58,12 +68,55 @@ fn a_status_is_a_line_of_json(rt: HostRuntime) -> Result<(), NoMemory> {
     Ok(())
 }
 
+/// The metrics of the same rooms, with the same counts.
+const METRICS: &[u8] = b"# TYPE sarpuntxe_open gauge
+sarpuntxe_open 1
+# TYPE sarpuntxe_links gauge
+sarpuntxe_links 5
+# TYPE sarpuntxe_bots gauge
+sarpuntxe_bots 2
+# TYPE sarpuntxe_lines_total counter
+sarpuntxe_lines_total 99
+# TYPE sarpuntxe_received_bytes_total counter
+sarpuntxe_received_bytes_total 1234
+# TYPE sarpuntxe_sent_bytes_total counter
+sarpuntxe_sent_bytes_total 56789
+# TYPE sarpuntxe_sessions_ended_total counter
+sarpuntxe_sessions_ended_total{end=\"ended\"} 10
+sarpuntxe_sessions_ended_total{end=\"left\"} 11
+sarpuntxe_sessions_ended_total{end=\"lagging\"} 12
+sarpuntxe_sessions_ended_total{end=\"too-long\"} 1
+sarpuntxe_sessions_ended_total{end=\"fault\"} 2
+sarpuntxe_sessions_ended_total{end=\"no-memory\"} 4
+# TYPE sarpuntxe_rooms gauge
+sarpuntxe_rooms{state=\"free\"} 1
+sarpuntxe_rooms{state=\"playing\"} 1
+sarpuntxe_rooms{state=\"over\"} 0
+sarpuntxe_rooms{state=\"stopped\"} 1
+# TYPE sarpuntxe_sessions gauge
+sarpuntxe_sessions 5
+# TYPE sarpuntxe_matches_total counter
+sarpuntxe_matches_total 15
+";
+
+#[test]
+fn metrics_are_lines_with_numbers(rt: HostRuntime) -> Result<(), NoMemory> {
+    let alloc = rt.alloc();
+    let rooms = rooms(alloc)?;
+    let text = metrics_text(alloc, rooms.as_slice(), COUNTS)?;
+    assert!(rt; text.as_slice() == METRICS);
+    Ok(())
+}
+
 /// Heads, and what they ask for.
-const HEADS: [(&[u8], Request); 14] = [
+const HEADS: [(&[u8], Request); 17] = [
     (b"GET /status HTTP/1.1\r\nHost: a\r\n", Request::Status),
     (b"GET /status HTTP/1.0\r\n", Request::Status),
     (b"GET /status?a=b?c HTTP/1.1\r\n", Request::Status),
     (b"GET /status? HTTP/1.1\r\n", Request::Status),
+    (b"GET /metrics HTTP/1.1\r\n", Request::Metrics),
+    (b"GET /healthz?a HTTP/1.1\r\n", Request::Health),
+    (b"PUT /metrics HTTP/1.1\r\n", Request::OtherMethod),
     (b"GET /status/ HTTP/1.1\r\n", Request::Elsewhere),
     (b"GET / HTTP/1.1\r\n", Request::Elsewhere),
     (b"POST /other HTTP/1.1\r\n", Request::Elsewhere),
@@ -94,7 +147,7 @@ struct Asks<'a> {
 
 /// What is told of a room with a match, one that has stopped, and one without a match.
 const TOLD: &[u8] =
-    b"{\"rooms\":[{\"room\":0,\"game\":\"pig\",\"serial\":3,\"number\":17,\"seats\":2,\"taken\":1,\"sessions\":1},{\"room\":1,\"stopped\":true},{\"room\":2,\"game\":null,\"serial\":12,\"number\":null,\"seats\":0,\"taken\":0,\"sessions\":0}],\"links\":5,\"bots\":2,\"refused\":0,\"received\":1234,\"sent\":56789}\n";
+    b"{\"rooms\":[{\"room\":0,\"game\":\"pig\",\"serial\":3,\"number\":17,\"over\":false,\"seats\":2,\"taken\":1,\"sessions\":1},{\"room\":1,\"stopped\":true},{\"room\":2,\"game\":null,\"serial\":12,\"number\":null,\"over\":null,\"seats\":0,\"taken\":0,\"sessions\":0}],\"open\":true,\"links\":5,\"bots\":2,\"refused\":7,\"received\":1234,\"sent\":56789}\n";
 
 impl<'a> Outside for Asks<'a> {
     fn seconds(&mut self) -> Option<u64> {
