@@ -238,9 +238,9 @@ def main():
         check(server.process.poll() is None, "the server has ended")
     finally:
         server.stop()
-    check("door fault" in taken, f"at an address that is taken the program says: {taken}")
+    check(taken.startswith("%s:%d: " % server.asked) and "door fault" in taken, f"at an address that is taken the program says: {taken}")
     formless = ends(program, ["--status", "here"])
-    check("door fault" in formless, f"at an address in no form the program says: {formless}")
+    check(formless.startswith("here: ") and "door fault" in formless, f"at an address in no form the program says: {formless}")
     answers = server.answers
 
     server = Server(program, ["--bots", GAME, "--seats", "2"])

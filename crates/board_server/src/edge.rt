@@ -158,8 +158,6 @@ pub fn serve_there<R: Threads + Wait + Sync>(
         bots: table,
         pace: _,
     } = asked;
-    let addr = listen.as_str().parse::<SocketAddr>();
-    drop(listen);
     let seats = seats_of(&table);
     drop(table);
     let Ok(origin) = shared(rt.alloc(), origin) else {
@@ -169,7 +167,7 @@ pub fn serve_there<R: Threads + Wait + Sync>(
         Ok(pages) => pages,
         Err(error) => return fault(&error, Exit::ReadFault),
     };
-    let Ok(addr) = addr else {
+    let Ok(addr) = address_in(rt, listen.as_str()) else {
         return Exit::DoorFault;
     };
     let listener = match status_listener(rt, status) {
@@ -192,10 +190,28 @@ pub fn serve_there<R: Threads + Wait + Sync>(
             leave, rt, words, seats, keep, listener, ws, origin, pages, door, readies,
         ),
         Err(error) => {
+            say(rt, listen.as_str(), &error);
             drop(listener);
             fault(&error, Exit::DoorFault)
         }
     }
+}
+
+/// The address that a text says. One that says none is told on standard error.
+fn address_in(rt: &HostRuntime, text: &str) -> io::Result<SocketAddr> {
+    match text.parse::<SocketAddr>() {
+        Ok(addr) => Ok(addr),
+        Err(_) => {
+            let error = io::Error::from(io::ErrorKind::InvalidInput);
+            say(rt, text, &error);
+            Err(error)
+        }
+    }
+}
+
+/// Says on standard error what the system made of a word of the call. A line that can't be written is lost.
+fn say(rt: &HostRuntime, word: &str, error: &io::Error) {
+    let _said = eprintln!(rt; "{word}: {error}");
 }
 
 /// Serves matches at this door, over WebSockets where that is asked for, with so many bots or in rooms that a folder keeps, and answers who asks at this
@@ -280,19 +296,27 @@ where
     serve_at(leave, rt, words, seats, journals, readies, door, outside)
 }
 
-/// A listener that doesn't block, at which the status may be asked for, if an address is said. An Err is that it is in no form, or the system's.
+/// A listener that doesn't block, at which the status may be asked for, if an address is said. An Err is that it is in no form, or the system's; it was
+/// told on standard error.
 fn status_listener(rt: &HostRuntime, addr: Option<Text>) -> io::Result<Option<TcpListener>> {
     let Some(text) = addr else {
         return Ok(None);
     };
-    let addr = text.as_str().parse::<SocketAddr>();
-    drop(text);
-    let Ok(addr) = addr else {
-        return Err(io::Error::from(io::ErrorKind::InvalidInput));
-    };
+    let addr = address_in(rt, text.as_str())?;
+    match listener_at(rt, addr) {
+        Ok(listener) => Ok(Some(listener)),
+        Err(error) => {
+            say(rt, text.as_str(), &error);
+            Err(error)
+        }
+    }
+}
+
+/// A listener at this address that doesn't block.
+fn listener_at(rt: &HostRuntime, addr: SocketAddr) -> io::Result<TcpListener> {
     let listener = TcpListener::bind(rt, addr)?;
     listener.set_nonblocking(true)?;
-    Ok(Some(listener))
+    Ok(listener)
 }
 
 /// An origin for all links of a door.
@@ -303,12 +327,15 @@ fn shared(alloc: Global, origin: Option<Text>) -> Result<Option<Arc<Text, Global
     }
 }
 
-/// The files of the page in a folder, for all links of a door, if there is one.
+/// The files of the page in a folder, for all links of a door, if there is one. What the system has against the folder is told on standard error.
 fn pages_in(rt: &HostRuntime, folder: Option<Text>) -> io::Result<Option<Arc<Pages, Global>>> {
     let Some(folder) = folder else {
         return Ok(None);
     };
     let pages = read_pages(rt, rt.alloc(), folder.as_str());
+    if let Err(error) = &pages {
+        say(rt, folder.as_str(), error);
+    }
     drop(folder);
     match Arc::new(rt.alloc(), pages?) {
         Ok(pages) => Ok(Some(pages)),
