@@ -96,7 +96,7 @@ pub fn open_journal(rt: &HostRuntime, path: String) -> io::Result<JournalDisk> {
 
 /// Opens a file for this process alone, and makes it where there is none.
 fn open_locked(rt: &HostRuntime, path: &str) -> io::Result<File> {
-    let file = options().open(rt, path)?;
+    let file = open_or_make(rt, path)?;
     lock(&file)?;
     // Whoever had the lock before may have put another file in its place.
     if file.metadata()?.ino() != fs::metadata(rt, path)?.ino() {
@@ -106,19 +106,35 @@ fn open_locked(rt: &HostRuntime, path: &str) -> io::Result<File> {
     Ok(file)
 }
 
-/// Writes a file of these bytes, all of them on the device, that is open for this process alone.
+/// Writes a file of these bytes, all of them on the device, that is open for this process alone. What stood there, as a crash may have left it, is removed
+/// first, so that no link that somebody put there is written through.
 fn write_new(rt: &HostRuntime, path: &str, bytes: &[u8]) -> io::Result<File> {
-    let file = options().truncate(true).open(rt, path)?;
+    match fs::remove_file(rt, path) {
+        Ok(()) => {}
+        Err(error) if error.kind() == io::ErrorKind::NotFound => {}
+        Err(error) => return Err(error),
+    }
+    let file = options().create_new(true).open(rt, path)?;
     lock(&file)?;
     file.write_all_at(bytes, 0)?;
     file.sync_all()?;
     Ok(file)
 }
 
+/// Opens a file, and makes it where there is none. None is made where a link leads nowhere.
+fn open_or_make(rt: &HostRuntime, path: &str) -> io::Result<File> {
+    match options().open(rt, path) {
+        Err(error) if error.kind() == io::ErrorKind::NotFound => {
+            options().create_new(true).open(rt, path)
+        }
+        opened => opened,
+    }
+}
+
 /// How a journal is opened. Nobody but its owner may read it, since it has the players' keys.
 fn options() -> fs::OpenOptions {
     let mut options = File::options();
-    options.read(true).write(true).create(true).mode(0o600);
+    options.read(true).write(true).mode(0o600);
     options
 }
 
