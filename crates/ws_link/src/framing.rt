@@ -104,6 +104,7 @@ impl<T> Framing<T> {
         ensures tells { IfOk result (λ answer. answer ≡ message_tells (option_map (received_content self.old.input) step.now.message)) }
         ensures within { IfOk result (λ answer. IfSome answer (IsWithin 65536)) }
         ensures left { OnOk result (self.new ≡ record self.old { input = drop step.now.consumed self.old.input; output = self.old.output ++ reply.now }) }
+        ensures held { OnErr result (self.new.input ≡ self.old.input) }
     {
         let told = match &step.message {
             Some(message) => told(self.alloc, &message.message(self.input.as_slice()))?,
