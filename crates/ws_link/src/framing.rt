@@ -63,7 +63,8 @@ impl<T> Model for Framing<T> {
 impl<T> Framing<T> {
     /// A socket that has read and sent nothing.
     pub(crate) fn new(alloc: Global, stream: T) -> Framing<T>
-        ensures { IsFresh result stream Server }
+        ensures fresh { IsFresh result stream Server }
+        ensures limits { IsLimited result.conn }
     {
         Framing::begun(alloc, stream, Vec::new(alloc), Outgoing::new(alloc))
     }
