@@ -20,6 +20,7 @@ pub returns-clause-held : goal.returns-clause-held
 returns-clause-held g c = c.loop.invariant.1
 
 pub loop-preserved : goal.loop-preserved
-loop-preserved g c =
-    (still_nothing g.T.Read.remaining c.args.self.now c.loop.self c.hear_once.new.self c.loop.invariant.0 c.in_default.ensures.hears,
-    λ few. c.in_default.ensures.held (c.loop.invariant.1 few))
+loop-preserved g c = (
+  still_nothing g.T.Read.remaining c.args.self.now c.loop.self c.hear_once.new.self c.loop.invariant.0 c.in_default.ensures.hears,
+  λ few. c.in_default.ensures.held (c.loop.invariant.1 few),
+)
