@@ -28,6 +28,7 @@ LINTS = {
     "links": documents.links,
     "lists of games": documents.same_games,
     "names of crates": documents.names_of_crates,
+    "versions": documents.versions,
 }
 
 

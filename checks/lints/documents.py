@@ -1,4 +1,4 @@
-"""The documents against the tree: links, lists of games, and names of crates."""
+"""The documents against the tree: links, lists of games, names of crates, and the version."""
 import re
 
 from . import texts
@@ -147,3 +147,20 @@ def names_of_crates():
             for name in re.findall(r"\bcrates/([a-z]\w*)\b(?![.*])", line):
                 if name not in listed and not (texts.CRATES / name).exists():
                     yield texts.shown(path), number, f"there is no crates/{name}"
+
+
+def versions():
+    """Wherever the version is said it is that of VERSION: the program's line for `--version`, the newest heading of CHANGELOG.md,
+    and the package of the JavaScript client, which has a third number behind it."""
+    version = texts.read(texts.TOP / "VERSION").strip()
+    for name, pattern in (
+        ("crates/board_commands/src/page.rt", r'(?m)^pub const VERSION: &str = "board_server (\S+)\\n";$'),
+        ("CHANGELOG.md", r"(?m)^## ([^\s,]+)"),
+        ("clients/js/package.json", r'(?m)^  "version": "(\d+\.\d+)\.\d+",$'),
+    ):
+        text = texts.read(texts.TOP / name)
+        said = re.search(pattern, text)
+        if not said:
+            yield name, 1, "no version is found here"
+        elif said[1] != version:
+            yield name, texts.line_at(text, said.start()), f"the version is {said[1]} here, and {version} in VERSION"
