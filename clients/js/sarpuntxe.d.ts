@@ -423,6 +423,34 @@ export interface State<G = unknown> {
   error: SarpuntxeError | null;
 }
 
+/** One session of the server: what is asked is answered in order. It throws a SarpuntxeError, `cut` or `not-sent`, where there is no answer. */
+export interface Session {
+  /** The server's line, whatever it is; one that is answered `again` is asked again, so many times in all at most: 8 by default. */
+  ask(line: object | string, most?: number): Promise<ServerLine>;
+  /** The server's line, if it is no refusal, which is thrown. */
+  granted(line: object | string): Promise<ServerLine>;
+}
+
+export interface ConnectionHandlers {
+  /** A connection stands. Once what this answers is done, the next pause is the shortest again. */
+  opened(session: Session): unknown;
+  /** A line of the server, also one that answers. */
+  heard(line: ServerLine, text: string): void;
+  /** `silent`: the server takes its time. `broken`: the next try is in so many milliseconds. */
+  told(state: "connecting" | "silent" | "open" | "broken", pause?: number): void;
+}
+
+/** A connection that is made anew whenever it breaks, for those who speak lines themselves. `Match` stands on it. */
+export class Connection {
+  constructor(address: string, handlers: ConnectionHandlers, options?: ServerOptions);
+  /** Connects now: in place of waiting for the end of a pause, or to begin another session. */
+  connect(): void;
+  /** Gives up a connection that stands, and makes another one after a pause. */
+  retry(): void;
+  ask(line: object | string, most?: number): Promise<ServerLine>;
+  close(): void;
+}
+
 export class Server {
   constructor(address: string, options?: ServerOptions);
   open(): Promise<this>;

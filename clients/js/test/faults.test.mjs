@@ -1,8 +1,8 @@
 // What the client makes of lines that the program says seldom, said here by a server of a few words; and of a program that guesses ahead.
 import assert from "node:assert/strict";
 import { after, test } from "node:test";
-import { FAULTS, REASONS, REFUSALS, SarpuntxeError, connect, nextSnapshot } from "../sarpuntxe.mjs";
-import { pretend } from "./server.mjs";
+import { Connection, FAULTS, REASONS, REFUSALS, SarpuntxeError, connect, nextSnapshot } from "../sarpuntxe.mjs";
+import { endAll, endLater, pretend } from "./server.mjs";
 
 const KEY = "a".repeat(32);
 const PLACE = { match: "0-1", seat: 0, key: KEY };
@@ -14,8 +14,7 @@ const update = (number) => ({ ctx: CTX, entry: entry(number - 1), g: { pot: numb
 const sync = (number) => ({ match: "0-1", seat: 0, snapshot: snapshot(number), type: "sync" });
 const ok = ({ ticket }, number) => ({ number, ticket, type: "ok" });
 
-const made = [];
-after(() => made.forEach((one) => one.stop()));
+after(endAll);
 
 /** Follows a match of a server that answers `sync` and `act` so, and everything else as one would. */
 async function follow(answers, options = { protocol: 1 }, place = PLACE) {
@@ -25,9 +24,9 @@ async function follow(answers, options = { protocol: 1 }, place = PLACE) {
     if (line.type === "sync") return [sync(0)];
     return [{ field: "type", reason: "bad-message", type: "refused" }];
   });
-  made.push(server);
   const lobby = await connect(server.address);
   const match = lobby.follow(place, options);
+  endLater(() => match.close());
   lobby.close();
   return match;
 }
@@ -97,6 +96,36 @@ test("pauses grow to five seconds at most", async () => {
   await match.until(({ pause }) => { if (pause) pauses.push(pause); return pauses.length >= 4; });
   assert.ok(pauses.at(-1) > pauses[0] && pauses.every((pause) => pause <= 5_000), pauses.join());
   match.close();
+});
+
+test("a connection is made anew after a cut, and what was asked of the last one is cut", async () => {
+  const asked = [], told = [], heard = [];
+  const server = await pretend((line, session) => { asked.push([session, line.type]); return line.type === "look" ? null : [{ games: [], type: "games" }]; });
+  let stands;
+  const opened = new Promise((done) => { stands = done; });
+  const connection = new Connection(server.address, {
+    opened: async (session) => {
+      assert.deepEqual((await session.ask({ type: "games" })).games, []);
+      if (asked.length === 1) await assert.rejects(connection.ask('{"type":"look"}'), is("fault", "cut"));
+      else stands();
+    },
+    heard: (line, text) => heard.push([line.type, JSON.parse(text).type]),
+    told: (state, pause) => told.push(pause === undefined ? state : [state, pause > 0 && pause <= 5_000]),
+  });
+  endLater(() => connection.close());
+  await opened;
+  assert.deepEqual(asked, [[1, "games"], [1, "look"], [2, "games"]]);
+  assert.deepEqual(told, ["connecting", "open", ["broken", true], "connecting", "open"]);
+  assert.deepEqual(heard, [["games", "games"], ["games", "games"]]);
+  connection.close();
+  await assert.rejects(connection.ask({ type: "games" }), is("fault", "not-sent"));
+  connection.connect();
+  assert.equal(told.length, 5, "it is over for good");
+});
+
+test("an address that is none is thrown back", () => {
+  const handlers = { opened() {}, heard() {}, told() {} };
+  for (const address of ["", "nonsense", "ws://:0:0/"]) assert.throws(() => new Connection(address, handlers), TypeError);
 });
 
 test("nobody answers at an address", async () => {
