@@ -1,15 +1,16 @@
 // A match: its stream, its board, who sits where, and what a player does.
 import { leadsNobodyHere, linkTo, mayGuess, qrCode } from "./address.js";
+import { Bell } from "./bell.js";
 import { gameNamed, isKnown } from "./boards/index.js";
-import { Connection, Cut } from "./connection.js";
 import { button, dot, element, keepingFocus, offer, section, setText, squares, tabs } from "./elements.js";
 import { startProgram } from "./guess.js";
 import { forgetSeat, keepSeat, lastName, seatIn } from "./keys.js";
 import * as lines from "./lines.js";
 import { Log } from "./log.js";
+import { SarpuntxeError, activeSeats } from "./sarpuntxe.js";
 import { beginMatch, Seats } from "./seats.js";
 import { View } from "./view.js";
-import { activeSeats, backAndForth, ending, nameFault, plain, turnWords } from "./words.js";
+import { backAndForth, ending, nameFault, plain, turnWords } from "./words.js";
 
 const LOOK = 4_000;
 const PAUSE_AFTER_REFUSAL = 5_000;
@@ -20,7 +21,7 @@ export class Match {
   #place; #match; #connection; #timer;
   #row = null; #gameName = null; #game = null; #board = null; #view = null; #seat = null; #key = null;
   #shown = null; #before = null; #acting = []; #program = mayGuess() ? startProgram() : Promise.resolve(null); #wanted = null; #turn = 0;
-  #lost = null; #table = null; #parts = {}; #log = new Log(); #seats;
+  #lost = null; #table = null; #parts = {}; #log = new Log(); #seats; #bell = new Bell();
 
   constructor(place, match) {
     [this.#place, this.#match] = [place, match];
@@ -31,10 +32,10 @@ export class Match {
       ask: (seat, name) => this.#askFor(seat, name),
     });
     this.#lay();
-    this.#connection = new Connection(place.address, {
+    this.#connection = place.connect({
       opened: () => this.#guard(() => this.#begin()),
       heard: (line, text) => this.#heard(line, text),
-      told: (state, seconds) => this.#told(state, seconds),
+      told: (state, pause) => this.#told(state, pause),
     });
     this.#timer = setInterval(() => { if (!document.hidden) this.#guard(() => this.#look()); }, LOOK);
   }
@@ -46,6 +47,7 @@ export class Match {
   close() {
     clearInterval(this.#timer);
     this.#connection.close();
+    this.#bell.close();
   }
 
   // ---- what the server says
@@ -55,7 +57,7 @@ export class Match {
     try {
       await run();
     } catch (why) {
-      if (!(why instanceof Cut)) throw why;
+      if (!lines.isCut(why)) throw why;
     }
   }
 
@@ -63,13 +65,13 @@ export class Match {
    * Without a connection there is no view: what is shown may be old, and nothing can be asked for.
    * Until there is something to show the head of the page says how the connection is, and then the turn's strip.
    */
-  #told(state, seconds) {
+  #told(state, pause) {
     if (state !== "open") {
       this.#shown = this.#view?.settled ?? this.#shown;
       this.#view = null;
     }
     if (["broken", "silent", "wrong"].includes(state)) this.#lost = state;
-    this.#place.told(this.#parts.all.hidden ? state : "rests", seconds);
+    this.#place.told(this.#parts.all.hidden ? state : "rests", pause);
     this.#draw();
   }
 
@@ -110,7 +112,7 @@ export class Match {
     const view = new View({ match: this.#match, seat, key, game: this.#gameName, program, drawn: () => this.#redraw(view) });
     this.#view = view;
     const line = await view.begin();
-    if (this.#view !== view) throw new Cut();
+    if (this.#view !== view) throw new SarpuntxeError("fault", "cut");
     return this.#connection.ask(line);
   }
 
@@ -299,10 +301,10 @@ export class Match {
     p.tabs = tabs("About the match", [
       { id: "moves", label: "Moves", part: part("div", {}, this.#log.element) },
       { id: "invite", label: "Invite", part: p.inviting },
-      { id: "about", label: "About", part: part("div", {}, p.about, this.#seats.own) },
+      { id: "about", label: "About", part: part("div", {}, p.about, this.#bell.choice, this.#seats.own) },
     ]);
     // Nothing is shown before the first state, so that nothing moves under a finger.
-    p.all = part("div", { class: "match", hidden: true }, p.lead, p.table, p.bar, p.tabs.element);
+    p.all = part("div", { class: "match", hidden: true }, p.lead, p.table, p.bar, part("div", { class: "side" }, this.#bell.question, p.tabs.element));
     p.early = part("p", { class: "quiet" }, "The match is being fetched …");
     this.#place.main.replaceChildren(p.title, p.rules, p.early, p.all);
   }
@@ -398,7 +400,16 @@ export class Match {
     this.#drawLead(end, over, off, name);
     const pending = this.#view ? this.#acting.map(({ asked }) => ({ act: asked, seat: this.#seat })) : [];
     this.#log.show(log, pending, this.#game, name, (seat) => players[seat]?.name !== null);
-    document.title = `${this.#lost ? "Connection lost" : end ?? (turns ? "Your turn" : "Waiting")} · ${this.#game.title}`;
+    this.#drawTitle(end, turns, turnWords(ctx, this.#seat, name, players));
+    // What is guessed says nothing of the turn.
+    const settledTurn = activeSeats(settled.ctx).some((one) => one.seat === this.#seat);
+    this.#bell.show({ seat: over ? null : this.#seat, turn: this.#view ? settledTurn : null, title: this.#game.title });
+  }
+
+  /** The tab tells whose turn it is. */
+  #drawTitle(end, turns, words) {
+    const said = this.#lost ? "Connection lost" : end ?? (turns ? "Your turn" : words.replace(/\.$/, ""));
+    document.title = `${said} · ${this.#game.title}`;
   }
 
   #lostWords() {

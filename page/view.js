@@ -1,5 +1,6 @@
 // What the page shows of a match: what the server's lines say, and what the program guesses ahead of them, where there is one.
 import * as lines from "./lines.js";
+import { nextSnapshot } from "./sarpuntxe.js";
 
 export class View {
   #match; #seat; #key; #game; #ticket = 0; #settled = null; #guess = null; #program; #drawn;
@@ -37,7 +38,7 @@ export class View {
   hear(text) {
     const line = JSON.parse(text);
     if (line.type === "sync") this.#settled = line.snapshot;
-    if (line.type === "update") this.#settled = this.#updated(line);
+    if (line.type === "update") this.#settled = this.#settled && nextSnapshot(this.#settled, line);
     this.#ask(`<${text}`);
     return this.#settled;
   }
@@ -74,10 +75,5 @@ export class View {
   /** From now on nothing is guessed in this stream. */
   #stop() {
     [this.#program, this.#guess] = [null, null];
-  }
-
-  #updated({ ctx, entry, g, number }) {
-    const before = this.#settled;
-    return number === before?.number + 1 ? { ctx, g, number, log: [...before.log, entry] } : null;
   }
 }

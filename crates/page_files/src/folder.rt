@@ -7,12 +7,12 @@ use std::fs::{self, Files};
 use std::io::{self, ErrorKind, Read};
 
 /// The files of the page, each by its name in the folder.
-const NAMES: [&str; 26] = [
+const NAMES: [&str; 27] = [
     "index.html",
     "style.css",
     "icon.svg",
     "address.js",
-    "connection.js",
+    "bell.js",
     "elements.js",
     "guess.js",
     "keys.js",
@@ -21,6 +21,7 @@ const NAMES: [&str; 26] = [
     "log.js",
     "main.js",
     "match.js",
+    "sarpuntxe.js",
     "seats.js",
     "view.js",
     "words.js",
