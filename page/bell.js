@@ -27,6 +27,7 @@ export class Bell {
     for (const type of ["click", "keydown"]) removeEventListener(type, this.#pressed);
     this.#notice?.close();
     this.#sound?.close();
+    this.#sound = null;
   }
 
   /** `seat` is one's own, or null if there is nothing to be told; `turn` says whether it is its turn, or null if that isn't known now. */

@@ -1,4 +1,4 @@
-"""The documents against the tree: links, lists of games, names of crates, and the version."""
+"""The documents against the tree: links, lists of games, names of crates, the version, and the files of the page."""
 import re
 
 from . import texts
@@ -164,3 +164,17 @@ def versions():
             yield name, 1, "no version is found here"
         elif said[1] != version:
             yield name, texts.line_at(text, said.start()), f"the version is {said[1]} here, and {version} in VERSION"
+
+
+def files_of_the_page():
+    """The list of the page's files in the program (page_files) has each file of page/, but for tests and what makes WebAssembly, and no other."""
+    name = "crates/page_files/src/folder.rt"
+    text = texts.read(texts.TOP / name)
+    place = text.index("const NAMES")
+    listed = set(re.findall(r'"([^"]+)",', text[place:text.index("];", place)]))
+    page = texts.TOP / "page"
+    there = {str(path.relative_to(page)) for suffix in (".js", ".html", ".css", ".svg") for path in texts.under(page, suffix)}
+    for file in sorted(there - listed):
+        yield name, texts.line_at(text, place), f"page/{file} is missing in the list, so no server hands it out"
+    for file in sorted(listed - there):
+        yield name, texts.line_at(text, place), f"there is no page/{file}, so no server with the page would start"
