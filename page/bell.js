@@ -1,4 +1,4 @@
-// What tells a player that it is the own turn: a sound, and a notification if the page isn't in sight. It is off until the player wants it,
+// What tells players that it is their turn: a sound, and a notification if the page isn't in sight. It is off until a player wants it,
 // which a match asks once in each browser, and the tab "About" lets change.
 import { button, element, keepingFocus, setText } from "./elements.js";
 import { keepBell, keptBell } from "./keys.js";
