@@ -390,6 +390,8 @@ export interface GuessProgram {
   run(line: string): Promise<{ send: string | null; shown: Snapshot<any> | null }>;
 }
 
+export type Guess = GuessProgram | null | Promise<GuessProgram | null>;
+
 export interface ServerOptions {
   /** The WebSocket to use, if not the global one. */
   WebSocket?: new (address: string) => WebSocket;
@@ -401,7 +403,9 @@ export interface FollowOptions extends ServerOptions {
   /** How many milliseconds to wait between two looks at who sits where; 4,000 by default. */
   look?: number;
   /** A program that guesses ahead. Without one `shown` is `settled`. */
-  guess?: GuessProgram | null | Promise<GuessProgram | null>;
+  guess?: Guess | ((game: string) => Guess);
+  /** Is called with each line of the server, before the state changes. */
+  heard?: (line: ServerLine) => void;
 }
 
 export interface State<G = unknown> {
@@ -416,6 +420,8 @@ export interface State<G = unknown> {
   shown: Snapshot<G> | null;
   /** How many actions `shown` is ahead of `settled`. */
   guessed: number;
+  /** Whether actions are guessed ahead now. */
+  guesses: boolean;
   /** The actions of this client that have no verdict yet. */
   waiting: Act[];
   /** Whether this seat may act in `shown`. */
@@ -483,6 +489,8 @@ export class Match<G = unknown> implements AsyncIterable<State<G>> {
   undo(): Promise<number>;
   redo(): Promise<number>;
   look(): Promise<MatchRow>;
+  /** Asks something else over the match's own connection, and answers the server's line, whatever it is. */
+  ask(line: object | string): Promise<ServerLine>;
   rename(name: string): Promise<void>;
   leave(): Promise<void>;
   reconnect(): void;

@@ -399,7 +399,7 @@ export class Match {
   constructor(address, { match, seat = null, key = null }, options = {}) {
     [this.#place, this.#options] = [{ match, seat, key }, options];
     this.#protocol = options.guess ? 1 : options.protocol ?? 2;
-    this.#state = { status: "connecting", pause: null, row: null, settled: null, shown: null, guessed: 0, waiting: [], mayAct: false, error: null };
+    this.#state = { status: "connecting", pause: null, row: null, settled: null, shown: null, guessed: 0, guesses: false, waiting: [], mayAct: false, error: null };
     this.#connection = new Connection(address, {
       opened: (session) => this.#opened(session),
       heard: (line, text) => this.#heard(line, text),
@@ -465,6 +465,12 @@ export class Match {
 
   look = async () => this.#row((await this.#granted({ match: this.match, type: "look" })).row);
 
+  /** Asks something else over the match's own connection, and answers the server's line, whatever it is. */
+  async ask(line) {
+    if (!this.#session) throw new SarpuntxeError("fault", "not-sent");
+    return this.#session.ask(line);
+  }
+
   async rename(name) {
     await this.#granted({ ...this.#place, name, type: "rename" });
     await this.look();
@@ -527,7 +533,9 @@ export class Match {
   async #begin(session) {
     const { row } = await session.granted({ match: this.match, type: "look" });
     if (this.#state.row && this.#state.row.game !== row.game) return this.#end("replaced");
-    const stream = { game: row.game, settled: null, guess: null, program: await this.#options.guess ?? null };
+    const { guess = null } = this.#options;
+    const program = await (typeof guess === "function" ? guess(row.game) : guess);
+    const stream = { game: row.game, settled: null, guess: null, program };
     if (session !== this.#session) return;
     this.#stream = stream;
     this.#row(row);
@@ -546,6 +554,7 @@ export class Match {
 
   #heard(line, text) {
     const stream = this.#stream;
+    this.#options.heard?.(line);
     if (line.type === "bye") return line.why === "left" ? this.#end("left") : undefined;
     if (!stream || line.type === "refused") return;
     if (line.type === "sync") {
@@ -554,6 +563,8 @@ export class Match {
     } else if (line.type === "update" || line.type === "change") {
       stream.settled = nextSnapshot(stream.settled, line);
       if (!stream.settled) return this.#connection.connect();
+      // Who acts at a seat that was free has sat down since.
+      if (this.#state.row.players[line.entry.seat]?.name === null) this.look().catch(() => {});
     } else if (!["ok", "no", "again"].includes(line.type)) {
       return;
     }
@@ -645,6 +656,7 @@ export class Match {
   #tell(news) {
     const state = { ...this.#state, ...news, waiting: this.#acts.map(({ asked }) => asked) };
     state.guessed = state.shown ? state.shown.number - state.settled.number : 0;
+    state.guesses = Boolean(this.#stream?.program);
     state.mayAct = state.status === "open" && mayAct(state.shown.ctx, this.#place.seat);
     this.#state = state;
     [...this.#listeners].forEach((listener) => listener(state));

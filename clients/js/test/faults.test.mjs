@@ -75,6 +75,19 @@ test("where protocol 2 is not spoken, protocol 1 is", async () => {
   match.close();
 });
 
+test("who acts at a seat that was free is looked for, other lines can be asked for, and each is heard", async () => {
+  const heard = [];
+  const match = await follow({
+    act: (line) => [{ ...update(1), entry: { ...entry(0), seat: 1 } }, ok(line, 1)],
+  }, { protocol: 1, look: 60_000, heard: ({ type }) => heard.push(type) });
+  await assert.rejects(match.ask({ type: "nonsense" }), is("fault", "not-sent"));
+  await opened(match);
+  await match.move("roll");
+  assert.equal((await match.ask({ type: "nonsense" })).reason, "bad-message");
+  assert.deepEqual(heard, ["match", "sync", "update", "ok", "match", "refused"]);
+  match.close();
+});
+
 test("a key that counts no more ends the match", async () => {
   const match = await follow({ sync: () => [{ field: null, reason: "unauthorized", type: "refused" }] });
   await assert.rejects(opened(match), is("refused", "unauthorized"));
@@ -174,8 +187,9 @@ function guesser() {
 test("a program that guesses is handed the lines, and its guess is shown until it is settled", async () => {
   const guess = guesser();
   let answer;
-  const match = await follow({ act: (line) => { answer = line; return []; } }, { guess: Promise.resolve(guess) });
+  const match = await follow({ act: (line) => { answer = line; return []; } }, { guess: (game) => game === "pig" ? Promise.resolve(guess) : null });
   await opened(match);
+  assert.ok(match.state.guesses);
   assert.equal(guess.heard[0], `pig ${JSON.stringify({ ...PLACE, type: "sync" })}`);
   const asked = match.move("roll");
   const state = await match.until(({ guessed }) => guessed === 1);

@@ -7,7 +7,7 @@ use std::fs::{self, Files};
 use std::io::{self, ErrorKind, Read};
 
 /// The files of the page, each by its name in the folder.
-const NAMES: [&str; 27] = [
+const NAMES: [&str; 26] = [
     "index.html",
     "style.css",
     "icon.svg",
@@ -23,7 +23,6 @@ const NAMES: [&str; 27] = [
     "match.js",
     "sarpuntxe.js",
     "seats.js",
-    "view.js",
     "words.js",
     "boards/blind-bid.js",
     "boards/captions.js",
