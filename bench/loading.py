@@ -3,7 +3,8 @@
 
     bench/loading.py PROGRAM [--times N] [MILLISECONDS ..]
 
-The round trips are of 0, 50, 100 and 200 ms if none are named, and each time is the median of N visits, 5 if that isn't said.
+The round trips are of 0, 50, 100 and 200 ms if none are named. Each time is the least of N visits, 5 if that isn't said, since whatever else
+the machine does can only add to it.
 It starts the server with the page, and headless Chromium (CHROMIUM names another). A first visit is one of a browser that keeps nothing yet.
 A page is there once it shows the games of the lobby, or the board of a match; the time counts from the navigation on.
 """
@@ -12,7 +13,6 @@ import json
 import os
 import re
 import shutil
-import statistics
 import subprocess
 import sys
 import tempfile
@@ -171,9 +171,9 @@ def row(browser, port, match, trip, times):
         sent.append(relay.bytes - before[1])
         seconds.append(browser.visits(page, LOBBY, 2)[1])
         matches += browser.visits(f"{page}?match={match}", MATCH, 1)
-    middle = [f"{statistics.median(all_) / 1_000:.2f} s" for all_ in (firsts, seconds, matches)]
-    counts = [f"{statistics.median(connections):.0f}", f"{statistics.median(sent) / 1_024:.0f} KB"]
-    return " | ".join([f"{trip} ms", *middle, *counts])
+    least = [f"{min(took) / 1_000:.2f} s" for took in (firsts, seconds, matches)]
+    counts = [f"{min(connections)}", f"{min(sent) / 1_024:.0f} KB"]
+    return " | ".join([f"{trip} ms", *least, *counts])
 
 
 def main(program, *words):
