@@ -345,7 +345,10 @@ class Play(unittest.TestCase):
                 self.assertFalse(ann.wait(0.05))
                 ann.leave()
             self.raises("refused", "no-match", server.look, match)
-        self.raises("fault", "unreachable", sarpuntxe.connect, "127.0.0.1:1")
+        with socket.socket() as bound:
+            # (nobody else can listen at a port that is bound)
+            bound.bind(("127.0.0.1", 0))
+            self.raises("fault", "unreachable", sarpuntxe.connect, "127.0.0.1:%d" % bound.getsockname()[1])
 
     def test_after_a_cut_the_log_says_what_has_counted(self):
         for server, scheme in ((self.line, "tcp"), (self.web, "ws")):

@@ -142,8 +142,10 @@ test("an address that is none is thrown back", () => {
 });
 
 test("nobody answers at an address", async () => {
-  await assert.rejects(connect("tcp://127.0.0.1:1"), is("fault", "unreachable"));
-  await assert.rejects(connect("ws://127.0.0.1:1/"), is("fault", "unreachable"));
+  const server = await pretend(() => null);
+  server.stop();
+  await assert.rejects(connect(server.address), is("fault", "unreachable"));
+  await assert.rejects(connect(`${server.address.replace("tcp:", "ws:")}/`), is("fault", "unreachable"));
 });
 
 test("every word of the protocol has words for people", () => {
