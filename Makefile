@@ -1,4 +1,4 @@
-.PHONY: program demo serve served page play try page-test test quick-test edits check bench dist clients-test
+.PHONY: program demo serve served page play try host page-test test quick-test edits check bench dist clients-test
 
 SHELL := bash
 .SHELLFLAGS := -o pipefail -c
@@ -80,6 +80,14 @@ play: program page
 # The same in a minute or two, and later at once, by a program that is built without a proof; without page_program.wasm the page guesses nothing ahead.
 try:
 	@checks/try_server.py $(LISTEN) $(SERVES)
+
+# Serves an evening with friends: the page and 64 matches, kept in ROOMS, at all addresses of this machine, which it prints.
+# BOTS=GAME has bots at SEATS seats of a first match, and then nothing is kept. PROVED=no takes a server that is built in a minute or two.
+PORT ?= 7000
+ROOMS ?= rooms
+host: $(if $(filter no,$(PROVED)),,program page)
+	@SARPUNTXE_ROOMS="$(abspath $(ROOMS))" SARPUNTXE_BOTS="$(if $(filter file,$(origin BOTS)),,$(BOTS) $(SEATS))" \
+	  SARPUNTXE_UNPROVED="$(filter no,$(PROVED))" deploy/host.sh $(PORT)
 
 # Plays on the page in headless Chromium, against the program, or against SARPUNTXE_PROGRAM or SARPUNTXE_SERVER. It wants node and chromium.
 page-test: $(if $(SARPUNTXE_PROGRAM)$(SARPUNTXE_SERVER),,program) page

@@ -35,9 +35,12 @@ CHECKS = {
     "anew_kills": (["bench/anew_kills.py", SERVER, "20"], 240),
     "endless_messages": (["bench/attacks/endless_messages.py", SERVER], 120),
     "lines": (["clients/check_lines.py"], 120),
+    "client_js": (["npm", "--prefix", "clients/js", "test"], 240),
     "client_python": (["python3", "clients/python/test_sarpuntxe.py"], 240),
     "page": (PLAY, 900),
 }
+# What a check wants on the PATH. Where it isn't, the check is left out.
+WANTED = {"client_js": ["node", "npm"], "page": ["node", os.environ.get("CHROMIUM", "chromium")]}
 # It mostly waits, so it runs beside the others.
 BESIDE = "idle"
 
@@ -113,12 +116,9 @@ def as_command(program, folder):
     return command
 
 
-def why_no_page():
-    if not shutil.which("node"):
-        return "there is no node"
-    if not shutil.which(os.environ.get("CHROMIUM", "chromium")):
-        return "there is no chromium"
-    return ""
+def why_left_out(name):
+    missing = [program for program in WANTED.get(name, ()) if not shutil.which(program)]
+    return f"there is no {missing[0]}" if missing else ""
 
 
 def main(words):
@@ -152,8 +152,8 @@ def main(words):
         for name in checks:
             if name == BESIDE:
                 continue
-            if name == "page" and why_no_page():
-                outcome.leave_out(name, why_no_page())
+            if why_left_out(name):
+                outcome.leave_out(name, why_left_out(name))
                 continue
             why, took, said = run(name, *CHECKS[name], server)
             outcome.tell(name, why, took)

@@ -28,6 +28,8 @@ LINTS = {
     "links": documents.links,
     "lists of games": documents.same_games,
     "names of crates": documents.names_of_crates,
+    "versions": documents.versions,
+    "files of the page": documents.files_of_the_page,
 }
 
 

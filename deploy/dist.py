@@ -24,7 +24,7 @@ WASM = "page/page_program.wasm"
 # What of the committed files is in a release.
 FOLDERS = ("clients/", "deploy/", "docs/", "examples/", "page/")
 FILES = ("README.md", "CHANGELOG.md", "SECURITY.md", "LICENSE", "VERSION")
-LEFT_OUT = ("page/test/", "page/wasm/", "deploy/dist.py", "clients/check_lines.py")
+LEFT_OUT = ("page/test/", "page/wasm/", "deploy/dist.py", "deploy/try_dist.py", "clients/check_lines.py")
 
 
 def said(*words):

@@ -1,4 +1,4 @@
-// What the browser keeps: the key of the seat in each match of each server, and the name that was last used.
+// What the browser keeps: the key of the seat in each match of each server, the name that was last used, and whether one wants to be told of one's turn.
 // If the browser keeps nothing, as in some private windows, a seat lasts as long as the page.
 
 const memory = new Map();
@@ -25,3 +25,7 @@ export function forgetSeat(address, match) {
 
 export const lastName = () => read("name") ?? "";
 export const keepName = (name) => write("name", name);
+
+/** Whether one wants to be told when it is one's turn, or null if that wasn't asked yet. */
+export const keptBell = () => read("bell");
+export const keepBell = (on) => write("bell", on);

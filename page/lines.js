@@ -1,25 +1,18 @@
-// The messages of the protocol: the lines that the page sends, what answers them, and what each refusal means in words.
+// The messages of the protocol: the lines that the page sends, what a player may ask for, and what each refusal means in words.
+import { SarpuntxeError } from "./sarpuntxe.js";
+
+export { endTurn, move, redo, undo } from "./sarpuntxe.js";
 
 export const games = () => JSON.stringify({ type: "games" });
 export const matches = (game) => JSON.stringify({ game, type: "matches" });
-export const look = (match) => JSON.stringify({ match, type: "look" });
 export const create = (game, seats) => JSON.stringify({ game, seats, type: "create" });
 export const join = (match, seat, name) => JSON.stringify({ match, name, seat, type: "join" });
 export const rename = (match, seat, key, name) => JSON.stringify({ key, match, name, seat, type: "rename" });
 export const leave = (match, seat, key) => JSON.stringify({ key, match, seat, type: "leave" });
 export const takeover = (match, seat) => JSON.stringify({ match, seat, type: "takeover" });
-export const sync = (match, seat, key) => JSON.stringify({ key, match, seat, type: "sync" });
-export const act = (match, key, number, ticket, asked) =>
-  JSON.stringify({ act: asked, key, match, number, ticket, type: "act" });
 
-// What a player may ask for in a match. Members stand in the order in which the server writes them in the log.
-export const move = (name, ...args) => ({ args, kind: "move", move: name });
-export const endTurn = (to = null) => ({ event: "endTurn", kind: "event", to });
-export const undo = () => ({ kind: "undo" });
-export const redo = () => ({ kind: "redo" });
-
-/** Whether a line answers the oldest line that has no answer yet. The others are the stream's own. */
-export const isAnswer = (line) => !["update", "change", "bye"].includes(line.type);
+/** Whether a request had no answer, since the connection broke before. */
+export const isCut = (why) => why instanceof SarpuntxeError && why.kind === "fault" && why.reason !== "again";
 
 /** How many bytes a text takes on a line, which is what names and captions are measured in. A plain letter takes one. */
 export const bytes = (text) => new TextEncoder().encode(text).length;
@@ -67,6 +60,9 @@ const byes = {
 };
 
 const fields = { name: refusals["bad-name"], act: "That is too long, or no whole number." };
+
+/** What an error of the client means in words, which has the reason of the line that it stands for. */
+export const ofError = ({ kind, reason, field }) => inWords(kind === "fault" ? { type: "again" } : { type: kind, reason, field });
 
 /** What a line that is no success means in words: a refusal, a verdict `no`, an `again` or a `bye`. */
 export function inWords(line) {

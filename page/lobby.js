@@ -1,5 +1,4 @@
 // The lobby: the games, their matches, and making one.
-import { Connection, Cut } from "./connection.js";
 import { linkTo } from "./address.js";
 import { button, element, keepingFocus, nameField, section, setText, unseen } from "./elements.js";
 import { gameNamed } from "./boards/index.js";
@@ -31,7 +30,7 @@ export class Lobby {
   connect() {
     this.#rest();
     if (document.hidden) return;
-    this.#connection = new Connection(this.#place.address, { opened: () => this.#begin(), heard: () => {}, told: this.#place.told });
+    this.#connection = this.#place.connect({ opened: () => this.#begin(), heard: () => {}, told: this.#place.told });
   }
 
   close() {
@@ -53,7 +52,7 @@ export class Lobby {
       if (["refused", "again"].includes(answer?.type)) { setText(this.#alert, lines.inWords(answer)); return null; }
       return answer ?? null;
     } catch (why) {
-      if (why instanceof Cut) return null;
+      if (lines.isCut(why)) return null;
       throw why;
     }
   }

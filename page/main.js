@@ -3,6 +3,7 @@ import { linkTo, matchNamed, serverAddress } from "./address.js";
 import { setText } from "./elements.js";
 import { Lobby } from "./lobby.js";
 import { Match } from "./match.js";
+import { Connection, SarpuntxeError } from "./sarpuntxe.js";
 
 const by = (id) => document.getElementById(id);
 let shown = null;
@@ -17,20 +18,30 @@ function go(match) {
 function show() {
   shown?.close();
   const match = matchNamed();
-  const place = { address: serverAddress(), main: by("main"), told, go };
+  const place = { address: serverAddress(), main: by("main"), connect, told, go };
   by("home").href = linkTo(null);
   setText(by("skip"), match === null ? "Skip to the games" : "Skip to the board");
   shown = match === null ? new Lobby(place) : new Match(place, match);
   scrollTo(0, 0);
 }
 
-/** Says how the connection is. */
-function told(state, seconds) {
+/** A connection to the server that the address names. If it names none, that is told, and nothing is ever sent. */
+function connect(handlers) {
+  try {
+    return new Connection(serverAddress(), handlers);
+  } catch {
+    handlers.told("wrong");
+    return { connect() {}, close() {}, ask: () => Promise.reject(new SarpuntxeError("fault", "not-sent")) };
+  }
+}
+
+/** Says how the connection is. While it is broken the next try is in so many milliseconds. */
+function told(state, pause) {
   const words = {
     connecting: "Connecting …",
     silent: "The server does not answer yet: all its places may be taken.",
     open: "Connected",
-    broken: `Connection lost. Trying again in ${seconds} s.`,
+    broken: `Connection lost. Trying again in ${Math.ceil(pause / 1_000)} s.`,
     wrong: "This address cannot be connected to.",
     rests: "",
   };
@@ -53,5 +64,4 @@ addEventListener("popstate", show);
 // A page that the browser keeps for going back gives its connection back, and begins anew when it is shown again.
 addEventListener("pagehide", () => shown.close());
 addEventListener("pageshow", (event) => { if (event.persisted) show(); });
-addEventListener("online", () => shown.connect());
 show();

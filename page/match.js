@@ -1,26 +1,24 @@
-// A match: its stream, its board, who sits where, and what a player does.
+// A match: its board, who sits where, and what a player does. The client of the server follows it.
 import { leadsNobodyHere, linkTo, mayGuess, qrCode } from "./address.js";
+import { Bell } from "./bell.js";
 import { gameNamed, isKnown } from "./boards/index.js";
-import { Connection, Cut } from "./connection.js";
 import { button, dot, element, keepingFocus, offer, section, setText, squares, tabs } from "./elements.js";
 import { startProgram } from "./guess.js";
 import { forgetSeat, keepSeat, lastName, seatIn } from "./keys.js";
 import * as lines from "./lines.js";
 import { Log } from "./log.js";
+import { Match as Followed, SarpuntxeError, activeSeats } from "./sarpuntxe.js";
 import { beginMatch, Seats } from "./seats.js";
-import { View } from "./view.js";
-import { activeSeats, backAndForth, ending, nameFault, plain, turnWords } from "./words.js";
+import { backAndForth, ending, nameFault, plain, turnWords } from "./words.js";
 
-const LOOK = 4_000;
 const PAUSE_AFTER_REFUSAL = 5_000;
 const LINK_LINE = 34;
-const STREAM = ["sync", "update", "change", "ok", "no", "again", "bye"];
 
 export class Match {
-  #place; #match; #connection; #timer;
-  #row = null; #gameName = null; #game = null; #board = null; #view = null; #seat = null; #key = null;
-  #shown = null; #before = null; #acting = []; #program = mayGuess() ? startProgram() : Promise.resolve(null); #wanted = null; #turn = 0;
-  #lost = null; #table = null; #parts = {}; #log = new Log(); #seats;
+  #place; #match; #live = null; #unsubscribe = () => {}; #state = { status: "connecting", waiting: [] }; #closed = false; #cuts = 0;
+  #row = null; #gameName = null; #game = null; #board = null; #seat = null; #key = null;
+  #shown = null; #before = null; #lostAct = false; #program = mayGuess() ? startProgram() : Promise.resolve(null); #wanted = null;
+  #lost = null; #table = null; #parts = {}; #log = new Log(); #seats; #bell = new Bell();
 
   constructor(place, match) {
     [this.#place, this.#match] = [place, match];
@@ -31,113 +29,90 @@ export class Match {
       ask: (seat, name) => this.#askFor(seat, name),
     });
     this.#lay();
-    this.#connection = new Connection(place.address, {
-      opened: () => this.#guard(() => this.#begin()),
-      heard: (line, text) => this.#heard(line, text),
-      told: (state, seconds) => this.#told(state, seconds),
-    });
-    this.#timer = setInterval(() => { if (!document.hidden) this.#guard(() => this.#look()); }, LOOK);
+    this.#follow();
   }
 
   connect() {
-    this.#connection.connect();
+    this.#live?.reconnect();
   }
 
   close() {
-    clearInterval(this.#timer);
-    this.#connection.close();
+    this.#closed = true;
+    this.#drop();
+    this.#bell.close();
   }
 
   // ---- what the server says
 
-  /** Runs what asks the server. If the connection breaks meanwhile, what comes next begins with a new one. */
-  async #guard(run) {
+  /** Follows the match from the kept seat, or as a spectator. It connects anew by itself. */
+  #follow() {
+    if (this.#closed) return;
+    this.#drop();
+    const kept = seatIn(this.#place.address, this.#match);
+    [this.#seat, this.#key] = [kept?.seat ?? null, kept?.key ?? null];
+    const place = { match: this.#match, seat: this.#seat, key: this.#key };
+    const guess = (game) => isKnown(game) ? this.#program : null;
     try {
-      await run();
-    } catch (why) {
-      if (!(why instanceof Cut)) throw why;
+      this.#live = new Followed(this.#place.address, place, { guess, heard: (line) => this.#heard(line) });
+    } catch {
+      return this.#place.told("wrong");
     }
+    this.#unsubscribe = this.#live.subscribe((state) => this.#changed(state));
+    this.#changed(this.#live.state);
+  }
+
+  #drop() {
+    this.#unsubscribe();
+    this.#live?.close();
+    this.#live = null;
+  }
+
+  #heard(line) {
+    if (line.type === "bye") this.#say(lines.inWords(line));
   }
 
   /**
-   * Without a connection there is no view: what is shown may be old, and nothing can be asked for.
+   * Without a connection nothing can be asked for, and what is shown may be old.
    * Until there is something to show the head of the page says how the connection is, and then the turn's strip.
    */
-  #told(state, seconds) {
-    if (state !== "open") {
-      this.#shown = this.#view?.settled ?? this.#shown;
-      this.#view = null;
-    }
-    if (["broken", "silent", "wrong"].includes(state)) this.#lost = state;
-    this.#place.told(this.#parts.all.hidden ? state : "rests", seconds);
+  #changed(state) {
+    if (this.#state.status === "open" && state.status !== "open") this.#cuts++;
+    this.#state = state;
+    if (state.status === "ended") return this.#ended(state.error);
+    const told = state.status === "waiting" ? "silent" : state.status;
+    if (told === "open") this.#lost = null;
+    if (told === "broken" || told === "silent") this.#lost = told;
+    if (state.row && state.row !== this.#row) this.#sits(state.row);
+    const shown = this.#off ? state.settled : state.shown;
+    if (shown) this.#show(shown);
+    this.#place.told(this.#parts.all.hidden ? told : "rests", state.pause);
     this.#draw();
+    this.#takeWanted();
   }
 
   /** Whether the server cannot be asked now. */
   get #off() {
-    return !this.#view?.shown;
+    return this.#state.status !== "open";
   }
 
-  /** A new connection: finds the match, and begins its stream from the kept seat, or as a spectator. */
-  async #begin() {
-    const turn = ++this.#turn;
-    await this.#program;
-    if (turn !== this.#turn) return;
-    const found = await this.#look();
-    const answer = found.type === "match" ? await this.#syncFromKept() : found;
-    if (answer.type === "sync") {
-      this.#lost = null;
-      this.#place.told("rests");
-      this.#draw();
-      return this.#settle();
+  /** Who sits where. A server that was started anew may have another match of this name. */
+  #sits(row) {
+    this.#row = row;
+    if (this.#gameName !== row.game) this.#layGame(row.game);
+  }
+
+  /** The match can't be followed so any more. Most of it can still be watched. */
+  #ended(why) {
+    if (!(why instanceof SarpuntxeError)) throw why;
+    if (why.reason === "no-match") return this.#gone(lines.ofError(why));
+    if (why.reason === "left" || why.reason === "replaced") return this.#follow();
+    if (why.reason === "unauthorized" && this.#key !== null) {
+      forgetSeat(this.#place.address, this.#match);
+      this.#say("The seat that you had here is no longer yours. You are watching now.");
+      return this.#follow();
     }
-    this.#say(lines.inWords(answer));
-    setTimeout(() => this.connect(), PAUSE_AFTER_REFUSAL);
-  }
-
-  async #syncFromKept() {
-    const kept = seatIn(this.#place.address, this.#match);
-    const answer = await this.#sync(kept?.seat ?? null, kept?.key ?? null);
-    if (!kept || answer.reason !== "unauthorized") return answer;
-    forgetSeat(this.#place.address, this.#match);
-    this.#say("The seat that you had here is no longer yours. You are watching now.");
-    return this.#sync(null, null);
-  }
-
-  async #sync(seat, key) {
-    [this.#seat, this.#key] = [seat, key];
-    const program = isKnown(this.#gameName) ? await this.#program : null;
-    const view = new View({ match: this.#match, seat, key, game: this.#gameName, program, drawn: () => this.#redraw(view) });
-    this.#view = view;
-    const line = await view.begin();
-    if (this.#view !== view) throw new Cut();
-    return this.#connection.ask(line);
-  }
-
-  /** What is guessed was drawn anew. */
-  #redraw(view) {
-    if (this.#view === view && view.shown) this.#show(view.shown);
-  }
-
-  /** Asks who sits where, since nobody is told. */
-  async #look() {
-    const answer = await this.#connection.ask(lines.look(this.#match));
-    if (answer.reason === "no-match") this.#gone(lines.inWords(answer));
-    if (answer.type !== "match") return answer;
-    this.#row = answer.row;
-    if (this.#gameName !== answer.row.game) this.#layGame(answer.row.game);
-    this.#draw();
-    this.#takeWanted();
-    return answer;
-  }
-
-  #heard(line, text) {
-    if (line.type === "bye") this.#say(lines.inWords(line));
-    if (!this.#view || !STREAM.includes(line.type)) return;
-    const settled = this.#view.hear(text);
-    if (settled) this.#show(this.#view.shown);
-    else if (line.type === "update") this.connect();
-    if (line.type === "update" && this.#row?.players[line.entry.seat]?.name === null) this.#guard(() => this.#look());
+    this.#say(lines.ofError(why));
+    setTimeout(() => this.#follow(), PAUSE_AFTER_REFUSAL);
   }
 
   #show(shown) {
@@ -148,47 +123,31 @@ export class Match {
     if (this.#before && shown.log.length > this.#before.log.length) {
       this.#log.learn(shown.log, this.#game.tell?.(shown.log.at(-1), this.#before, shown, (seat) => this.#name(seat)) ?? null);
     }
-    this.#draw();
-  }
-
-  /** After a cut the log says what became of the acts that had no verdict yet. */
-  #settle() {
-    const acts = this.#acting.splice(0);
-    if (!acts.length) return;
-    let at = acts[0].number;
-    const log = this.#view.settled.log;
-    const counted = acts.filter(({ asked }) => {
-      const found = log.findIndex(({ act, seat }, place) => place >= at && seat === this.#seat && JSON.stringify(act) === JSON.stringify(asked));
-      if (found >= 0) at = found + 1;
-      return found >= 0;
-    });
-    this.#say(counted.length === acts.length ? "The connection broke, but what you did has counted."
-      : "The connection broke before what you did had counted. Choose anew.");
-    this.#draw();
   }
 
   // ---- what the player does
 
   /** Acts. Where actions are guessed a next one can follow before the server has judged the last. */
   #act(asked) {
-    if (this.#off) return;
-    if (this.#acting.length >= (this.#view.guesses ? this.#game.ahead : 1)) return;
-    const view = this.#view, act = { asked, number: view.settled.number };
-    if (this.#key === null) return;
-    this.#acting.push(act);
+    if (this.#off || this.#key === null) return;
+    if (this.#state.waiting.length >= (this.#state.guesses ? this.#game.ahead : 1)) return;
     this.#say("");
-    this.#guard(async () => {
-      const line = await view.act(asked);
-      if (this.#view !== view) return;
-      this.#draw();
-      // A guess that is answered `again` was taken back, so that line isn't sent again.
-      const answer = await this.#connection.ask(line, view.guesses ? 1 : undefined);
-      this.#acting = this.#acting.filter((one) => one !== act);
-      const against = answer.reason === "invalid-move" ? this.#game.against?.(asked, this.#table) : null;
-      if (answer.type !== "ok") this.#say(against ?? lines.inWords(answer));
-      if (answer.reason === "not-attached") this.connect();
-      this.#draw();
-    });
+    this.#lostAct = false;
+    const cuts = this.#cuts;
+    this.#live.act(asked).then(() => this.#decided(asked, cuts, null), (why) => this.#decided(asked, cuts, why));
+  }
+
+  /** An action has counted, or has not. After a cut that is said in any case, since nobody could see it. */
+  #decided(asked, cuts, why) {
+    if (why?.kind === "ended" || why?.reason === "not-sent") return;
+    if (why?.reason === "cut" || cuts !== this.#cuts && why === null) {
+      this.#lostAct ||= why !== null;
+      return this.#say(this.#lostAct ? "The connection broke before what you did had counted. Choose anew."
+        : "The connection broke, but what you did has counted.");
+    }
+    if (why === null) return;
+    const against = why.reason === "invalid-move" ? this.#game.against?.(asked, this.#table) : null;
+    this.#say(against ?? lines.ofError(why));
   }
 
   /** Asks the bot of a seat to leave it, and takes the seat once it is free. */
@@ -201,7 +160,7 @@ export class Match {
 
   #takeWanted() {
     const wanted = this.#wanted;
-    if (!wanted || this.#row.players[wanted.seat]?.name !== null) return;
+    if (!wanted || this.#off || this.#row?.players[wanted.seat]?.name !== null) return;
     this.#wanted = null;
     this.#note("");
     if (this.#seat === null) this.#take(wanted.seat, wanted.name);
@@ -210,7 +169,7 @@ export class Match {
   #take(seat, name) {
     this.#request(lines.join(this.#match, seat, name), (answer) => {
       keepSeat(this.#place.address, this.#match, answer.seat, answer.key);
-      this.connect();
+      this.#follow();
     });
   }
 
@@ -221,7 +180,7 @@ export class Match {
   #leave() {
     this.#request(lines.leave(this.#match, this.#seat, this.#key), () => {
       forgetSeat(this.#place.address, this.#match);
-      this.connect();
+      this.#follow();
     });
   }
 
@@ -231,7 +190,7 @@ export class Match {
     this.#say("");
     const name = lastName().trim();
     this.#guard(async () => {
-      const ask = (line) => this.#connection.ask(line);
+      const ask = (line) => this.#live.ask(line);
       const [game, seats] = [this.#gameName, this.#shown.ctx.numPlayers];
       const made = nameFault(name) ? await ask(lines.create(game, seats)) : await beginMatch(ask, this.#place.address, game, seats, name);
       if (made.type === "created") this.#place.go(made.match); else this.#say(lines.inWords(made));
@@ -242,14 +201,28 @@ export class Match {
   #request(line, granted) {
     this.#say("");
     this.#guard(async () => {
-      const answer = await this.#connection.ask(line).catch((why) => {
+      const answer = await this.#live.ask(line).catch((why) => {
         this.#say("The connection broke before that was answered.");
         throw why;
       });
       if (!["refused", "again"].includes(answer.type)) return granted(answer);
       this.#say(lines.inWords(answer));
-      await this.#look();
+      this.#look();
     });
+  }
+
+  /** Asks who sits where before it is time. */
+  #look() {
+    this.#live.look().catch(() => {});
+  }
+
+  /** Runs what asks the server. If the connection breaks meanwhile, what comes next begins with a new one. */
+  async #guard(run) {
+    try {
+      await run();
+    } catch (why) {
+      if (!lines.isCut(why)) throw why;
+    }
   }
 
   // ---- what is shown
@@ -299,10 +272,10 @@ export class Match {
     p.tabs = tabs("About the match", [
       { id: "moves", label: "Moves", part: part("div", {}, this.#log.element) },
       { id: "invite", label: "Invite", part: p.inviting },
-      { id: "about", label: "About", part: part("div", {}, p.about, this.#seats.own) },
+      { id: "about", label: "About", part: part("div", {}, p.about, this.#bell.choice, this.#seats.own) },
     ]);
     // Nothing is shown before the first state, so that nothing moves under a finger.
-    p.all = part("div", { class: "match", hidden: true }, p.lead, p.table, p.bar, p.tabs.element);
+    p.all = part("div", { class: "match", hidden: true }, p.lead, p.table, p.bar, part("div", { class: "side" }, this.#bell.question, p.tabs.element));
     p.early = part("p", { class: "quiet" }, "The match is being fetched …");
     this.#place.main.replaceChildren(p.title, p.rules, p.early, p.all);
   }
@@ -368,9 +341,10 @@ export class Match {
     const off = this.#off, over = Boolean(ctx.gameover);
     const active = activeSeats(ctx);
     const turns = active.some((one) => one.seat === this.#seat);
-    const settled = this.#view?.settled ?? this.#shown;
+    const waiting = off ? [] : this.#state.waiting;
+    const settled = off ? this.#shown : this.#state.settled;
     const guessed = Math.max(0, number - settled.number);
-    const full = guessed > 0 && this.#acting.length >= this.#game.ahead;
+    const full = guessed > 0 && waiting.length >= this.#game.ahead;
     const may = turns && !full && !off;
     const table = { ...this.#shown, before: this.#before, settled, guessed, seat: this.#seat, may, turns, seats: ctx.numPlayers, name };
     this.#table = table;
@@ -389,16 +363,25 @@ export class Match {
     p.retry.hidden = this.#lost !== "broken";
     this.#board.show(table);
     p.board.classList.toggle("guessed", guessed > 0);
-    p.board.classList.toggle("waits", (this.#acting.length > 0 && !guessed) || off);
+    p.board.classList.toggle("waits", (waiting.length > 0 && !guessed) || off);
     this.#drawBack(may);
     p.actions.hidden = over || this.#seat === null;
     p.watching.hidden = this.#seat !== null || over;
     p.bar.classList.toggle("ended", over && !this.#lost);
     this.#seats.show({ players, active, seat: this.#seat, over, off });
     this.#drawLead(end, over, off, name);
-    const pending = this.#view ? this.#acting.map(({ asked }) => ({ act: asked, seat: this.#seat })) : [];
+    const pending = waiting.map((act) => ({ act, seat: this.#seat }));
     this.#log.show(log, pending, this.#game, name, (seat) => players[seat]?.name !== null);
-    document.title = `${this.#lost ? "Connection lost" : end ?? (turns ? "Your turn" : "Waiting")} · ${this.#game.title}`;
+    this.#drawTitle(end, turns, turnWords(ctx, this.#seat, name, players));
+    // What is guessed says nothing of the turn.
+    const settledTurn = activeSeats(settled.ctx).some((one) => one.seat === this.#seat);
+    this.#bell.show({ seat: over ? null : this.#seat, turn: off ? null : settledTurn, title: this.#game.title });
+  }
+
+  /** The tab tells whose turn it is. */
+  #drawTitle(end, turns, words) {
+    const said = this.#lost ? "Connection lost" : end ?? (turns ? "Your turn" : words.replace(/\.$/, ""));
+    document.title = `${said} · ${this.#game.title}`;
   }
 
   #lostWords() {

@@ -1,5 +1,6 @@
 // What a match's state and log mean in words, for any game.
 import { bytes } from "./lines.js";
+import { activeSeats } from "./sarpuntxe.js";
 
 /** A text of another person, with what could turn the direction of the text around it or break the line left out. */
 export const plain = (text) => text.replace(/[\p{Cc}\u2028\u2029\u202a-\u202e\u2066-\u2069]/gu, "\ufffd");
@@ -21,13 +22,6 @@ const COUNTED = ["first", "second", "third", "fourth", "fifth", "sixth", "sevent
 
 /** "a second player": the one for whom the table waits, of so many who sit. */
 export const nextPlayer = (sitting) => COUNTED[sitting] ? `a ${COUNTED[sitting]} player` : "another player";
-
-/** The seats that may act, with their stages. */
-export function activeSeats(ctx) {
-  if (ctx.gameover) return [];
-  if (!ctx.activePlayers) return [{ seat: ctx.currentPlayer, stage: null }];
-  return Object.entries(ctx.activePlayers).map(([seat, stage]) => ({ seat: Number(seat), stage })).sort((a, b) => a.seat - b.seat);
-}
 
 /**
  * The places in the log of the actions that are done and of those that are undone.

@@ -1,4 +1,4 @@
-"""The documents against the tree: links, lists of games, and names of crates."""
+"""The documents against the tree: links, lists of games, names of crates, the version, and the files of the page."""
 import re
 
 from . import texts
@@ -147,3 +147,34 @@ def names_of_crates():
             for name in re.findall(r"\bcrates/([a-z]\w*)\b(?![.*])", line):
                 if name not in listed and not (texts.CRATES / name).exists():
                     yield texts.shown(path), number, f"there is no crates/{name}"
+
+
+def versions():
+    """Wherever the version is said it is that of VERSION: the program's line for `--version`, the newest heading of CHANGELOG.md,
+    and the package of the JavaScript client, which has a third number behind it."""
+    version = texts.read(texts.TOP / "VERSION").strip()
+    for name, pattern in (
+        ("crates/board_commands/src/page.rt", r'(?m)^pub const VERSION: &str = "board_server (\S+)\\n";$'),
+        ("CHANGELOG.md", r"(?m)^## ([^\s,]+)"),
+        ("clients/js/package.json", r'(?m)^  "version": "(\d+\.\d+)\.\d+",$'),
+    ):
+        text = texts.read(texts.TOP / name)
+        said = re.search(pattern, text)
+        if not said:
+            yield name, 1, "no version is found here"
+        elif said[1] != version:
+            yield name, texts.line_at(text, said.start()), f"the version is {said[1]} here, and {version} in VERSION"
+
+
+def files_of_the_page():
+    """The list of the page's files in the program (page_files) has each file of page/, but for tests and what makes WebAssembly, and no other."""
+    name = "crates/page_files/src/folder.rt"
+    text = texts.read(texts.TOP / name)
+    place = text.index("const NAMES")
+    listed = set(re.findall(r'"([^"]+)",', text[place:text.index("];", place)]))
+    page = texts.TOP / "page"
+    there = {str(path.relative_to(page)) for suffix in (".js", ".html", ".css", ".svg") for path in texts.under(page, suffix)}
+    for file in sorted(there - listed):
+        yield name, texts.line_at(text, place), f"page/{file} is missing in the list, so no server hands it out"
+    for file in sorted(listed - there):
+        yield name, texts.line_at(text, place), f"there is no page/{file}, so no server with the page would start"

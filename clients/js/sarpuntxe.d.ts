@@ -390,6 +390,8 @@ export interface GuessProgram {
   run(line: string): Promise<{ send: string | null; shown: Snapshot<any> | null }>;
 }
 
+export type Guess = GuessProgram | null | Promise<GuessProgram | null>;
+
 export interface ServerOptions {
   /** The WebSocket to use, if not the global one. */
   WebSocket?: new (address: string) => WebSocket;
@@ -401,7 +403,9 @@ export interface FollowOptions extends ServerOptions {
   /** How many milliseconds to wait between two looks at who sits where; 4,000 by default. */
   look?: number;
   /** A program that guesses ahead. Without one `shown` is `settled`. */
-  guess?: GuessProgram | null | Promise<GuessProgram | null>;
+  guess?: Guess | ((game: string) => Guess);
+  /** Is called with each line of the server, before the state changes. */
+  heard?: (line: ServerLine) => void;
 }
 
 export interface State<G = unknown> {
@@ -416,11 +420,41 @@ export interface State<G = unknown> {
   shown: Snapshot<G> | null;
   /** How many actions `shown` is ahead of `settled`. */
   guessed: number;
+  /** Whether actions are guessed ahead now. */
+  guesses: boolean;
   /** The actions of this client that have no verdict yet. */
   waiting: Act[];
   /** Whether this seat may act in `shown`. */
   mayAct: boolean;
   error: SarpuntxeError | null;
+}
+
+/** One session of the server: what is asked is answered in order. It throws a SarpuntxeError, `cut` or `not-sent`, where there is no answer. */
+export interface Session {
+  /** The server's line, whatever it is; one that is answered `again` is asked again, so many times in all at most: 8 by default. */
+  ask(line: object | string, most?: number): Promise<ServerLine>;
+  /** The server's line, if it is no refusal, which is thrown. */
+  granted(line: object | string): Promise<ServerLine>;
+}
+
+export interface ConnectionHandlers {
+  /** A connection stands. Once what this answers is done, the next pause is the shortest again. */
+  opened(session: Session): unknown;
+  /** A line of the server, also one that answers. */
+  heard(line: ServerLine, text: string): void;
+  /** `silent`: the server takes its time. `broken`: the next try is in so many milliseconds. */
+  told(state: "connecting" | "silent" | "open" | "broken", pause?: number): void;
+}
+
+/** A connection that is made anew whenever it breaks, for those who speak lines themselves. `Match` stands on it. */
+export class Connection {
+  constructor(address: string, handlers: ConnectionHandlers, options?: ServerOptions);
+  /** Connects now: in place of waiting for the end of a pause, or to begin another session. */
+  connect(): void;
+  /** Gives up a connection that stands, and makes another one after a pause. */
+  retry(): void;
+  ask(line: object | string, most?: number): Promise<ServerLine>;
+  close(): void;
 }
 
 export class Server {
@@ -455,6 +489,8 @@ export class Match<G = unknown> implements AsyncIterable<State<G>> {
   undo(): Promise<number>;
   redo(): Promise<number>;
   look(): Promise<MatchRow>;
+  /** Asks something else over the match's own connection, and answers the server's line, whatever it is. */
+  ask(line: object | string): Promise<ServerLine>;
   rename(name: string): Promise<void>;
   leave(): Promise<void>;
   reconnect(): void;

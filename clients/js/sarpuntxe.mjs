@@ -1,6 +1,6 @@
 // A client of the match server for browsers and Node: one module, no dependencies. README.md beside it says how it is used.
 
-const FIRST_PAUSE = 250, LONGEST_PAUSE = 5_000;
+const FIRST_PAUSE = 250, LONGEST_PAUSE = 5_000, LONGEST_PAUSE_HIDDEN = 30_000;
 const SLOW_TO_OPEN = 8_000, SLOW_TO_ANSWER = 20_000;
 const AGAIN_PAUSE = 400, AGAIN_TIMES = 8;
 const LOOK = 4_000, LOOK_HIDDEN = 60_000;
@@ -130,7 +130,7 @@ export function nextSnapshot(before, line) {
 /** Opens `ws:`, `wss:` or, in Node, `tcp:`. Calls `opened`, `heard` with each line, and `closed` once, unless it is closed from here. */
 function openLink(address, { opened, heard, closed }, WebSocket = globalThis.WebSocket) {
   const { protocol, hostname, port } = new URL(address);
-  if (protocol === "tcp:") return openTcp(hostname.replace(/^\[|\]$/g, ""), Number(port), { opened, heard, closed });
+  if (protocol === "tcp:" && !globalThis.document) return openTcp(hostname.replace(/^\[|\]$/g, ""), Number(port), { opened, heard, closed });
   if (!WebSocket) throw new TypeError("no WebSocket here: start Node 20 with --experimental-websocket, or use a tcp: address");
   const socket = new WebSocket(address);
   socket.onopen = opened;
@@ -165,6 +165,7 @@ function openTcp(host, port, { opened, heard, closed }) {
 }
 
 const later = (pause) => new Promise((done) => setTimeout(done, pause));
+const isHidden = () => globalThis.document?.hidden ?? false;
 const STREAM = ["update", "change", "bye"];
 
 /** One connection, which is one session of the server. What is asked is answered in order. */
@@ -235,6 +236,81 @@ class Session {
     if (this.#over) return;
     this.close();
     this.#told.closed();
+  }
+}
+
+/** A connection that is made anew whenever it breaks, after pauses that grow. Each time it is another session of the server. */
+export class Connection {
+  #address; #opened; #heard; #told; #WebSocket; #session = null; #failures = 0; #pause = null; #over = false;
+  #online = () => this.connect();
+  #seen = () => { if (this.#pause !== null && !isHidden()) this.connect(); };
+
+  /**
+   * `opened(session)` is called whenever a connection stands, and once what it answers is done the next pause is the shortest again.
+   * `heard(line, text)` is called for each line that the server sends, and `told(state, pause)` when the state changes:
+   * `connecting`, `silent`, `open`, or `broken` with the milliseconds until the next try. An address that is none is thrown back.
+   */
+  constructor(address, { opened, heard, told }, { WebSocket } = {}) {
+    [this.#address, this.#opened, this.#heard, this.#told, this.#WebSocket] = [address, opened, heard, told, WebSocket];
+    this.connect();
+    // (without the network's word a connection of a network that is gone looks as if it stood)
+    globalThis.addEventListener?.("online", this.#online);
+    globalThis.document?.addEventListener("visibilitychange", this.#seen);
+  }
+
+  /** Connects now: at first, in place of waiting for the end of a pause, or to begin another session. */
+  connect() {
+    if (this.#over) return;
+    this.#drop();
+    this.#told("connecting");
+    const session = new Session(this.#address, {
+      opened: () => this.#begin(session),
+      silent: () => this.#told("silent"),
+      heard: (line, text) => this.#heard(line, text),
+      closed: () => this.#broke(session),
+    }, this.#WebSocket);
+    this.#session = session;
+  }
+
+  /** Gives up a connection that stands, and makes another one after a pause, as if it had broken. */
+  retry() {
+    if (this.#session) this.#broke(this.#session);
+  }
+
+  /** The answer to a line, as an object or a text. What is answered `again` is sent again, so many times in all at most. */
+  async ask(line, most = AGAIN_TIMES) {
+    if (!this.#session) throw new SarpuntxeError("fault", "not-sent");
+    return this.#session.ask(line, most);
+  }
+
+  /** Ends the connection for good. What waits for an answer gets none. */
+  close() {
+    this.#over = true;
+    this.#drop();
+    globalThis.removeEventListener?.("online", this.#online);
+    globalThis.document?.removeEventListener("visibilitychange", this.#seen);
+  }
+
+  async #begin(session) {
+    this.#told("open");
+    await this.#opened(session);
+    if (session === this.#session) this.#failures = 0;
+  }
+
+  #broke(session) {
+    if (session !== this.#session) return;
+    this.#drop();
+    const longest = isHidden() ? LONGEST_PAUSE_HIDDEN : LONGEST_PAUSE;
+    const pause = Math.min(longest, FIRST_PAUSE * 2 ** Math.min(this.#failures++, 8)) * (0.75 + Math.random() / 4);
+    this.#pause = setTimeout(() => this.connect(), pause);
+    this.#told("broken", pause);
+  }
+
+  #drop() {
+    clearTimeout(this.#pause);
+    const session = this.#session;
+    [this.#pause, this.#session] = [null, null];
+    session?.close();
   }
 }
 
@@ -317,16 +393,19 @@ export const connect = (address, options) => new Server(address, options).open()
 
 /** A match that is followed. It connects anew when its connection breaks, until it is closed, left or gone. */
 export class Match {
-  #address; #place; #options; #protocol; #session = null; #stream = null; #state; #acts = []; #ticket = 0;
-  #listeners = new Set(); #failures = 0; #pause; #looks; #looked = 0; #online = () => this.reconnect();
+  #place; #options; #protocol; #connection; #session = null; #stream = null; #state; #acts = []; #ticket = 0;
+  #listeners = new Set(); #looks; #looked = 0;
 
   constructor(address, { match, seat = null, key = null }, options = {}) {
-    [this.#address, this.#place, this.#options] = [address, { match, seat, key }, options];
+    [this.#place, this.#options] = [{ match, seat, key }, options];
     this.#protocol = options.guess ? 1 : options.protocol ?? 2;
-    this.#state = { status: "connecting", pause: null, row: null, settled: null, shown: null, guessed: 0, waiting: [], mayAct: false, error: null };
-    globalThis.addEventListener?.("online", this.#online);
+    this.#state = { status: "connecting", pause: null, row: null, settled: null, shown: null, guessed: 0, guesses: false, waiting: [], mayAct: false, error: null };
+    this.#connection = new Connection(address, {
+      opened: (session) => this.#opened(session),
+      heard: (line, text) => this.#heard(line, text),
+      told: (state, pause) => this.#told(state, pause),
+    }, options);
     this.#looks = setInterval(() => this.#lookAgain(), options.look ?? LOOK);
-    this.#connect();
   }
 
   get match() { return this.#place.match; }
@@ -386,6 +465,12 @@ export class Match {
 
   look = async () => this.#row((await this.#granted({ match: this.match, type: "look" })).row);
 
+  /** Asks something else over the match's own connection, and answers the server's line, whatever it is. */
+  async ask(line) {
+    if (!this.#session) throw new SarpuntxeError("fault", "not-sent");
+    return this.#session.ask(line);
+  }
+
   async rename(name) {
     await this.#granted({ ...this.#place, name, type: "rename" });
     await this.look();
@@ -399,7 +484,7 @@ export class Match {
 
   /** Connects now, in place of waiting for the end of a pause. */
   reconnect() {
-    if (["broken", "waiting"].includes(this.#state.status)) this.#connect();
+    if (["broken", "waiting"].includes(this.#state.status)) this.#connection.connect();
   }
 
   /** Ends the connection for good. The seat stays taken. */
@@ -407,47 +492,32 @@ export class Match {
 
   // ---- its connection
 
-  #connect() {
-    if (this.#state.status === "ended") return;
-    this.#drop();
-    this.#tell({ status: "connecting", pause: null });
-    const session = new Session(this.#address, {
-      opened: () => this.#begin(session).catch((why) => this.#notBegun(session, why)),
-      silent: () => this.#tell({ status: "waiting" }),
-      heard: (line, text) => { if (session === this.#session) this.#heard(line, text); },
-      closed: () => this.#broke(session),
-    }, this.#options.WebSocket);
-    this.#session = session;
-  }
-
-  #drop() {
-    clearTimeout(this.#pause);
-    const session = this.#session;
+  /** It is open once its stream has begun. */
+  #told(state, pause = null) {
+    if (state === "open") return;
+    if (state === "silent") return this.#tell({ status: "waiting" });
     [this.#session, this.#stream] = [null, null];
-    session?.close();
+    this.#tell({ status: state, pause });
   }
 
-  #broke(session) {
-    if (session !== this.#session) return;
-    this.#drop();
-    const pause = Math.min(LONGEST_PAUSE, FIRST_PAUSE * 2 ** Math.min(this.#failures++, 8)) * (0.75 + Math.random() / 4);
-    this.#pause = setTimeout(() => this.#connect(), pause);
-    this.#tell({ status: "broken", pause });
-  }
-
-  /** A refusal is for good; after anything else the connection is made anew. */
-  #notBegun(session, why) {
-    if (session !== this.#session) return;
-    if (why.kind === "refused" || why.kind === "ended") return this.#end(why.reason, why);
-    if (!(why instanceof SarpuntxeError)) return this.#end("closed", why);
-    this.#broke(session);
+  /** Begins the stream. A refusal is for good; after anything else the connection is made anew. */
+  async #opened(session) {
+    this.#session = session;
+    try {
+      await this.#begin(session);
+    } catch (why) {
+      if (session !== this.#session) return;
+      if (why.kind === "refused" || why.kind === "ended") return this.#end(why.reason, why);
+      if (!(why instanceof SarpuntxeError)) return this.#end("closed", why);
+      this.#connection.retry();
+    }
   }
 
   #end(reason, error = new SarpuntxeError("ended", reason)) {
     if (this.#state.status === "ended") return;
-    this.#drop();
+    this.#connection.close();
+    [this.#session, this.#stream] = [null, null];
     clearInterval(this.#looks);
-    globalThis.removeEventListener?.("online", this.#online);
     this.#acts.splice(0).forEach(({ failed }) => failed(error));
     this.#tell({ status: "ended", pause: null, error });
   }
@@ -463,7 +533,9 @@ export class Match {
   async #begin(session) {
     const { row } = await session.granted({ match: this.match, type: "look" });
     if (this.#state.row && this.#state.row.game !== row.game) return this.#end("replaced");
-    const stream = { game: row.game, settled: null, guess: null, program: await this.#options.guess ?? null };
+    const { guess = null } = this.#options;
+    const program = await (typeof guess === "function" ? guess(row.game) : guess);
+    const stream = { game: row.game, settled: null, guess: null, program };
     if (session !== this.#session) return;
     this.#stream = stream;
     this.#row(row);
@@ -482,15 +554,17 @@ export class Match {
 
   #heard(line, text) {
     const stream = this.#stream;
+    this.#options.heard?.(line);
     if (line.type === "bye") return line.why === "left" ? this.#end("left") : undefined;
     if (!stream || line.type === "refused") return;
     if (line.type === "sync") {
       if (!isLater(this.#state.settled, line.snapshot)) return this.#end("replaced");
       stream.settled = line.snapshot;
-      this.#failures = 0;
     } else if (line.type === "update" || line.type === "change") {
       stream.settled = nextSnapshot(stream.settled, line);
-      if (!stream.settled) return this.#connect();
+      if (!stream.settled) return this.#connection.connect();
+      // Who acts at a seat that was free has sat down since.
+      if (this.#state.row.players[line.entry.seat]?.name === null) this.look().catch(() => {});
     } else if (!["ok", "no", "again"].includes(line.type)) {
       return;
     }
@@ -533,7 +607,7 @@ export class Match {
       // A guess that is answered `again` was taken back, so that line isn't sent again.
       const answer = await this.#session.ask(line, made === null ? AGAIN_TIMES : 1);
       this.#decide(one, answer.type === "ok" ? null : errorOf(answer), answer.number);
-      if (answer.reason === "not-attached") this.#connect();
+      if (answer.reason === "not-attached") this.#connection.connect();
     } catch {
       this.#undecided();
     }
@@ -569,7 +643,7 @@ export class Match {
   /** Nobody is told who sits down or leaves, so it is asked for. In a hidden page that is done seldom. */
   #lookAgain() {
     const since = Date.now() - this.#looked;
-    if (this.#state.status !== "open" || (globalThis.document?.hidden && since < LOOK_HIDDEN)) return;
+    if (this.#state.status !== "open" || (isHidden() && since < LOOK_HIDDEN)) return;
     this.look().catch(() => {});
   }
 
@@ -582,6 +656,7 @@ export class Match {
   #tell(news) {
     const state = { ...this.#state, ...news, waiting: this.#acts.map(({ asked }) => asked) };
     state.guessed = state.shown ? state.shown.number - state.settled.number : 0;
+    state.guesses = Boolean(this.#stream?.program);
     state.mayAct = state.status === "open" && mayAct(state.shown.ctx, this.#place.seat);
     this.#state = state;
     [...this.#listeners].forEach((listener) => listener(state));

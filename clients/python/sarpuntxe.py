@@ -14,6 +14,8 @@ from urllib.parse import urlsplit
 FIRST_PAUSE, LONGEST_PAUSE = 0.25, 5.0
 ANSWER_SECONDS = 20.0
 AGAIN_PAUSE, AGAIN_TIMES = 0.4, 8
+# Before Python 3.10 a socket has an error of its own for this.
+TIMEOUTS = (TimeoutError, socket.timeout)
 
 # ---- words
 
@@ -127,31 +129,52 @@ def next_view(view, line):
 # ---- connections
 
 
+def moment(timeout):
+    """The moment that is so many seconds away, or None for None."""
+    return None if timeout is None else time.monotonic() + timeout
+
+
+def left(end):
+    """How many seconds there are until a moment, or None for None. One that has passed is a millisecond away, so that what is there is taken."""
+    return None if end is None else max(0.001, end - time.monotonic())
+
+
 class Lines:
-    """Lines over TCP."""
+    """Lines over TCP. A read that comes to no line in time raises TimeoutError, and what came of the line stays for the next one."""
 
     def __init__(self, host, port, timeout):
         self.socket = socket.create_connection((host, port), timeout)
+        if self.socket.getsockname() == self.socket.getpeername():
+            # (where nobody listens at a port from which connections are made, TCP may connect a socket to itself)
+            self.socket.close()
+            raise ConnectionError("nobody listens there")
         self.socket.setsockopt(socket.IPPROTO_TCP, socket.TCP_NODELAY, 1)
         self.bytes = bytearray()
 
     def send(self, text):
-        self.socket.sendall(text.encode() + b"\n")
+        self.write(text.encode() + b"\n")
+
+    def write(self, data):
+        """Writes all of it. How long the last read was to wait says nothing of it."""
+        self.socket.settimeout(ANSWER_SECONDS)
+        self.socket.sendall(data)
 
     def ready(self):
         """Whether a line is here already, which no select on the socket would tell."""
         return b"\n" in self.bytes
 
     def read(self, timeout):
+        end = moment(timeout)
         while b"\n" not in self.bytes:
-            self.fill(timeout)
+            self.fill(end)
         at = self.bytes.index(b"\n")
         line = bytes(self.bytes[:at])
         del self.bytes[: at + 1]
         return line.decode()
 
-    def fill(self, timeout):
-        self.socket.settimeout(timeout)
+    def fill(self, end):
+        """Reads what is there, or waits until this moment for some."""
+        self.socket.settimeout(left(end))
         piece = self.socket.recv(65_536)
         if not piece:
             raise ConnectionError("the server closed the connection")
@@ -165,9 +188,19 @@ class WebSocket(Lines):
     """Lines as messages of a WebSocket, RFC 6455."""
 
     def __init__(self, url, timeout):
-        secure = url.scheme == "wss"
-        super().__init__(url.hostname, url.port or (443 if secure else 80), timeout)
-        if secure:
+        end = moment(timeout)
+        super().__init__(url.hostname, url.port or (443 if url.scheme == "wss" else 80), timeout)
+        # What came of a message that is in fragments.
+        self.message = b""
+        try:
+            self.greet(url, end)
+        except BaseException:
+            self.close()
+            raise
+
+    def greet(self, url, end):
+        """Makes the handshake, until this moment at most."""
+        if url.scheme == "wss":
             import ssl  # (it takes a while to load, and most don't need it)
 
             self.socket = ssl.create_default_context().wrap_socket(self.socket, server_hostname=url.hostname)
@@ -175,9 +208,9 @@ class WebSocket(Lines):
         path = (url.path or "/") + (f"?{url.query}" if url.query else "")
         head = [f"GET {path} HTTP/1.1", f"Host: {url.netloc}", "Upgrade: websocket", "Connection: Upgrade"]
         head += [f"Sec-WebSocket-Key: {key}", "Sec-WebSocket-Version: 13", "", ""]
-        self.socket.sendall("\r\n".join(head).encode())
+        self.write("\r\n".join(head).encode())
         while b"\r\n\r\n" not in self.bytes:
-            self.fill(timeout)
+            self.fill(end)
         answer, _, rest = bytes(self.bytes).partition(b"\r\n\r\n")
         self.bytes = bytearray(rest)
         wanted = base64.b64encode(hashlib.sha1((key + "258EAFA5-E914-47DA-95CA-C5AB0DC85B11").encode()).digest())
@@ -192,7 +225,7 @@ class WebSocket(Lines):
         long = size.to_bytes(2, "big") if 125 < size < 65_536 else size.to_bytes(8, "big") if size >= 65_536 else b""
         short = size if size < 126 else 126 if size < 65_536 else 127
         masked = bytes(byte ^ mask[at % 4] for at, byte in enumerate(payload))
-        self.socket.sendall(bytes([0x80 | kind, 0x80 | short]) + long + mask + masked)
+        self.write(bytes([0x80 | kind, 0x80 | short]) + long + mask + masked)
 
     def ready(self):
         return self.whole() is not None or bool(getattr(self.socket, "pending", lambda: 0)())
@@ -207,10 +240,10 @@ class WebSocket(Lines):
         return (head, size) if len(self.bytes) >= head + size else None
 
     def read(self, timeout):
-        message = b""
+        end = moment(timeout)
         while True:
             while not (found := self.whole()):
-                self.fill(timeout)
+                self.fill(end)
             head, size = found
             first, payload = self.bytes[0], bytes(self.bytes[head : head + size])
             del self.bytes[: head + size]
@@ -219,8 +252,9 @@ class WebSocket(Lines):
             if first & 15 == 9:
                 self.frame(10, payload)
             if first & 15 in (0, 1, 2):
-                message += payload
+                self.message += payload
                 if first & 128:
+                    message, self.message = self.message, b""
                     return message.decode()
 
 
@@ -234,10 +268,12 @@ def open_link(address, timeout=ANSWER_SECONDS):
 class Session:
     """One connection, which follows at most one match. What is asked is answered in order."""
 
-    def __init__(self, address):
+    def __init__(self, address, timeout=ANSWER_SECONDS):
+        """`timeout` is for how many seconds to wait until the connection stands, and for each answer."""
+        self.timeout = timeout
         try:
-            self.link = open_link(address)
-        except TimeoutError:
+            self.link = open_link(address, timeout)
+        except TIMEOUTS:
             raise SarpuntxeError("fault", "silent") from None
         except OSError as why:
             raise SarpuntxeError("fault", "unreachable") from why
@@ -252,7 +288,7 @@ class Session:
         """The next line, or None if none has come in time."""
         try:
             return json.loads(self.link.read(timeout))
-        except TimeoutError:
+        except TIMEOUTS:
             return None
         except OSError as why:
             raise SarpuntxeError("fault", "cut") from why
@@ -261,7 +297,7 @@ class Session:
         """The answer to a request. It raises what the request is refused with."""
         for times in range(1, AGAIN_TIMES + 1):
             self.send(line)
-            answer = self.read(ANSWER_SECONDS)
+            answer = self.read(self.timeout)
             if answer is None:
                 raise SarpuntxeError("fault", "silent")
             if answer["type"] != "again" or times == AGAIN_TIMES:
@@ -450,26 +486,35 @@ class Match:
     # ---- what the server says
 
     def wait(self, timeout=None):
-        """Waits for the next change, and returns whether there was one."""
-        before = self.view
-        end = None if timeout is None else time.monotonic() + timeout
-        while self.view is before:
-            left = None if end is None else end - time.monotonic()
-            if left is not None and left <= 0:
+        """Waits for the next change, and returns whether there was one. Connecting anew after a cut takes no longer than that, either."""
+        before, end = self.view["number"], moment(timeout)
+        while self.view["number"] == before:
+            if end is not None and time.monotonic() >= end:
                 return False
             try:
-                self.read(left)
+                self.read(left(end))
             except SarpuntxeError as why:
                 if why.reason != "cut":
                     raise
-                self.connect()
+                if not self.connects(end):
+                    return False
         return True
+
+    def connects(self, end):
+        """Connects anew, and returns whether that was done before this moment. None is as long as the match's patience."""
+        try:
+            self.connect(left(end))
+            return True
+        except SarpuntxeError as why:
+            if why.kind != "fault" or end is None or time.monotonic() < end:
+                raise
+            return False
 
     def until(self, holds, timeout=None):
         """Waits until `holds(match)` is true, and returns whether it is."""
-        end = None if timeout is None else time.monotonic() + timeout
+        end = moment(timeout)
         while not holds(self):
-            if not self.wait(None if end is None else max(0.0, end - time.monotonic())):
+            if not self.wait(left(end)):
                 return False
         return True
 
@@ -485,6 +530,8 @@ class Match:
 
     def read(self, timeout=None):
         """Takes in the next line and returns it, or None if none comes in time. It raises `cut` if the connection has broken."""
+        if self.session is None:
+            raise SarpuntxeError("fault", "cut")
         line = self.session.read(timeout)
         if line is None:
             return None
@@ -500,25 +547,29 @@ class Match:
             raise SarpuntxeError(*(("ended", "left") if line["why"] == "left" else ("fault", "cut")))
         return line
 
-    def connect(self):
-        """Begins the stream anew. If an action waited for its verdict: the number of the state that it made, or None if it has not counted."""
+    def connect(self, patience=None):
+        """Begins the stream anew. If an action waited for its verdict: the number of the state that it made, or None if it has not counted.
+
+        It tries for so many seconds, and for no longer than the match's own patience.
+        """
         self.close()
-        pause, end = FIRST_PAUSE, time.monotonic() + self.patience
+        pause, end = FIRST_PAUSE, moment(self.patience if patience is None else min(patience, self.patience))
         while True:
             try:
-                self.begin()
+                self.begin(min(ANSWER_SECONDS, left(end)))
                 break
             except SarpuntxeError as why:
                 self.close()
-                if why.kind != "fault" or time.monotonic() > end:
+                if why.kind != "fault" or time.monotonic() >= end:
                     raise
-            time.sleep(pause * random.uniform(0.75, 1))
+            time.sleep(min(pause * random.uniform(0.75, 1), left(end)))
             pause = min(LONGEST_PAUSE, 2 * pause)
         waiting, self.waiting = self.waiting, None
         return waiting and self.found(*waiting)
 
-    def begin(self):
-        self.session = Session(self.address)
+    def begin(self, timeout):
+        """Begins the stream on a connection of which each answer comes within so many seconds."""
+        self.session = Session(self.address, timeout)
         game = self.session.ask(type="look", match=self.place["match"])["row"]["game"]
         asked = {"type": "sync", **self.place}
         try:

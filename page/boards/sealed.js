@@ -1,6 +1,6 @@
 // The list of the seats of a game in which each seals something that is shown to all at the end.
 import { dot, element } from "../elements.js";
-import { activeSeats } from "../words.js";
+import { activeSeats } from "../sarpuntxe.js";
 
 /**
  * A row for each seat. `own(g)` is what one's own seat has sealed, or null; `told(g, seat)` what was revealed, or null before the end;

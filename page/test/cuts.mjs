@@ -145,12 +145,12 @@ export async function cuts(scene) {
 
 /** The pauses between two tries grow, but to five seconds at most while somebody looks. */
 async function pausesAreShort(page) {
-  const pauses = await page.value(`import("./connection.js").then(({ Connection }) => new Promise((done) => {
+  const pauses = await page.value(`import("./sarpuntxe.js").then(({ Connection }) => new Promise((done) => {
     const pauses = [];
-    const connection = new Connection("ws://127.0.0.1:1/", { opened() {}, heard() {}, told(state, seconds) { if (state === "broken") pauses.push(seconds); } });
+    const connection = new Connection("ws://127.0.0.1:1/", { opened() {}, heard() {}, told(state, pause) { if (state === "broken") pauses.push(pause); } });
     setTimeout(() => { connection.close(); done(pauses); }, 10_000);
   }))`);
-  same(pauses.length >= 4 && pauses.every((seconds) => seconds <= 5) && pauses.at(-1) > pauses[0], true, `pauses of ${pauses} seconds`);
+  same(pauses.length >= 4 && pauses.every((pause) => pause <= 5_000) && pauses.at(-1) > pauses[0], true, `pauses of ${pauses} milliseconds`);
 }
 
 /** Every reason that docs/PROTOCOL.md names has words of its own. */

@@ -21,12 +21,13 @@ import { phone } from "./phone.mjs";
 import { program, recorded } from "./program.mjs";
 import { takeover } from "./takeover.mjs";
 import { bots } from "./bots.mjs";
+import { called } from "./called.mjs";
 import { wayIn, wayOut } from "./evening.mjs";
 import { access } from "./access.mjs";
 import { qr } from "./qr.mjs";
 
 const PLAYS = {
-  handed, addresses, qr, lobby, gone, wayIn, wayOut, access, reasons, ticTacToe, countdown, pig, highHand, blindBid, captions, cuts, unknownGame,
+  handed, addresses, qr, lobby, gone, wayIn, wayOut, called, access, reasons, ticTacToe, countdown, pig, highHand, blindBid, captions, cuts, unknownGame,
   program, recorded, guesses, takeover, bots, phone,
 };
 const here = (path) => fileURLToPath(new URL(path, import.meta.url));

@@ -1,8 +1,8 @@
 // What the client makes of lines that the program says seldom, said here by a server of a few words; and of a program that guesses ahead.
 import assert from "node:assert/strict";
 import { after, test } from "node:test";
-import { FAULTS, REASONS, REFUSALS, SarpuntxeError, connect, nextSnapshot } from "../sarpuntxe.mjs";
-import { pretend } from "./server.mjs";
+import { Connection, FAULTS, REASONS, REFUSALS, SarpuntxeError, connect, nextSnapshot } from "../sarpuntxe.mjs";
+import { endAll, endLater, pretend } from "./server.mjs";
 
 const KEY = "a".repeat(32);
 const PLACE = { match: "0-1", seat: 0, key: KEY };
@@ -14,8 +14,7 @@ const update = (number) => ({ ctx: CTX, entry: entry(number - 1), g: { pot: numb
 const sync = (number) => ({ match: "0-1", seat: 0, snapshot: snapshot(number), type: "sync" });
 const ok = ({ ticket }, number) => ({ number, ticket, type: "ok" });
 
-const made = [];
-after(() => made.forEach((one) => one.stop()));
+after(endAll);
 
 /** Follows a match of a server that answers `sync` and `act` so, and everything else as one would. */
 async function follow(answers, options = { protocol: 1 }, place = PLACE) {
@@ -25,9 +24,9 @@ async function follow(answers, options = { protocol: 1 }, place = PLACE) {
     if (line.type === "sync") return [sync(0)];
     return [{ field: "type", reason: "bad-message", type: "refused" }];
   });
-  made.push(server);
   const lobby = await connect(server.address);
   const match = lobby.follow(place, options);
+  endLater(() => match.close());
   lobby.close();
   return match;
 }
@@ -76,6 +75,19 @@ test("where protocol 2 is not spoken, protocol 1 is", async () => {
   match.close();
 });
 
+test("who acts at a seat that was free is looked for, other lines can be asked for, and each is heard", async () => {
+  const heard = [];
+  const match = await follow({
+    act: (line) => [{ ...update(1), entry: { ...entry(0), seat: 1 } }, ok(line, 1)],
+  }, { protocol: 1, look: 60_000, heard: ({ type }) => heard.push(type) });
+  await assert.rejects(match.ask({ type: "nonsense" }), is("fault", "not-sent"));
+  await opened(match);
+  await match.move("roll");
+  assert.equal((await match.ask({ type: "nonsense" })).reason, "bad-message");
+  assert.deepEqual(heard, ["match", "sync", "update", "ok", "match", "refused"]);
+  match.close();
+});
+
 test("a key that counts no more ends the match", async () => {
   const match = await follow({ sync: () => [{ field: null, reason: "unauthorized", type: "refused" }] });
   await assert.rejects(opened(match), is("refused", "unauthorized"));
@@ -99,9 +111,41 @@ test("pauses grow to five seconds at most", async () => {
   match.close();
 });
 
+test("a connection is made anew after a cut, and what was asked of the last one is cut", async () => {
+  const asked = [], told = [], heard = [];
+  const server = await pretend((line, session) => { asked.push([session, line.type]); return line.type === "look" ? null : [{ games: [], type: "games" }]; });
+  let stands;
+  const opened = new Promise((done) => { stands = done; });
+  const connection = new Connection(server.address, {
+    opened: async (session) => {
+      assert.deepEqual((await session.ask({ type: "games" })).games, []);
+      if (asked.length === 1) await assert.rejects(connection.ask('{"type":"look"}'), is("fault", "cut"));
+      else stands();
+    },
+    heard: (line, text) => heard.push([line.type, JSON.parse(text).type]),
+    told: (state, pause) => told.push(pause === undefined ? state : [state, pause > 0 && pause <= 5_000]),
+  });
+  endLater(() => connection.close());
+  await opened;
+  assert.deepEqual(asked, [[1, "games"], [1, "look"], [2, "games"]]);
+  assert.deepEqual(told, ["connecting", "open", ["broken", true], "connecting", "open"]);
+  assert.deepEqual(heard, [["games", "games"], ["games", "games"]]);
+  connection.close();
+  await assert.rejects(connection.ask({ type: "games" }), is("fault", "not-sent"));
+  connection.connect();
+  assert.equal(told.length, 5, "it is over for good");
+});
+
+test("an address that is none is thrown back", () => {
+  const handlers = { opened() {}, heard() {}, told() {} };
+  for (const address of ["", "nonsense", "ws://:0:0/"]) assert.throws(() => new Connection(address, handlers), TypeError);
+});
+
 test("nobody answers at an address", async () => {
-  await assert.rejects(connect("tcp://127.0.0.1:1"), is("fault", "unreachable"));
-  await assert.rejects(connect("ws://127.0.0.1:1/"), is("fault", "unreachable"));
+  const server = await pretend(() => null);
+  server.stop();
+  await assert.rejects(connect(server.address), is("fault", "unreachable"));
+  await assert.rejects(connect(`${server.address.replace("tcp:", "ws:")}/`), is("fault", "unreachable"));
 });
 
 test("every word of the protocol has words for people", () => {
@@ -145,8 +189,9 @@ function guesser() {
 test("a program that guesses is handed the lines, and its guess is shown until it is settled", async () => {
   const guess = guesser();
   let answer;
-  const match = await follow({ act: (line) => { answer = line; return []; } }, { guess: Promise.resolve(guess) });
+  const match = await follow({ act: (line) => { answer = line; return []; } }, { guess: (game) => game === "pig" ? Promise.resolve(guess) : null });
   await opened(match);
+  assert.ok(match.state.guesses);
   assert.equal(guess.heard[0], `pig ${JSON.stringify({ ...PLACE, type: "sync" })}`);
   const asked = match.move("roll");
   const state = await match.until(({ guessed }) => guessed === 1);

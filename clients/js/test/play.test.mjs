@@ -5,11 +5,11 @@ import { tmpdir } from "node:os";
 import { join } from "node:path";
 import { after, before, test } from "node:test";
 import { GAMES, activeSeats, connect, endTurn, mayAct, move, undo } from "../sarpuntxe.mjs";
-import { relay, skip, start } from "./server.mjs";
+import { endAll, endLater, relay, skip, start } from "./server.mjs";
 
 let line, web;
 before(async () => { if (!skip) [line, web] = [await start(), await start({ words: ["--ws"] })]; });
-after(async () => { await line?.stop(); await web?.stop(); });
+after(endAll);
 const lineAt = () => `tcp://127.0.0.1:${line.port}`;
 const webAt = () => `ws://127.0.0.1:${web.port}/`;
 
@@ -44,6 +44,7 @@ async function table(address, game, options = [{}, {}, {}]) {
   const places = [await server.join(match, 0, "ann"), await server.join(match, null, "bob"), { match }];
   server.close();
   const follows = places.map((place, who) => server.follow(place, options[who]));
+  endLater(() => follows.forEach((one) => one.close()));
   await Promise.all(follows.map(opened));
   return { server, match, places, follows };
 }

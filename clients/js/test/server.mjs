@@ -7,6 +7,13 @@ const BUILT = new URL("../../../crates/board_server/out/board_server", import.me
 /** The program: SARPUNTXE_PROGRAM, or the one that is built here. */
 export const PROGRAM = process.env.SARPUNTXE_PROGRAM ?? BUILT;
 
+const ends = [];
+/** Ends this after the tests, if they haven't: what is left open, as a match that connects anew for good, keeps their process from ending. */
+export const endLater = (end) => { ends.push(end); };
+export async function endAll() {
+  for (const end of ends.splice(0).reverse()) await end();
+}
+
 /** Why tests against the program are skipped, or false if they are not. */
 export const skip = existsSync(PROGRAM) ? false : `there is no program ${PROGRAM}: build it, or set SARPUNTXE_PROGRAM`;
 
@@ -23,7 +30,9 @@ export async function start({ port = 0, words = [] } = {}) {
     });
   });
   const ended = new Promise((done) => child.on("exit", done));
-  return { port: at, stop: (signal) => { child.kill(signal); return ended; } };
+  const stop = (signal) => { child.kill(signal); return ended; };
+  endLater(() => stop("SIGKILL"));
+  return { port: at, stop };
 }
 
 /** Passes bytes on to a port. `cut()` ends all connections; if it is `deaf` it drops what the server says, if it is `mute` what the client says. */
@@ -41,6 +50,7 @@ export async function relay(port) {
   await new Promise((done) => server.listen(0, "127.0.0.1", done));
   self.port = server.address().port;
   self.stop = () => { self.cut(); server.close(); };
+  endLater(self.stop);
   return self;
 }
 
@@ -63,8 +73,7 @@ export async function pretend(answer) {
     });
   });
   await new Promise((done) => server.listen(0, "127.0.0.1", done));
-  return {
-    address: `tcp://127.0.0.1:${server.address().port}`,
-    stop() { open.forEach((socket) => socket.destroy()); server.close(); },
-  };
+  const stop = () => { open.forEach((socket) => socket.destroy()); server.close(); };
+  endLater(stop);
+  return { address: `tcp://127.0.0.1:${server.address().port}`, stop };
 }

@@ -33,7 +33,7 @@ board_server --version
 ";
 
 /// The line with the version.
-pub const VERSION: &str = "board_server 0.1\n";
+pub const VERSION: &str = "board_server 0.2\n";
 
 /// Prints a page, which is all that its run does.
 pub fn print_page<K: Sink>(sink: &mut K, page: &str) -> Exit
