@@ -27,6 +27,7 @@ LINTS = {
     "clauses in PROVED": proved.lint,
     "links": documents.links,
     "lists of games": documents.same_games,
+    "descriptions of games": documents.descriptions,
     "names of crates": documents.names_of_crates,
 }
 

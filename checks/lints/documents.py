@@ -115,6 +115,33 @@ def same_games():
             yield name, line, f"{what}: no game is named {game}"
 
 
+DESCRIBED = re.compile(r"\]\((?P<to>[^)\s]*games/[a-z-]+\.toml)\):?\s*$")
+
+
+def descriptions():
+    """A description that a page shows whole, in a fence `toml` behind a line that ends with a link to its file, is that file;
+    and the table of games/README.md has each file of games/, and no other."""
+    for path in pages():
+        lines = texts.read(path).splitlines()
+        for number, line in enumerate(lines, 1):
+            match = DESCRIBED.search(line)
+            if match and lines[number:number + 2] == ["", "```toml"]:
+                shown = lines[number + 2:]
+                shown = shown[:shown.index("```")] if "```" in shown else shown
+                file = (path.parent / match["to"]).resolve()
+                if file.exists() and shown != texts.read(file).splitlines():
+                    yield texts.shown(path), number, f"{match['to']} is another one than the page shows"
+    readme = texts.TOP / "games/README.md"
+    if readme.exists():
+        rows = {match[1]: number for number, line in enumerate(texts.read(readme).splitlines(), 1)
+                for match in [re.match(r"\| \[([a-z-]+)\]\(\1\.toml\) \|", line)] if match}
+        files = {path.stem for path in texts.under(texts.TOP / "games", ".toml")}
+        for name in sorted(files - set(rows)):
+            yield texts.shown(readme), 1, f"no row for {name}"
+        for name in sorted(set(rows) - files):
+            yield texts.shown(readme), rows[name], f"there is no {name}.toml"
+
+
 def names_of_crates():
     """crates.txt, the folders of crates/ and crates/README.md have the same crates; each `use` names a crate that crates.txt gives it,
     and each path `crates/NAME` of a page, a script or the Makefile is there."""
