@@ -28,6 +28,7 @@ LINTS = {
     "links": documents.links,
     "lists of games": documents.same_games,
     "descriptions of games": documents.descriptions,
+    "errors of descriptions": documents.errors_of_descriptions,
     "names of crates": documents.names_of_crates,
 }
 

@@ -142,6 +142,30 @@ def descriptions():
             yield texts.shown(readme), rows[name], f"there is no {name}.toml"
 
 
+def errors_of_descriptions():
+    """Each error of a description has a row in docs/LANGUAGE.md, under "Errors", and a description in checks/refused/ that it refuses."""
+    source, page, folder = texts.CRATES / "game_syntax/src/fault_name.rt", texts.TOP / "docs/LANGUAGE.md", texts.TOP / "checks/refused"
+    names = set(re.findall(r'=> "([a-z-]+)"', texts.read(source)))
+    lines = texts.read(page).splitlines()
+    begin = lines.index("## Errors") + 1
+    rows = {}
+    for number, line in enumerate(lines[begin:], begin + 1):
+        match = re.match(r"\| `([a-z-]+)` \|", line)
+        if match:
+            rows[match[1]] = number
+        if line.startswith("## "):
+            break
+    files = {path.stem for path in texts.under(folder, ".toml")}
+    for name in sorted(names - set(rows)):
+        yield texts.shown(page), begin, f"no row for the error {name}"
+    for name in sorted(set(rows) - names):
+        yield texts.shown(page), rows[name], f"no error is named {name}"
+    for name in sorted(names - files):
+        yield texts.shown(folder), 1, f"no description that {name} refuses"
+    for name in sorted(files - names):
+        yield texts.shown(folder / f"{name}.toml"), 1, f"no error is named {name}"
+
+
 def names_of_crates():
     """crates.txt, the folders of crates/ and crates/README.md have the same crates; each `use` names a crate that crates.txt gives it,
     and each path `crates/NAME` of a page, a script or the Makefile is there."""
