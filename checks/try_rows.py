@@ -3,11 +3,13 @@
 
     checks/try_rows.py PROGRAM [--games FOLDER] [--rows FOLDER] [--refused FOLDER] [--unasked] [NAME ..]
 
-  --games FOLDER     descriptions NAME.toml, each of which must load; games/ where it isn't said
+  --games FOLDER     descriptions NAME.toml, each of which must load
   --rows FOLDER      rows NAME.jsonl, each a line that says what the game NAME gives, see docs/ROWS.md
   --refused FOLDER   descriptions that are refused: ERROR.toml by the error of this name
   --unasked          a row that the program can't ask yet is counted, and is no failure
   NAME ..            these games alone
+
+Where `--games` isn't said the folders are games/, checks/rows/ and checks/refused/; checks/make_rows.py makes the rows.
 
 It prints a line for each game and a tally, and of what differs the first lines. The status is 1 if something differs.
 """
@@ -19,7 +21,7 @@ import sys
 import tempfile
 from pathlib import Path
 
-from descriptions import GAMES, check, error_in, known_names, run, status_of_refusal
+from descriptions import GAMES, TOP, check, error_in, known_names, run, status_of_refusal
 
 # How long `ask` may take with the rows of a game, and `check` with a description.
 PATIENCE = 600
@@ -102,11 +104,13 @@ def main():
     parser = argparse.ArgumentParser(description="Compares a built program with what is known of described games.")
     parser.add_argument("program")
     parser.add_argument("names", nargs="*")
-    parser.add_argument("--games", default=str(GAMES))
+    parser.add_argument("--games")
     parser.add_argument("--rows")
     parser.add_argument("--refused")
     parser.add_argument("--unasked", action="store_true")
     words = parser.parse_args()
+    if not words.games:
+        words.games, words.rows, words.refused = GAMES, words.rows or TOP / "checks/rows", words.refused or TOP / "checks/refused"
     program = os.path.abspath(words.program)
     outcome = Outcome(words.unasked)
     for file in files(words.games, "*.toml", words.names):
