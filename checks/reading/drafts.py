@@ -419,7 +419,8 @@ class Drafter:
         first, past = self.value(over[1], scope, depth).as_number(), self.value(over[2], scope, depth).as_number()
         node, bounds = past.node, past.bounds
         if over[3]:
-            node = ["literal", node[1] + 1] if node[0] == "literal" and node[1] is not None else ["+", node, ONE]
+            is_reckoned = node[0] == "literal" and node[1] is not None and node[1] < GREATEST
+            node = ["literal", node[1] + 1] if is_reckoned else ["+", node, ONE]
             bounds = bounds_of("+", bounds, (1, 1))
         if first.bounds[0] is None or bounds[1] is None:
             raise Fault("unbounded")
