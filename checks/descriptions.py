@@ -4,7 +4,7 @@ import subprocess
 from pathlib import Path
 
 TOP = Path(__file__).resolve().parent.parent
-GAMES = TOP / "games"
+DESCRIPTIONS = TOP / "games"
 NAMES = TOP / "crates/game_syntax/src/fault_name.rt"
 
 # A file that is refused by its first byte.

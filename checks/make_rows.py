@@ -13,7 +13,7 @@ import random
 import sys
 from pathlib import Path
 
-from descriptions import GAMES, TOP
+from descriptions import DESCRIPTIONS, TOP
 from reading.dice import Dice
 from reading.match import Match
 from reading.runs import Game, Run
@@ -148,7 +148,7 @@ def event_form(kind, given):
 def main():
     parser = argparse.ArgumentParser(description="Makes rows of described games by the second reading of docs/LANGUAGE.md.")
     parser.add_argument("names", nargs="*")
-    parser.add_argument("--games", default=str(GAMES))
+    parser.add_argument("--games", default=str(DESCRIPTIONS))
     parser.add_argument("--into", default=str(INTO))
     words = parser.parse_args()
     into = Path(words.into)

@@ -21,7 +21,7 @@ import tempfile
 import time
 from pathlib import Path
 
-from descriptions import GAMES, check, error_in, known_names, status_of_refusal
+from descriptions import DESCRIPTIONS, check, error_in, known_names, status_of_refusal
 
 # How long `check` may take with a description, without a play.
 PATIENCE = 1.0
@@ -226,7 +226,7 @@ def main():
     parser.add_argument("--seed", type=int, default=1)
     parser.add_argument("--first", type=int, default=0)
     parser.add_argument("--jobs", type=int, default=os.cpu_count() or 1)
-    parser.add_argument("--games", default=str(GAMES))
+    parser.add_argument("--games", default=str(DESCRIPTIONS))
     parser.add_argument("--plays", type=float, default=2.0)
     parser.add_argument("--show", type=int)
     words = parser.parse_args()

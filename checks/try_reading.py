@@ -15,7 +15,7 @@ import sys
 import time
 from pathlib import Path
 
-from descriptions import GAMES, check
+from descriptions import DESCRIPTIONS, check
 from reading.code import Fault
 from reading.plays import play
 from reading.runs import Game
@@ -66,7 +66,7 @@ def main():
     parser.add_argument("names", nargs="*")
     parser.add_argument("--plays", type=int, default=3)
     parser.add_argument("--first", type=int, default=0)
-    parser.add_argument("--games", default=str(GAMES))
+    parser.add_argument("--games", default=str(DESCRIPTIONS))
     parser.add_argument("--alone", action="store_true")
     words = parser.parse_args()
     if words.alone and words.program:

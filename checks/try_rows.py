@@ -21,7 +21,7 @@ import sys
 import tempfile
 from pathlib import Path
 
-from descriptions import GAMES, TOP, check, error_in, known_names, run, status_of_refusal
+from descriptions import DESCRIPTIONS, TOP, check, error_in, known_names, run, status_of_refusal
 
 # How long `ask` may take with the rows of a game, and `check` with a description.
 PATIENCE = 600
@@ -110,7 +110,7 @@ def main():
     parser.add_argument("--unasked", action="store_true")
     words = parser.parse_args()
     if not words.games:
-        words.games, words.rows, words.refused = GAMES, words.rows or TOP / "checks/rows", words.refused or TOP / "checks/refused"
+        words.games, words.rows, words.refused = DESCRIPTIONS, words.rows or TOP / "checks/rows", words.refused or TOP / "checks/refused"
     program = os.path.abspath(words.program)
     outcome = Outcome(words.unasked)
     for file in files(words.games, "*.toml", words.names):
