@@ -27,6 +27,8 @@ LINTS = {
     "clauses in PROVED": proved.lint,
     "links": documents.links,
     "lists of games": documents.same_games,
+    "descriptions of games": documents.descriptions,
+    "errors of descriptions": documents.errors_of_descriptions,
     "names of crates": documents.names_of_crates,
     "versions": documents.versions,
     "files of the page": documents.files_of_the_page,

@@ -115,6 +115,57 @@ def same_games():
             yield name, line, f"{what}: no game is named {game}"
 
 
+DESCRIBED = re.compile(r"\]\((?P<to>[^)\s]*games/[a-z-]+\.toml)\):?\s*$")
+
+
+def descriptions():
+    """A description that a page shows whole, in a fence `toml` behind a line that ends with a link to its file, is that file;
+    and the table of games/README.md has each file of games/, and no other."""
+    for path in pages():
+        lines = texts.read(path).splitlines()
+        for number, line in enumerate(lines, 1):
+            match = DESCRIBED.search(line)
+            if match and lines[number:number + 2] == ["", "```toml"]:
+                shown = lines[number + 2:]
+                shown = shown[:shown.index("```")] if "```" in shown else shown
+                file = (path.parent / match["to"]).resolve()
+                if file.exists() and shown != texts.read(file).splitlines():
+                    yield texts.shown(path), number, f"{match['to']} is another one than the page shows"
+    readme = texts.TOP / "games/README.md"
+    if readme.exists():
+        rows = {match[1]: number for number, line in enumerate(texts.read(readme).splitlines(), 1)
+                for match in [re.match(r"\| \[([a-z-]+)\]\(\1\.toml\) \|", line)] if match}
+        files = {path.stem for path in texts.under(texts.TOP / "games", ".toml")}
+        for name in sorted(files - set(rows)):
+            yield texts.shown(readme), 1, f"no row for {name}"
+        for name in sorted(set(rows) - files):
+            yield texts.shown(readme), rows[name], f"there is no {name}.toml"
+
+
+def errors_of_descriptions():
+    """Each error of a description has a row in docs/LANGUAGE.md, under "Errors", and a description in checks/refused/ that it refuses."""
+    source, page, folder = texts.CRATES / "game_syntax/src/fault_name.rt", texts.TOP / "docs/LANGUAGE.md", texts.TOP / "checks/refused"
+    names = set(re.findall(r'=> "([a-z-]+)"', texts.read(source)))
+    lines = texts.read(page).splitlines()
+    begin = lines.index("## Errors") + 1
+    rows = {}
+    for number, line in enumerate(lines[begin:], begin + 1):
+        match = re.match(r"\| `([a-z-]+)` \|", line)
+        if match:
+            rows[match[1]] = number
+        if line.startswith("## "):
+            break
+    files = {path.stem for path in texts.under(folder, ".toml")}
+    for name in sorted(names - set(rows)):
+        yield texts.shown(page), begin, f"no row for the error {name}"
+    for name in sorted(set(rows) - names):
+        yield texts.shown(page), rows[name], f"no error is named {name}"
+    for name in sorted(names - files):
+        yield texts.shown(folder), 1, f"no description that {name} refuses"
+    for name in sorted(files - names):
+        yield texts.shown(folder / f"{name}.toml"), 1, f"no error is named {name}"
+
+
 def names_of_crates():
     """crates.txt, the folders of crates/ and crates/README.md have the same crates; each `use` names a crate that crates.txt gives it,
     and each path `crates/NAME` of a page, a script or the Makefile is there."""
