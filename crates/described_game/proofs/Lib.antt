@@ -5,4 +5,5 @@ pub mod ListLemmas
 pub mod OfferLaws
 pub mod OfferLemmas
 pub mod RisingLemmas
+pub mod RowLaws
 pub mod SoundLemmas

@@ -47,6 +47,11 @@ abbrev pub range_row : List NumberRange → ℕ → List Arg
 range_row [] n = []
 range_row (range ∷ ranges) n = option_to_list (range_item range (n / rows_count ranges)) ++ range_row ranges (n % rows_count ranges)
 
+-- all rows of one number of each range, in order, where the last range goes fastest
+abbrev pub range_rows : List NumberRange → List (List Arg)
+range_rows [] = [] ∷ []
+range_rows (range ∷ ranges) = flat_map (λ n. map (λ row. option_to_list (range_item range n) ++ row) (range_rows ranges)) (range_with_len 0 (range_count range))
+
 -- ---- groups
 
 abbrev pub kind_count : ArgumentKind → ℕ

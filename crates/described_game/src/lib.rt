@@ -21,7 +21,7 @@ mod shared;
 
 pub use described::Described;
 pub use faults::PartFault;
-pub use laws::{offers_are_allowed, offers_are_seen, texts_are_short};
+pub use laws::{offers_are_allowed, offers_are_seen, rows_have_numbers, texts_are_short};
 pub use parts::{
     ArgumentGroup, ArgumentKind, ArgumentRow, EndCode, EndKind, GameParts, ListedRow, MoveCode,
     NumberRange, PhaseCode, TurnCode,
