@@ -1,15 +1,46 @@
 //! What the file of a described game says but for its code: constants, slots with their types and starts, arguments of moves, and the sheet.
 //!
-//! What is exported for those who load the code:
-//! `frame_of(alloc, &GameFile) -> Result<Frame, Unread>`, the whole;
-//! `slot_type(tree, id, text, &Known) -> Result<SlotType, Misfit>`, what a node `Shape::Slot` of a tree means, as `var x: SLOT` has it;
-//! `with_clients(alloc, sheet, &[bool]) -> Result<Sheet, NoMemory>`, the sheet with each move's `client` as given;
-//! `Misfit { name, at, words }`, a fault of a text by its byte, and `Misfit::told(self, alloc, path, text) -> Unread`.
+//! A description is refused with its first fault. Pieces are looked at in this order, each whole before the next:
+//!
+//! 1. the file's members, as `game_file` reads them;
+//! 2. the rows of constants, of which there are at most 65,535;
+//! 3. the slots of `common`, `players`, `secret` and `work`, each by the byte order of its names: its items, how many there are, and its start;
+//! 4. how long the text of a state may be;
+//! 5. `scores`;
+//! 6. the arguments of each move, text by text: of each its name, its range, and what is offered;
+//! 7. which specs of active players follow which;
+//! 8. the sheet: `base`, the turn, the phases, the stages, the specs, the events; of a turn its order, its limits and its spec;
+//!    of a phase and a stage what follows it, its moves, and its turn; of a spec where seats are put, its limits, what follows it, and its seats;
+//! 9. the slots that orders and specs name;
+//! 10. display hints.
+//!
+//! What `in LIST` names, and whether an `endTurn` stands in a move after which the turn ends by itself, is looked at with the code.
 #![tactic(auto)]
 
+mod actives;
+mod arguments;
+mod clients;
+mod constants;
+mod ends_turn;
 mod frame;
+mod hints;
+mod misfit;
+mod order;
+mod phases;
+mod rows;
+mod scores;
+mod sheet;
+mod slots;
+mod turns;
+mod types;
+mod whole;
 
+pub use clients::with_clients;
+pub use ends_turn::ends_turn;
 pub use frame::{
     ArgumentFrame, ArgumentKind, ConstantFrame, ConstantKind, Frame, FrameNames, FrameOrders,
     FrameSlots, ListFrame, MoveFrame, SlotFrame, SlotSeats, SlotType, SpecFrame,
 };
+pub use misfit::Misfit;
+pub use types::{Known, TypeText};
+pub use whole::frame_of;

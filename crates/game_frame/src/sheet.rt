@@ -1,6 +1,6 @@
 //! The sheet of a game.
 
-ghost use Rattle.std.specs.Prelude.{◌≡◌, length, IfOk};
+ghost use Rattle.std.specs.Prelude.{IfOk};
 ghost use Rattle.game_sheet.specs.SheetFits.{SheetFits};
 
 use crate::actives::spec_rows;
@@ -8,7 +8,7 @@ use crate::misfit::At;
 use crate::phases::{phase_rows, stage_rows};
 use crate::rows::{all_moves, listed_moves};
 use crate::turns::Around;
-use game_file::{FileFlow, GameFile, MoveMember, Unread};
+use game_file::{FileFlow, GameFile, MoveMember, Seats, Unread};
 use game_sheet::{
     EventKind, List, MoveId, MoveRow, NoMemory, PhaseRow, Sheet, SpecRow, StageRow, Text, TurnRow,
     check_sheet,
@@ -16,19 +16,14 @@ use game_sheet::{
 use game_syntax::FaultName;
 use std::alloc::Global;
 
-/// What a match is played by.
+/// What a sheet has beside its name, its seats and its table of moves.
 struct Play {
     base: List<MoveId>,
     turn: TurnRow,
-    tables: Tables,
-    events: List<EventKind>,
-}
-
-/// The tables of a sheet beside that of moves.
-struct Tables {
     phases: List<PhaseRow>,
     stages: List<StageRow>,
     specs: List<SpecRow>,
+    events: List<EventKind>,
 }
 
 impl Drop for Play {
@@ -36,26 +31,43 @@ impl Drop for Play {
         let Play {
             base,
             turn,
-            tables,
+            phases,
+            stages,
+            specs,
             events,
         } = self;
         drop(base);
         drop(turn);
-        drop(tables);
+        drop(phases);
+        drop(stages);
+        drop(specs);
         drop(events);
     }
 }
 
-impl Drop for Tables {
-    fn drop(self) {
-        let Tables {
+impl Play {
+    /// The sheet with a name, moves and seats.
+    fn sheet(self, name: Text, moves: List<MoveRow>, seats: Seats) -> Sheet {
+        let Play {
+            base,
+            turn,
             phases,
             stages,
             specs,
+            events,
         } = self;
-        drop(phases);
-        drop(stages);
-        drop(specs);
+        Sheet {
+            name,
+            min_seats: seats.least,
+            max_seats: seats.most,
+            moves,
+            base,
+            turn,
+            phases,
+            stages,
+            specs,
+            events,
+        }
     }
 }
 
@@ -99,31 +111,7 @@ fn rule_member(rule: u8) -> (&'static str, FaultName) {
 /// The sheet with its name and its moves.
 fn made(alloc: Global, file: &GameFile, play: Play) -> Result<Sheet, NoMemory> {
     match name_and_moves(alloc, file) {
-        Ok((name, moves)) => {
-            let Play {
-                base,
-                turn,
-                tables,
-                events,
-            } = play;
-            let Tables {
-                phases,
-                stages,
-                specs,
-            } = tables;
-            Ok(Sheet {
-                name,
-                min_seats: file.head.seats.least,
-                max_seats: file.head.seats.most,
-                moves,
-                base,
-                turn,
-                phases,
-                stages,
-                specs,
-                events,
-            })
-        }
+        Ok((name, moves)) => Ok(play.sheet(name, moves, file.head.seats)),
         Err(NoMemory) => {
             drop(play);
             Err(NoMemory)
@@ -158,14 +146,20 @@ fn move_row(alloc: Global, member: &MoveMember) -> Result<MoveRow, NoMemory> {
 }
 
 fn play_of(around: &Around<'_>, file: &GameFile) -> Result<Play, Unread> {
+    let moves = file.flow.moves.as_slice();
+    let tables = &file.flow.tables;
     let base = base_of(around.alloc, &file.flow)?;
     let turn = around.turn(&file.flow.turn)?;
-    let tables = tables_of(around, &file.flow)?;
+    let phases = phase_rows(around, moves, tables.phases.as_slice())?;
+    let stages = stage_rows(around, moves, tables.stages.as_slice())?;
+    let specs = spec_rows(around, tables.stages.as_slice())?;
     let events = events_of(around.alloc, &file.end.events)?;
     Ok(Play {
         base,
         turn,
-        tables,
+        phases,
+        stages,
+        specs,
         events,
     })
 }
@@ -177,18 +171,6 @@ fn base_of(alloc: Global, flow: &FileFlow) -> Result<List<MoveId>, Unread> {
         Some(base) => Ok(base),
         None => all_moves(alloc, moves),
     }
-}
-
-fn tables_of(around: &Around<'_>, flow: &FileFlow) -> Result<Tables, Unread> {
-    let moves = flow.moves.as_slice();
-    let phases = phase_rows(around, moves, flow.tables.phases.as_slice())?;
-    let stages = stage_rows(around, moves, flow.tables.stages.as_slice())?;
-    let specs = spec_rows(around, flow.tables.stages.as_slice())?;
-    Ok(Tables {
-        phases,
-        stages,
-        specs,
-    })
 }
 
 /// The events that players may raise.
