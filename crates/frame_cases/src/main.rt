@@ -7,7 +7,7 @@ mod play;
 
 use case_rows::{read_input, split_head, unmarked};
 use game_file::{GameFile, Unread, read_file};
-use game_frame::frame_of;
+use game_frame::{Frame, frame_of};
 use names::print_names;
 use play::print_play;
 use std::io;
@@ -36,12 +36,17 @@ fn print_case(rt: &HostRuntime, case: &str) -> io::Result<()> {
 fn print_file(rt: &HostRuntime, file: &GameFile) -> io::Result<()> {
     match frame_of(rt.alloc(), file) {
         Ok(frame) => {
-            let printed = print_names(rt, &frame).and_then(|()| print_play(rt, &frame));
+            let printed = print_frame(rt, &frame);
             drop(frame);
             printed
         }
         Err(unread) => print_unread(rt, unread),
     }
+}
+
+fn print_frame(rt: &HostRuntime, frame: &Frame) -> io::Result<()> {
+    print_names(rt, frame)?;
+    print_play(rt, frame)
 }
 
 fn print_unread(rt: &HostRuntime, unread: Unread) -> io::Result<()> {

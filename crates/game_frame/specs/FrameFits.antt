@@ -51,5 +51,6 @@ pub record LayoutFits (layout : Layout) : Type 0 where
 pub record FrameFits (frame : Frame) : Type 0 where
   pub sheet : SheetFits frame.sheet
   pub layout : LayoutFits frame.layout
+  pub seats : frame.layout.rows.most_seats ≡ frame.sheet.max_seats
   pub same_rows : IsLayoutOf frame.names.slots frame.layout
   pub slots : SlotsFit frame.layout.rows.most_seats frame.names.slots

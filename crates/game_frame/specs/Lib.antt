@@ -1,1 +1,2 @@
+pub mod EndsTurn
 pub mod FrameFits

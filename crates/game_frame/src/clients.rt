@@ -1,5 +1,7 @@
 //! Which moves a client may guess, once their code is known.
 
+ghost use Rattle.std.specs.Prelude.{◌≡◌, length, IfOk};
+
 use game_sheet::{List, MoveRow, NoMemory, Sheet};
 use std::alloc::Global;
 

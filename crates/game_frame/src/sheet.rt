@@ -1,6 +1,6 @@
 //! The sheet of a game.
 
-ghost use Rattle.std.specs.Prelude.{IfOk};
+ghost use Rattle.std.specs.Prelude.{◌≡◌, IfOk};
 ghost use Rattle.game_sheet.specs.SheetFits.{SheetFits};
 
 use crate::actives::spec_rows;
@@ -47,7 +47,9 @@ impl Drop for Play {
 
 impl Play {
     /// The sheet with a name, moves and seats.
-    fn sheet(self, name: Text, moves: List<MoveRow>, seats: Seats) -> Sheet {
+    fn sheet(self, name: Text, moves: List<MoveRow>, seats: Seats) -> Sheet
+        ensures { result.max_seats ≡ seats.most }
+    {
         let Play {
             base,
             turn,
@@ -73,7 +75,8 @@ impl Play {
 
 /// The sheet, which breaks no rule.
 pub(crate) fn sheet_of(around: &Around<'_>, file: &GameFile) -> Result<Sheet, Unread>
-    ensures { IfOk result SheetFits }
+    ensures fits { IfOk result SheetFits }
+    ensures seats { IfOk result (λ sheet. sheet.max_seats ≡ file.now.head.seats.most) }
 {
     let play = play_of(around, file)?;
     let sheet = made(around.alloc, file, play)?;
@@ -109,7 +112,9 @@ fn rule_member(rule: u8) -> (&'static str, FaultName) {
 }
 
 /// The sheet with its name and its moves.
-fn made(alloc: Global, file: &GameFile, play: Play) -> Result<Sheet, NoMemory> {
+fn made(alloc: Global, file: &GameFile, play: Play) -> Result<Sheet, NoMemory>
+    ensures { IfOk result (λ sheet. sheet.max_seats ≡ file.now.head.seats.most) }
+{
     match name_and_moves(alloc, file) {
         Ok((name, moves)) => Ok(play.sheet(name, moves, file.head.seats)),
         Err(NoMemory) => {

@@ -4,6 +4,8 @@ ghost use Rattle.std.specs.Prelude.{◌≡◌, IfOk};
 ghost use Rattle.game_sheet.specs.SheetFits.{SheetFits};
 ghost use Rattle.game_frame.specs.FrameFits.{FrameFits, SlotsFit};
 ghost use Rattle.game_frame.specs.declared.frame.FrameNames.{FrameNames};
+ghost use Rattle.game_frame.specs.declared.whole.Flow.{Flow};
+ghost use Rattle.game_frame.specs.declared.whole.Play.{Play};
 
 use crate::actives::{ordered, spec_frames};
 use crate::arguments::moves_of;
@@ -138,7 +140,8 @@ fn play_of(
     slots: &FrameSlots,
     known: &Known<'_>,
 ) -> Result<Play, Unread>
-    ensures { IfOk result (λ (play : Play). SheetFits play.flow.sheet) }
+    ensures fits { IfOk result (λ (play : Play). SheetFits play.flow.sheet) }
+    ensures seats { IfOk result (λ (play : Play). play.flow.sheet.max_seats ≡ file.now.head.seats.most) }
 {
     let scores = scores_of(alloc, &file.head.scores, slots.common.as_slice())?;
     let moves = moves_of(alloc, file.flow.moves.as_slice(), &file.names, known)?;
@@ -158,7 +161,8 @@ fn play_of(
 }
 
 fn flow_of(alloc: Global, file: &GameFile, common: &[SlotFrame]) -> Result<Flow, Unread>
-    ensures { IfOk result (λ (flow : Flow). SheetFits flow.sheet) }
+    ensures fits { IfOk result (λ (flow : Flow). SheetFits flow.sheet) }
+    ensures seats { IfOk result (λ (flow : Flow). flow.sheet.max_seats ≡ file.now.head.seats.most) }
 {
     let specs = file.flow.tables.specs.as_slice();
     let order = spec_order(alloc, specs)?;
@@ -172,7 +176,8 @@ fn flow_with(
     common: &[SlotFrame],
     specs: &[&SpecMember],
 ) -> Result<Flow, Unread>
-    ensures { IfOk result (λ (flow : Flow). SheetFits flow.sheet) }
+    ensures fits { IfOk result (λ (flow : Flow). SheetFits flow.sheet) }
+    ensures seats { IfOk result (λ (flow : Flow). flow.sheet.max_seats ≡ file.now.head.seats.most) }
 {
     let around = Around {
         alloc,
