@@ -1,8 +1,7 @@
 //! The slots of a file, and the names and rows of a state.
 
-ghost use Rattle.std.specs.Prelude.{◌≡◌, true, IfOk};
+ghost use Rattle.std.specs.Prelude.{◌≡◌, true, IfNone, IfOk};
 ghost use Rattle.game_frame.specs.FrameFits.{AreSound, IsLayoutOf, LayoutFits, SlotsFit, is_sound, names_of, rows_of};
-ghost use Rattle.game_frame.specs.declared.frame.SlotFrame.{SlotFrame};
 
 use crate::frame::{FrameSlots, SlotFrame, SlotType};
 use crate::misfit::{At, tree_of};
@@ -49,7 +48,7 @@ fn part_of(
 }
 
 fn slot_of(alloc: Global, member: &SlotMember, known: &Known<'_>) -> Result<SlotFrame, Unread>
-    ensures { IfOk result (λ (frame : SlotFrame). is_sound known.now.most_seats frame.slot.row ≡ true) }
+    ensures { IfOk result (λ frame. is_sound known.now.most_seats frame.slot.row ≡ true) }
 {
     let slot = type_of(alloc, &member.source, known)?;
     let name = member.name.copy(alloc)?;

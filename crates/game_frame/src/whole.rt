@@ -3,9 +3,6 @@
 ghost use Rattle.std.specs.Prelude.{◌≡◌, IfOk};
 ghost use Rattle.game_sheet.specs.SheetFits.{SheetFits};
 ghost use Rattle.game_frame.specs.FrameFits.{FrameFits, SlotsFit};
-ghost use Rattle.game_frame.specs.declared.frame.FrameNames.{FrameNames};
-ghost use Rattle.game_frame.specs.declared.whole.Flow.{Flow};
-ghost use Rattle.game_frame.specs.declared.whole.Play.{Play};
 
 use crate::actives::{ordered, spec_frames};
 use crate::arguments::moves_of;
@@ -39,7 +36,7 @@ pub fn frame_of(alloc: Global, file: &GameFile) -> Result<Frame, Unread>
 
 /// What code can name.
 fn names_of(alloc: Global, names: &FileNames, known: &Known<'_>) -> Result<FrameNames, Unread>
-    ensures { IfOk result (λ (names : FrameNames). SlotsFit known.now.most_seats names.slots) }
+    ensures { IfOk result (λ names. SlotsFit known.now.most_seats names.slots) }
 {
     let constants = constants_of(alloc, names.constants.as_slice())?;
     let rows = rows_of(alloc, names.constants.as_slice())?;
@@ -140,8 +137,8 @@ fn play_of(
     slots: &FrameSlots,
     known: &Known<'_>,
 ) -> Result<Play, Unread>
-    ensures fits { IfOk result (λ (play : Play). SheetFits play.flow.sheet) }
-    ensures seats { IfOk result (λ (play : Play). play.flow.sheet.max_seats ≡ file.now.head.seats.most) }
+    ensures fits { IfOk result (λ play. SheetFits play.flow.sheet) }
+    ensures seats { IfOk result (λ play. play.flow.sheet.max_seats ≡ file.now.head.seats.most) }
 {
     let scores = scores_of(alloc, &file.head.scores, slots.common.as_slice())?;
     let moves = moves_of(alloc, file.flow.moves.as_slice(), &file.names, known)?;
@@ -161,8 +158,8 @@ fn play_of(
 }
 
 fn flow_of(alloc: Global, file: &GameFile, common: &[SlotFrame]) -> Result<Flow, Unread>
-    ensures fits { IfOk result (λ (flow : Flow). SheetFits flow.sheet) }
-    ensures seats { IfOk result (λ (flow : Flow). flow.sheet.max_seats ≡ file.now.head.seats.most) }
+    ensures fits { IfOk result (λ flow. SheetFits flow.sheet) }
+    ensures seats { IfOk result (λ flow. flow.sheet.max_seats ≡ file.now.head.seats.most) }
 {
     let specs = file.flow.tables.specs.as_slice();
     let order = spec_order(alloc, specs)?;
@@ -176,8 +173,8 @@ fn flow_with(
     common: &[SlotFrame],
     specs: &[&SpecMember],
 ) -> Result<Flow, Unread>
-    ensures fits { IfOk result (λ (flow : Flow). SheetFits flow.sheet) }
-    ensures seats { IfOk result (λ (flow : Flow). flow.sheet.max_seats ≡ file.now.head.seats.most) }
+    ensures fits { IfOk result (λ flow. SheetFits flow.sheet) }
+    ensures seats { IfOk result (λ flow. flow.sheet.max_seats ≡ file.now.head.seats.most) }
 {
     let around = Around {
         alloc,
