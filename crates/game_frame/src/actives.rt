@@ -31,7 +31,7 @@ pub(crate) fn spec_rows(
 ) -> Result<List<SpecRow>, Unread> {
     let mut rows = List::new(around.alloc);
     for spec in around.specs {
-        rows.push(spec_row(around, stages, spec)?)?;
+        rows.push(spec_row(around, stages, *spec)?)?;
     }
     Ok(rows)
 }
@@ -71,7 +71,7 @@ pub(crate) fn spec_frames(
 ) -> Result<List<SpecFrame>, Unread> {
     let mut frames = List::new(around.alloc);
     for spec in around.specs {
-        frames.push(spec_frame(around, stages, spec)?)?;
+        frames.push(spec_frame(around, stages, *spec)?)?;
     }
     Ok(frames)
 }

@@ -21,7 +21,6 @@ mod actives;
 mod arguments;
 mod clients;
 mod constants;
-mod ends_turn;
 mod frame;
 mod hints;
 mod misfit;
@@ -31,16 +30,17 @@ mod rows;
 mod scores;
 mod sheet;
 mod slots;
+mod turn_ends;
 mod turns;
 mod types;
 mod whole;
 
 pub use clients::with_clients;
-pub use ends_turn::ends_turn;
 pub use frame::{
     ArgumentFrame, ArgumentKind, ConstantFrame, ConstantKind, Frame, FrameNames, FrameOrders,
     FrameSlots, ListFrame, MoveFrame, SlotFrame, SlotSeats, SlotType, SpecFrame,
 };
 pub use misfit::Misfit;
+pub use turn_ends::ends_turn;
 pub use types::{Known, TypeText};
 pub use whole::frame_of;

@@ -56,7 +56,7 @@ fn follower_named(
 
 /// The first place that isn't in the order yet, with all that it follows in it.
 fn free_place(nexts: &[Option<u8>], order: &[u8]) -> Option<u8> {
-    for place in 0..16 {
+    for place in 0..16u8 {
         if usize::from(place) < nexts.len()
             && !order.contains(&place)
             && follows_none(nexts, order, place)
