@@ -1,6 +1,7 @@
 -- What a frame keeps: rows of slots that fit, the sheet's rules, and the bound on texts of states.
 use Rattle.std.specs.Prelude.{◌≡◌, ◌&&◌, ℕ, nat_le, Bool, true, List, map, All}
 use Rattle.game_sheet.specs.SheetFits.{SheetFits}
+use Rattle.game_sheet.specs.declared.sheet.MoveRow.{MoveRow}
 use Rattle.game_slots.specs.Slots.{count_in, value_fits}
 use Rattle.game_slots.specs.declared.rows.SlotRow.{SlotRow}
 use Rattle.game_frame.specs.declared.frame.Frame.{Frame}
@@ -54,3 +55,6 @@ pub record FrameFits (frame : Frame) : Type 0 where
   pub seats : frame.layout.rows.most_seats ≡ frame.sheet.max_seats
   pub same_rows : IsLayoutOf frame.names.slots frame.layout
   pub slots : SlotsFit frame.layout.rows.most_seats frame.names.slots
+
+abbrev pub move_names : List MoveRow → List (List ℕ)
+move_names moves = map (λ (row : MoveRow). row.name) moves

@@ -1,12 +1,16 @@
 //! Which moves a client may guess, once their code is known.
 
-ghost use Rattle.std.specs.Prelude.{◌≡◌, length, IfOk};
+ghost use Rattle.std.specs.Prelude.{◌≡◌, IfOk};
+ghost use Rattle.game_frame.specs.FrameFits.{move_names};
 
 use game_sheet::{List, MoveRow, NoMemory, Sheet};
 use std::alloc::Global;
 
-/// The sheet where a client may guess those moves whose flag is true; of further moves all stays as it was.
-pub fn with_clients(alloc: Global, sheet: Sheet, flags: &[bool]) -> Result<Sheet, NoMemory> {
+/// The sheet where a client may guess those moves whose flag is true; of moves without a flag all stays as it was.
+pub fn with_clients(alloc: Global, sheet: Sheet, flags: &[bool]) -> Result<Sheet, NoMemory>
+    ensures same { IfOk result (λ guessed. record guessed { moves = sheet.moves } ≡ sheet) }
+    ensures moves { IfOk result (λ guessed. move_names guessed.moves ≡ move_names sheet.moves) }
+{
     match guessed_rows(alloc, sheet.moves.as_slice(), flags) {
         Ok(rows) => Ok(with_moves(sheet, rows)),
         Err(NoMemory) => {
@@ -16,7 +20,9 @@ pub fn with_clients(alloc: Global, sheet: Sheet, flags: &[bool]) -> Result<Sheet
     }
 }
 
-fn with_moves(sheet: Sheet, rows: List<MoveRow>) -> Sheet {
+fn with_moves(sheet: Sheet, rows: List<MoveRow>) -> Sheet
+    ensures { result ≡ record sheet { moves = rows } }
+{
     let mut sheet = sheet;
     sheet.moves = rows;
     sheet
@@ -26,7 +32,9 @@ fn guessed_rows(
     alloc: Global,
     moves: &[MoveRow],
     flags: &[bool],
-) -> Result<List<MoveRow>, NoMemory> {
+) -> Result<List<MoveRow>, NoMemory>
+    ensures { IfOk result (λ rows. move_names rows ≡ move_names moves.now) }
+{
     let mut rows = List::new(alloc);
     for (place, row) in moves.iter().enumerate() {
         let client = flags.get(place).copied().unwrap_or(row.client);
@@ -35,7 +43,9 @@ fn guessed_rows(
     Ok(rows)
 }
 
-fn guessed_row(alloc: Global, row: &MoveRow, client: bool) -> Result<MoveRow, NoMemory> {
+fn guessed_row(alloc: Global, row: &MoveRow, client: bool) -> Result<MoveRow, NoMemory>
+    ensures { IfOk result (λ guessed. guessed ≡ record row.now { client = client }) }
+{
     let name = row.name.copy(alloc)?;
     Ok(MoveRow {
         name,
