@@ -1,7 +1,7 @@
 //! The sheet, arguments of moves, and what is read from slots, a line each.
 
 use crate::names::print_items;
-use game_frame::{ArgumentFrame, ArgumentKind, Frame, MoveFrame, SlotSeats, SpecFrame, ends_turn};
+use game_frame::{ArgumentFrame, ArgumentKind, Frame, MoveFrame, SlotSeats, SpecFrame};
 use game_sheet::{
     List, MoveId, MoveRow, Order, PhaseRow, Place, Seat, Sheet, SpecRow, StageRow, TurnRow,
 };
@@ -49,11 +49,9 @@ fn print_listed(rt: &HostRuntime, moves: &Option<List<MoveId>>) -> io::Result<()
 }
 
 fn print_moves(rt: &HostRuntime, frame: &Frame) -> io::Result<()> {
-    let mut place = 0;
     for (row, given) in frame.sheet.moves.as_slice().iter().zip(frame.moves.as_slice()) {
-        print_move(rt, row, ends_turn(&frame.sheet, MoveId::at(place)))?;
+        print_move(rt, row, given.ends_turn)?;
         print_given(rt, given)?;
-        place = place.saturating_add(1);
     }
     Ok(())
 }

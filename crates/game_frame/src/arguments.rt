@@ -2,24 +2,26 @@
 
 use crate::frame::{ArgumentFrame, ArgumentKind, ListFrame, MoveFrame};
 use crate::misfit::{Misfit, tree_of};
+use crate::turn_ends::ends_turn;
 use crate::types::{Known, TypeText, item_kind};
-use game_file::{FileNames, MoveMember, Source, Unread, is_taken};
-use game_sheet::{Args, List, Text};
+use game_file::{FileNames, GameFile, MoveMember, Source, Unread, is_taken};
+use game_sheet::{Args, List, MoveId, Sheet, Text};
 use game_slots::{Count, Items, SlotRow, value_fits};
 use game_syntax::{FaultName, Form, Id, Many, Shape, Span, Tree};
 use slot_values::Value;
 use std::alloc::Global;
 
-/// What each move is given.
+/// What each move of a sheet is given.
 pub(crate) fn moves_of(
     alloc: Global,
-    moves: &[MoveMember],
-    names: &FileNames,
+    file: &GameFile,
+    sheet: &Sheet,
     known: &Known<'_>,
 ) -> Result<List<MoveFrame>, Unread> {
     let mut frames = List::new(alloc);
-    for row in moves {
-        frames.push(move_of(alloc, row, names, known)?)?;
+    for (place, row) in file.flow.moves.as_slice().iter().enumerate() {
+        let ends_turn = ends_turn(sheet, MoveId::at(small(place)));
+        frames.push(move_of(alloc, row, &file.names, known, ends_turn)?)?;
     }
     Ok(frames)
 }
@@ -29,10 +31,12 @@ fn move_of(
     row: &MoveMember,
     names: &FileNames,
     known: &Known<'_>,
+    ends_turn: bool,
 ) -> Result<MoveFrame, Unread> {
     let mut frame = MoveFrame {
         arguments: List::new(alloc),
         lists: List::new(alloc),
+        ends_turn,
     };
     for (place, source) in row.args.as_slice().iter().enumerate() {
         add_text(alloc, &mut frame, source, place, names, known)?;
@@ -80,7 +84,7 @@ fn add_text(
     }
 }
 
-/// A place among at most eight.
+/// A place in a short list.
 fn small(place: usize) -> u8 {
     u8::try_from(place).unwrap_or(u8::MAX)
 }

@@ -94,6 +94,8 @@ pub struct MoveFrame {
     pub arguments: List<ArgumentFrame>,
     /// Those of its arguments whose number has to be an item of a list, in their order.
     pub lists: List<ListFrame>,
+    /// Whether the turn ends by itself after this move, as `ends_turn` says, so that an `endTurn` in its code would end a second one.
+    pub ends_turn: bool,
 }
 
 /// An argument of a move.
@@ -225,7 +227,11 @@ impl Drop for SlotFrame {
 
 impl Drop for MoveFrame {
     fn drop(self) {
-        let MoveFrame { arguments, lists } = self;
+        let MoveFrame {
+            arguments,
+            lists,
+            ends_turn: _,
+        } = self;
         drop(arguments);
         drop(lists);
     }

@@ -7,14 +7,14 @@
 //! 3. the slots of `common`, `players`, `secret` and `work`, each by the byte order of its names: its items, how many there are, and its start;
 //! 4. how long the text of a state may be;
 //! 5. `scores`;
-//! 6. the arguments of each move, text by text: of each its name, its range, and what is offered;
-//! 7. which specs of active players follow which;
-//! 8. the sheet: `base`, the turn, the phases, the stages, the specs, the events; of a turn its order, its limits and its spec;
+//! 6. which specs of active players follow which;
+//! 7. the sheet: `base`, the turn, the phases, the stages, the specs, the events; of a turn its order, its limits and its spec;
 //!    of a phase and a stage what follows it, its moves, and its turn; of a spec where seats are put, its limits, what follows it, and its seats;
-//! 9. the slots that orders and specs name;
+//! 8. the slots that orders and specs name;
+//! 9. the arguments of each move, text by text: of each its name, its range, and what is offered;
 //! 10. display hints.
 //!
-//! What `in LIST` names, and whether an `endTurn` stands in a move after which the turn ends by itself, is looked at with the code.
+//! What `in LIST` names, and whether an `endTurn` stands in a move after which the turn ends by itself, is looked at with the code: `MoveFrame` says of which moves that is.
 #![tactic(auto)]
 
 mod actives;

@@ -141,8 +141,8 @@ fn play_of(
     ensures seats { IfOk result (λ play. play.flow.sheet.max_seats ≡ file.now.head.seats.most) }
 {
     let scores = scores_of(alloc, &file.head.scores, slots.common.as_slice())?;
-    let moves = moves_of(alloc, file.flow.moves.as_slice(), &file.names, known)?;
     let flow = flow_of(alloc, file, slots.common.as_slice())?;
+    let moves = moves_of(alloc, file, &flow.sheet, known)?;
     let hinted = Hinted {
         alloc,
         slots,
