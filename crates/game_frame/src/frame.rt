@@ -1,5 +1,7 @@
 //! What a file says but for its code, for those who load the code and make the game.
 
+ghost use Rattle.std.specs.Prelude.{◌≡◌};
+
 use game_sheet::{List, Place, Sheet, Text};
 use game_slots::{Items, SlotRow, Slots};
 use game_syntax::{Id, Tree};
@@ -193,6 +195,22 @@ impl Drop for FrameNames {
         drop(constants);
         drop(rows);
         drop(slots);
+    }
+}
+
+impl FrameNames {
+    /// The items of the rows of constants alone.
+    pub fn into_rows(self) -> Slots
+        ensures { result ≡ self.rows }
+    {
+        let FrameNames {
+            constants,
+            rows,
+            slots,
+        } = self;
+        drop(constants);
+        drop(slots);
+        rows
     }
 }
 
