@@ -22,9 +22,15 @@ has_one_move turn = is_one turn.max_moves && is_none turn.active
 abbrev pub is_listed : List ℕ → ℕ → Bool
 is_listed moves id = list_any (λ listed. listed == id) moves
 
+abbrev pub has_first : List PhaseRow → Bool
+has_first phases = list_any (λ (row : PhaseRow). row.start) phases
+
+abbrev pub has_last : List PhaseRow → Bool
+has_last phases = list_any (λ (row : PhaseRow). is_none row.next) phases
+
 -- no phase is the first, or one has none behind it
 abbrev pub may_be_outside : List PhaseRow → Bool
-may_be_outside phases = not (list_any (λ (row : PhaseRow). row.start) phases) || list_any (λ (row : PhaseRow). is_none row.next) phases
+may_be_outside phases = not (has_first phases) || has_last phases
 
 abbrev pub ends_outside : Sheet → ℕ → Bool
 ends_outside sheet id = has_one_move sheet.turn && is_listed sheet.base id && may_be_outside sheet.phases

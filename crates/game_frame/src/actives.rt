@@ -154,11 +154,13 @@ impl Spec<'_> {
 
     fn seat(&self, member: &SeatMember) -> Result<(Seat, Place), Unread> {
         if member.seat >= self.around.min_seats {
-            return Err(self.at("value").fault(
-                self.around.alloc,
-                FaultName::BadSeats,
-                "a seat is below the least number of seats",
-            ));
+            return Err(
+                self.at("value").fault(
+                    self.around.alloc,
+                    FaultName::BadSeats,
+                    "a seat is below the least number of seats",
+                ),
+            );
         }
         let place = self.place_or_none(&member.place)?;
         Ok((member.seat, place))

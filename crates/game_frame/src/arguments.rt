@@ -69,13 +69,15 @@ fn add_text(
         }
         Ok(Some(list)) => {
             let past = frame.arguments.len();
-            Ok(frame.lists.push(ListFrame {
-                first: small(first),
-                past: small(past),
-                text: small(place),
-                tree,
-                list,
-            })?)
+            Ok(
+                frame.lists.push(ListFrame {
+                    first: small(first),
+                    past: small(past),
+                    text: small(place),
+                    tree,
+                    list,
+                })?,
+            )
         }
         Err(unread) => {
             drop(tree);
@@ -181,11 +183,7 @@ impl Arguments<'_> {
         }
     }
 
-    fn argument_of(
-        &self,
-        written: Written,
-        offers: Option<Many>,
-    ) -> Result<ArgumentFrame, Unread> {
+    fn argument_of(&self, written: Written, offers: Option<Many>) -> Result<ArgumentFrame, Unread> {
         let name = Text::from_str(self.alloc, self.letters(written.name))?;
         let offered = self.offered(written.kind, offers)?;
         Ok(ArgumentFrame {
@@ -265,15 +263,14 @@ impl Arguments<'_> {
     /// A value that is offered.
     fn offer(&self, kind: ArgumentKind, id: Id) -> Result<Value, Misfit> {
         let text = self.text();
-        let value = text.literal(id)?;
-        if value_fits(&offer_row(kind, self.known.most_seats), &value) {
-            Ok(value)
-        } else {
-            Err(Misfit::new(
+        match text.literal(id) {
+            Ok(value) if value_fits(&offer_row(kind, self.known.most_seats), &value) => Ok(value),
+            Ok(_) => Err(Misfit::new(
                 FaultName::StartOutsideRange,
                 text.at(id),
                 "what is offered is one of the argument's range",
-            ))
+            )),
+            Err(misfit) => Err(misfit),
         }
     }
 }
@@ -323,15 +320,21 @@ fn product_with(
 /// The product of two sizes, if it has 32 bits.
 fn sizes_product(one: i64, other: i64) -> Option<i64> {
     let product = one.checked_mul(other)?;
-    if product <= i64::from(i32::MAX) { Some(product) } else { None }
+    if product <= i64::from(i32::MAX) {
+        Some(product)
+    } else {
+        None
+    }
 }
 
 /// How many values an argument of a list has.
 fn size(kind: ArgumentKind, most_seats: u8, at: usize) -> Result<i64, Misfit> {
     match kind {
-        ArgumentKind::Number { least, greatest } => Ok(i64::from(greatest)
-            .saturating_sub(i64::from(least))
-            .saturating_add(1)),
+        ArgumentKind::Number { least, greatest } => Ok(
+            i64::from(greatest)
+                .saturating_sub(i64::from(least))
+                .saturating_add(1),
+        ),
         ArgumentKind::Seat => Ok(i64::from(most_seats)),
         ArgumentKind::Text => Err(Misfit::new(
             FaultName::Syntax,

@@ -28,11 +28,7 @@ fn with_moves(sheet: Sheet, rows: List<MoveRow>) -> Sheet
     sheet
 }
 
-fn guessed_rows(
-    alloc: Global,
-    moves: &[MoveRow],
-    flags: &[bool],
-) -> Result<List<MoveRow>, NoMemory>
+fn guessed_rows(alloc: Global, moves: &[MoveRow], flags: &[bool]) -> Result<List<MoveRow>, NoMemory>
     ensures { IfOk result (λ rows. move_names rows ≡ move_names moves.now) }
 {
     let mut rows = List::new(alloc);

@@ -22,7 +22,11 @@ pub(crate) fn constants_of(
     Ok(constants)
 }
 
-fn constant_of(alloc: Global, member: &ConstantMember, row: u16) -> Result<ConstantFrame, NoMemory> {
+fn constant_of(
+    alloc: Global,
+    member: &ConstantMember,
+    row: u16,
+) -> Result<ConstantFrame, NoMemory> {
     let name = member.name.copy(alloc)?;
     Ok(ConstantFrame {
         name,

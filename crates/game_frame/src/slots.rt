@@ -84,11 +84,7 @@ fn type_in(
 }
 
 /// The names and rows of a state. The text of a state has at most 8,192 bytes.
-pub(crate) fn layout_of(
-    alloc: Global,
-    slots: &FrameSlots,
-    most_seats: u8,
-) -> Result<Layout, Unread>
+pub(crate) fn layout_of(alloc: Global, slots: &FrameSlots, most_seats: u8) -> Result<Layout, Unread>
     ensures fits { IfOk result LayoutFits }
     ensures same_rows { IfOk result (IsLayoutOf slots.now) }
     ensures seats { IfOk result (λ layout. layout.rows.most_seats ≡ most_seats) }
@@ -125,11 +121,7 @@ fn layout_fault(alloc: Global, layout: &Layout) -> Option<Unread>
     None
 }
 
-fn layout_made(
-    alloc: Global,
-    slots: &FrameSlots,
-    most_seats: u8,
-) -> Result<Layout, NoMemory>
+fn layout_made(alloc: Global, slots: &FrameSlots, most_seats: u8) -> Result<Layout, NoMemory>
     ensures same_rows { IfOk result (IsLayoutOf slots.now) }
     ensures seats { IfOk result (λ layout. layout.rows.most_seats ≡ most_seats) }
 {

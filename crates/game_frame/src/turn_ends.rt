@@ -1,7 +1,7 @@
 //! Moves after which a turn ends by itself.
 
 ghost use Rattle.std.specs.Prelude.{◌≡◌};
-ghost use Rattle.game_frame.specs.EndsTurn.{counts, ends_in_phase, ends_outside, ends_turn, has_one_move, is_listed, is_one, may_be_outside, moves_in, turn_in};
+ghost use Rattle.game_frame.specs.EndsTurn.{counts, ends_in_phase, ends_outside, ends_turn, has_first, has_last, has_one_move, is_listed, is_one, may_be_outside, moves_in, turn_in};
 
 use game_sheet::{List, MoveId, PhaseRow, Sheet, TurnRow};
 
@@ -60,18 +60,29 @@ fn ends_outside(sheet: &Sheet, id: MoveId) -> bool
 fn may_be_outside(phases: &[PhaseRow]) -> bool
     ensures { result ≡ may_be_outside phases.now }
 {
-    !phases.iter().any(|row| row.start) || phases.iter().any(|row| row.next.is_none())
+    !has_first(phases) || has_last(phases)
+}
+
+/// Whether a match begins in a phase.
+fn has_first(phases: &[PhaseRow]) -> bool
+    ensures { result ≡ has_first phases.now }
+{
+    phases.iter().any(|row| row.start)
+}
+
+/// Whether a phase has none behind it.
+fn has_last(phases: &[PhaseRow]) -> bool
+    ensures { result ≡ has_last phases.now }
+{
+    phases.iter().any(|row| row.next.is_none())
 }
 
 /// Whether the turn of a phase ends after this move.
 fn ends_in_phase(sheet: &Sheet, id: MoveId) -> bool
     ensures { result ≡ ends_in_phase sheet.now id }
 {
-    sheet
-        .phases
-        .as_slice()
-        .iter()
-        .any(|row| has_one_move(turn_in(sheet, row)) && is_listed(moves_in(sheet, row), id))
+    sheet.phases.as_slice().iter().any(|row| has_one_move(turn_in(sheet, row))
+        && is_listed(moves_in(sheet, row), id))
 }
 
 /// The turn in a phase.

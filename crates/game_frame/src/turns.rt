@@ -217,10 +217,14 @@ fn turn_at<'a>(turn: &'a TurnMember, member: &'a str) -> At<'a> {
 
 /// The limits of a turn or a spec at a path.
 pub(crate) fn bounds_of(alloc: Global, limits: Limits, path: &str) -> Result<Bounds, Unread> {
-    let least = at_least_zero(alloc, limits.min_moves, &At {
-        path,
-        member: "minMoves",
-    })?;
+    let least = at_least_zero(
+        alloc,
+        limits.min_moves,
+        &At {
+            path,
+            member: "minMoves",
+        },
+    )?;
     let at = At {
         path,
         member: "maxMoves",

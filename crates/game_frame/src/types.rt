@@ -50,7 +50,7 @@ struct Extent {
     lone: bool,
 }
 
-impl TypeText<'_> {
+impl<'a> TypeText<'a> {
     /// What a slot is, by its node `Shape::Slot`. The start of each item is one that the slot may hold, and so are its items at the beginning.
     pub fn slot(&self, id: Id) -> Result<SlotType, Misfit>
         ensures { IfOk result (λ slot. is_sound self.now.known.most_seats slot.row ≡ true) }
@@ -68,12 +68,31 @@ impl TypeText<'_> {
         let item_id = self.item_of(of)?;
         let item = self.item(item_id)?;
         let extent = self.extent(of)?;
-        let value = self.start(item, start)?;
-        let row = sound(slot_row(item, extent, value), self.known.most_seats, self.place(start, at))?;
-        Ok(SlotType {
-            row,
-            columns: extent.columns,
-        })
+        match self.start(item, start) {
+            Ok(value) => self.slot_with(
+                extent,
+                slot_row(item, extent, value),
+                self.place(start, at),
+            ),
+            Err(misfit) => Err(misfit),
+        }
+    }
+
+    /// The slot of a row, if it may hold what it begins with.
+    fn slot_with(&self, extent: Extent, row: SlotRow, at: usize) -> Result<SlotType, Misfit>
+        ensures { IfOk result (λ slot. is_sound self.now.known.most_seats slot.row ≡ true) }
+    {
+        if is_sound(&row, self.known.most_seats) {
+            return Ok(SlotType {
+                row,
+                columns: extent.columns,
+            });
+        }
+        Err(Misfit::new(
+            FaultName::StartOutsideRange,
+            at,
+            "a start is a value that the slot may hold",
+        ))
     }
 
     /// The byte where a start stands, or the slot where there is none.
@@ -100,11 +119,9 @@ impl TypeText<'_> {
     }
 
     /// The bytes of a name or a text.
-    pub(crate) fn said(&self, span: Span) -> &[u8] {
-        self.text
-            .as_bytes()
-            .get(span.from..span.past)
-            .unwrap_or(&[])
+    pub(crate) fn said(&self, span: Span) -> &'a [u8] {
+        let bytes = self.text.as_bytes();
+        bytes.get(span.from..span.past).unwrap_or(&[])
     }
 
     /// What the items of a type are, as a node.
@@ -189,7 +206,11 @@ impl TypeText<'_> {
                 return number_in(&row.value, name.from);
             }
         }
-        Err(Misfit::new(FaultName::UnknownName, name.from, "no constant has this name"))
+        Err(Misfit::new(
+            FaultName::UnknownName,
+            name.from,
+            "no constant has this name",
+        ))
     }
 
     fn extent(&self, of: Id) -> Result<Extent, Misfit> {
@@ -324,7 +345,11 @@ fn items(rows: u16, columns: u16, at: usize) -> Result<u16, Misfit> {
 /// The last number of a range, if it has numbers.
 fn greatest(least: i32, end: i32, last: bool) -> Option<i32> {
     let greatest = if last { end } else { end.checked_sub(1)? };
-    if least <= greatest { Some(greatest) } else { None }
+    if least <= greatest {
+        Some(greatest)
+    } else {
+        None
+    }
 }
 
 fn negated(number: i32, at: usize) -> Result<i32, Misfit> {
@@ -396,20 +421,7 @@ fn slot_row(item: ItemType, extent: Extent, start: Value) -> SlotRow {
     }
 }
 
-/// The row, if a slot may hold its start, and no more items at the beginning than later.
-fn sound(row: SlotRow, most_seats: u8, at: usize) -> Result<SlotRow, Misfit>
-    ensures { IfOk result (λ row. is_sound most_seats row ≡ true) }
-{
-    if is_sound(&row, most_seats) {
-        return Ok(row);
-    }
-    Err(Misfit::new(
-        FaultName::StartOutsideRange,
-        at,
-        "a start is a value that the slot may hold",
-    ))
-}
-
+/// Whether a slot may hold its start, and begins with no more items than it may have.
 fn is_sound(row: &SlotRow, most_seats: u8) -> bool
     ensures { result ≡ is_sound most_seats row.now }
 {
@@ -422,8 +434,6 @@ fn begins_within(row: &SlotRow, most_seats: u8) -> bool
 {
     match row.begin {
         Count::Fixed(count) => count <= row.most,
-        Count::PerSeat(count) => {
-            u32::from(count) * u32::from(most_seats) <= u32::from(row.most)
-        }
+        Count::PerSeat(count) => { u32::from(count) * u32::from(most_seats) <= u32::from(row.most) }
     }
 }
