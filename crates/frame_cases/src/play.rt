@@ -49,7 +49,13 @@ fn print_listed(rt: &HostRuntime, moves: &Option<List<MoveId>>) -> io::Result<()
 }
 
 fn print_moves(rt: &HostRuntime, frame: &Frame) -> io::Result<()> {
-    for (row, given) in frame.sheet.moves.as_slice().iter().zip(frame.moves.as_slice()) {
+    for (row, given) in frame
+        .sheet
+        .moves
+        .as_slice()
+        .iter()
+        .zip(frame.moves.as_slice())
+    {
         print_move(rt, row, given.ends_turn)?;
         print_given(rt, given)?;
     }
@@ -98,12 +104,7 @@ fn print_argument(rt: &HostRuntime, argument: &ArgumentFrame) -> io::Result<()> 
     }
 }
 
-fn print_turn(
-    rt: &HostRuntime,
-    before: &str,
-    turn: &TurnRow,
-    slot: Option<u8>,
-) -> io::Result<()> {
+fn print_turn(rt: &HostRuntime, before: &str, turn: &TurnRow, slot: Option<u8>) -> io::Result<()> {
     let least = turn.min_moves;
     print!(rt; "{before}: from {least} moves")?;
     if let Some(most) = turn.max_moves {
@@ -181,7 +182,13 @@ fn print_stage(rt: &HostRuntime, row: &StageRow) -> io::Result<()> {
 }
 
 fn print_specs(rt: &HostRuntime, frame: &Frame) -> io::Result<()> {
-    for (row, named) in frame.sheet.specs.as_slice().iter().zip(frame.specs.as_slice()) {
+    for (row, named) in frame
+        .sheet
+        .specs
+        .as_slice()
+        .iter()
+        .zip(frame.specs.as_slice())
+    {
         print_spec(rt, row, named)?;
     }
     Ok(())
