@@ -1,0 +1,2 @@
+pub mod EndsTurn
+pub mod FrameFits
