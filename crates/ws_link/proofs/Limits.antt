@@ -1,5 +1,5 @@
 -- Whatever is read, a connection keeps its limits.
-use Rattle.std.proofs.Common.{◌≡◌, ◌≤◌, ℕ, zero, suc, List, [], ◌∷◌, ◌++◌, Bool, true, false, arith, cond, not, Option, None, Some, Ok, Err, Result, drop, refl, subst, sym, length, nat_lt}
+use Rattle.std.proofs.Common.{◌≡◌, ℕ, List, [], ◌∷◌, ◌++◌, Bool, true, false, cond, not, Option, None, Some, Ok, Err, Result, refl, subst, sym, length, nat_lt}
 use Rattle.board_links.specs.declared.link.Came.{Came}
 use Rattle.board_links.specs.declared.link.Came.TheVariants as came
 use Rattle.tungstenite.specs.Connection.{Connection, Effect, can_write, check_header, check_so_far, complete_message, decode_close, deliver, has_allowed_code, on_close, on_control, on_data, on_data_after, on_frame, on_message_bytes, on_opcode, on_short_control, read_step}
@@ -24,11 +24,6 @@ use Rattle.ws_link.specs.Frames.{Hears, IsLimited, line_limit}
 use Rattle.ws_link.specs.Peers.{StaysLimited, TakesLines}
 use Rattle.ws_link.specs.declared.ws_link.Peer.{Peer}
 use Rattle.ws_link.specs.declared.ws_link.Peer.TheVariants as peer
-
-pub drop_within : (n most : ℕ) (xs : List ℕ) → length xs ≤ most → length (drop n xs) ≤ most
-drop_within zero most xs h = h
-drop_within (suc n) most [] h = h
-drop_within (suc n) most (x ∷ xs) h = drop_within n most xs (omega (arith, h))
 
 abbrev Stays : Result Effect Error → Type 0
 Stays (Ok effect) = IsLimited effect.next
