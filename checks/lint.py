@@ -30,6 +30,7 @@ LINTS = {
     "descriptions of games": documents.descriptions,
     "errors of descriptions": documents.errors_of_descriptions,
     "names of crates": documents.names_of_crates,
+    "the page's client": documents.same_client,
     "versions": documents.versions,
     "files of the page": documents.files_of_the_page,
 }

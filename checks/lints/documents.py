@@ -229,3 +229,10 @@ def files_of_the_page():
         yield name, texts.line_at(text, place), f"page/{file} is missing in the list, so no server hands it out"
     for file in sorted(listed - there):
         yield name, texts.line_at(text, place), f"there is no page/{file}, so no server with the page would start"
+
+
+def same_client():
+    """The page's client, page/sarpuntxe.js, is that of clients/js, byte for byte: a page is served from one folder."""
+    one, other = texts.TOP / "clients/js/sarpuntxe.mjs", texts.TOP / "page/sarpuntxe.js"
+    if other.is_symlink() or one.read_bytes() != other.read_bytes():
+        yield texts.shown(other), 1, "it isn't a copy of clients/js/sarpuntxe.mjs"
