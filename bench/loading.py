@@ -13,6 +13,7 @@ import json
 import os
 import re
 import shutil
+import signal
 import subprocess
 import sys
 import tempfile
@@ -185,6 +186,8 @@ def main(program, *words):
             times = int(words.pop(0))
         else:
             trips.append(int(word))
+    # Whoever stops it stops the server and the browser, too.
+    signal.signal(signal.SIGTERM, lambda *_: sys.exit(143))
     process, port = start(program)
     browser = Browser()
     try:
