@@ -46,16 +46,14 @@ fn spec_row(
         stages,
         spec,
     };
-    let current = reading.place(&spec.who.current, "currentPlayer")?;
-    let others = reading.place(&spec.who.others, "others")?;
-    let all = reading.place(&spec.who.all, "all")?;
+    let who = reading.who()?;
     let bounds = bounds_of(around.alloc, spec.limits, spec.title.path.as_str())?;
     let next = reading.next()?;
     let value = reading.value()?;
     Ok(SpecRow {
-        current,
-        others,
-        all,
+        current: who.current,
+        others: who.others,
+        all: who.all,
         value,
         min_moves: bounds.least,
         max_moves: bounds.most,
@@ -91,6 +89,14 @@ fn spec_frame(
     Ok(SpecFrame { name, seats })
 }
 
+/// Where seats are put that aren't named.
+#[derive(Clone, Copy)]
+struct Who {
+    current: Option<Place>,
+    others: Option<Place>,
+    all: Option<Place>,
+}
+
 /// One spec, and what it names.
 #[derive(Clone, Copy)]
 struct Spec<'a> {
@@ -106,6 +112,17 @@ impl Spec<'_> {
             path: self.spec.title.path.as_str(),
             member,
         }
+    }
+
+    fn who(&self) -> Result<Who, Unread> {
+        let current = self.place(&self.spec.who.current, "currentPlayer")?;
+        let others = self.place(&self.spec.who.others, "others")?;
+        let all = self.place(&self.spec.who.all, "all")?;
+        Ok(Who {
+            current,
+            others,
+            all,
+        })
     }
 
     fn place(&self, place: &PlaceMember, member: &str) -> Result<Option<Place>, Unread> {

@@ -7,7 +7,7 @@ use crate::types::{Known, TypeText, item_kind};
 use game_file::{FileNames, GameFile, MoveMember, Source, Unread, is_taken};
 use game_sheet::{Args, List, MoveId, Sheet, Text};
 use game_slots::{Count, Items, SlotRow, value_fits};
-use game_syntax::{FaultName, Form, Id, Many, Shape, Span, Tree};
+use game_syntax::{FaultName, Form, Id, Many, Node, Shape, Span, Tree};
 use slot_values::Value;
 use std::alloc::Global;
 
@@ -67,23 +67,32 @@ fn add_text(
             drop(tree);
             Ok(())
         }
-        Ok(Some(list)) => {
-            let past = frame.arguments.len();
-            Ok(
-                frame.lists.push(ListFrame {
-                    first: small(first),
-                    past: small(past),
-                    text: small(place),
-                    tree,
-                    list,
-                })?,
-            )
-        }
+        Ok(Some(list)) => add_list(frame, tree, list, first, place),
         Err(unread) => {
             drop(tree);
             Err(unread)
         }
     }
+}
+
+/// Adds that the arguments from a place on are in a list.
+fn add_list(
+    frame: &mut MoveFrame,
+    tree: Tree,
+    list: Id,
+    first: usize,
+    place: usize,
+) -> Result<(), Unread> {
+    let past = frame.arguments.len();
+    Ok(
+        frame.lists.push(ListFrame {
+            first: small(first),
+            past: small(past),
+            text: small(place),
+            tree,
+            list,
+        })?,
+    )
 }
 
 /// A place in a short list.
@@ -123,23 +132,24 @@ impl Arguments<'_> {
 
     /// Adds the arguments of the text; where they are in a list, the list's node is given.
     fn add_all(&self, arguments: &mut List<ArgumentFrame>) -> Result<Option<Id>, Unread> {
-        let root = self.tree.root;
-        match self.text().node(root) {
-            Ok(node) => match node.shape {
-                Shape::Offer(argument, offers) => {
-                    self.add(arguments, argument, Some(offers))?;
-                    Ok(None)
-                }
-                Shape::InList(all, list) => {
-                    self.add_listed(arguments, all, node.at)?;
-                    Ok(Some(list))
-                }
-                _ => {
-                    self.add(arguments, root, None)?;
-                    Ok(None)
-                }
-            },
+        match self.text().node(self.tree.root) {
+            Ok(node) => self.add_node(arguments, node),
             Err(misfit) => Err(self.told(misfit)),
+        }
+    }
+
+    fn add_node(
+        &self,
+        arguments: &mut List<ArgumentFrame>,
+        node: Node,
+    ) -> Result<Option<Id>, Unread> {
+        match node.shape {
+            Shape::Offer(argument, offers) => unlisted(self.add(arguments, argument, Some(offers))),
+            Shape::InList(all, list) => match self.add_listed(arguments, all, node.at) {
+                Ok(()) => Ok(Some(list)),
+                Err(unread) => Err(unread),
+            },
+            _ => unlisted(self.add(arguments, self.tree.root, None)),
         }
     }
 
@@ -195,15 +205,19 @@ impl Arguments<'_> {
 
     /// The name and the range of an argument behind earlier ones.
     fn written(&self, earlier: &[ArgumentFrame], id: Id) -> Result<Written, Misfit> {
-        let text = self.text();
-        let node = text.node(id)?;
-        match node.shape {
-            Shape::Argument(name, range) => {
-                self.check_name(earlier, name)?;
-                let kind = text.range(range)?;
-                Ok(Written { name, kind })
-            }
-            _ => Err(Misfit::shape(node.at)),
+        let (name, range) = self.name_and_range(id)?;
+        self.check_name(earlier, name)?;
+        let kind = self.text().range(range)?;
+        Ok(Written { name, kind })
+    }
+
+    fn name_and_range(&self, id: Id) -> Result<(Span, Id), Misfit> {
+        match self.tree.node(id) {
+            Some(node) => match node.shape {
+                Shape::Argument(name, range) => Ok((name, range)),
+                _ => Err(Misfit::shape(node.at)),
+            },
+            None => Err(Misfit::shape(0)),
         }
     }
 
@@ -272,6 +286,14 @@ impl Arguments<'_> {
             )),
             Err(misfit) => Err(misfit),
         }
+    }
+}
+
+/// What came of an argument that is in no list.
+fn unlisted(added: Result<(), Unread>) -> Result<Option<Id>, Unread> {
+    match added {
+        Ok(()) => Ok(None),
+        Err(unread) => Err(unread),
     }
 }
 

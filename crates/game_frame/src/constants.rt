@@ -16,10 +16,20 @@ pub(crate) fn constants_of(
     let mut constants = List::new(alloc);
     let mut row = 0;
     for member in members {
-        constants.push(constant_of(alloc, member, row)?)?;
-        row = row_after(alloc, &member.value, row)?;
+        row = add_constant(alloc, &mut constants, member, row)?;
     }
     Ok(constants)
+}
+
+/// Adds a constant, and gives the place of the row after it.
+fn add_constant(
+    alloc: Global,
+    constants: &mut List<ConstantFrame>,
+    member: &ConstantMember,
+    row: u16,
+) -> Result<u16, Unread> {
+    constants.push(constant_of(alloc, member, row)?)?;
+    row_after(alloc, &member.value, row)
 }
 
 fn constant_of(

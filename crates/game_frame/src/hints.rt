@@ -18,13 +18,33 @@ pub(crate) struct Hinted<'a> {
     pub(crate) moves: &'a [MoveFrame],
 }
 
-static SHAPES: [&str; 7] = [
-    "grid", "hand", "pile", "row", "counter", "counters", "hidden",
-];
+/// The words that a member of a hint may have.
+#[derive(Clone, Copy)]
+struct Words {
+    member: &'static str,
+    known: &'static [&'static str],
+    wanted: &'static str,
+}
 
-static ITEMS: [&str; 3] = ["cards", "cards13", "dice"];
+static SHAPE: Words = Words {
+    member: "as",
+    known: &[
+        "grid", "hand", "pile", "row", "counter", "counters", "hidden",
+    ],
+    wanted: "grid, hand, pile, row, counter, counters or hidden is wanted",
+};
 
-static OWNERS: [&str; 1] = ["seat"];
+static ITEMS: Words = Words {
+    member: "items",
+    known: &["cards", "cards13", "dice"],
+    wanted: "a list of texts, cards, cards13 or dice is wanted",
+};
+
+static OWNER: Words = Words {
+    member: "of",
+    known: &["seat"],
+    wanted: "seat is wanted, for a list with an item for each seat",
+};
 
 /// What a click on one place gives.
 static GIVEN: [&str; 4] = ["place", "row", "column", "item"];
@@ -40,10 +60,14 @@ impl Hinted<'_> {
 
     fn check_hint(&self, hint: &HintMember) -> Result<(), Unread> {
         self.check_slot(hint)?;
-        self.check_word(hint, "as", &hint.words.shape, &SHAPES)?;
-        self.check_word(hint, "items", &hint.words.items, &ITEMS)?;
-        self.check_word(hint, "of", &hint.words.of, &OWNERS)?;
+        self.check_words(hint)?;
         self.check_click(hint)
+    }
+
+    fn check_words(&self, hint: &HintMember) -> Result<(), Unread> {
+        self.check_word(hint, &hint.words.shape, &SHAPE)?;
+        self.check_word(hint, &hint.words.items, &ITEMS)?;
+        self.check_word(hint, &hint.words.of, &OWNER)
     }
 
     fn check_slot(&self, hint: &HintMember) -> Result<(), Unread> {
@@ -64,19 +88,18 @@ impl Hinted<'_> {
         }
     }
 
-    /// Refuses a word that isn't among those that are known.
+    /// Refuses a word that isn't among those that a member may have.
     fn check_word(
         &self,
         hint: &HintMember,
-        member: &str,
         word: &Option<Text>,
-        known: &[&str],
+        may_have: &Words,
     ) -> Result<(), Unread> {
         match word {
-            Some(word) if !is_among(known, word.as_str()) => Err(self.bad(
+            Some(word) if !is_among(may_have.known, word.as_str()) => Err(self.bad(
                 hint,
-                member,
-                "this word is not known: see the page on hints",
+                may_have.member,
+                may_have.wanted,
             )),
             _ => Ok(()),
         }

@@ -20,10 +20,22 @@ use std::alloc::Global;
 struct Play {
     base: List<MoveId>,
     turn: TurnRow,
+    tables: Tables,
+    events: List<EventKind>,
+}
+
+/// The tables of a sheet beside that of moves.
+struct Tables {
     phases: List<PhaseRow>,
     stages: List<StageRow>,
     specs: List<SpecRow>,
-    events: List<EventKind>,
+}
+
+/// The moves of a sheet, its name, and how many seats there are.
+struct Head {
+    name: Text,
+    moves: List<MoveRow>,
+    seats: Seats,
 }
 
 impl Drop for Play {
@@ -31,33 +43,65 @@ impl Drop for Play {
         let Play {
             base,
             turn,
-            phases,
-            stages,
-            specs,
+            tables,
             events,
         } = self;
         drop(base);
         drop(turn);
-        drop(phases);
-        drop(stages);
-        drop(specs);
+        drop(tables);
         drop(events);
     }
 }
 
+impl Drop for Tables {
+    fn drop(self) {
+        let Tables {
+            phases,
+            stages,
+            specs,
+        } = self;
+        drop(phases);
+        drop(stages);
+        drop(specs);
+    }
+}
+
+impl Drop for Head {
+    fn drop(self) {
+        let Head {
+            name,
+            moves,
+            seats: _,
+        } = self;
+        drop(name);
+        drop(moves);
+    }
+}
+
 impl Play {
-    /// The sheet with a name, moves and seats.
-    fn sheet(self, name: Text, moves: List<MoveRow>, seats: Seats) -> Sheet
-        ensures { result.max_seats ≡ seats.most }
+    fn sheet(self, head: Head) -> Sheet
+        ensures { result.max_seats ≡ head.seats.most }
     {
         let Play {
             base,
             turn,
+            tables,
+            events,
+        } = self;
+        tables.sheet(head, base, turn, events)
+    }
+}
+
+impl Tables {
+    fn sheet(self, head: Head, base: List<MoveId>, turn: TurnRow, events: List<EventKind>) -> Sheet
+        ensures { result.max_seats ≡ head.seats.most }
+    {
+        let Tables {
             phases,
             stages,
             specs,
-            events,
         } = self;
+        let (name, moves, seats) = head.parts();
         Sheet {
             name,
             min_seats: seats.least,
@@ -70,6 +114,15 @@ impl Play {
             specs,
             events,
         }
+    }
+}
+
+impl Head {
+    fn parts(self) -> (Text, List<MoveRow>, Seats)
+        ensures { result.2 ≡ self.seats }
+    {
+        let Head { name, moves, seats } = self;
+        (name, moves, seats)
     }
 }
 
@@ -115,8 +168,8 @@ fn rule_member(rule: u8) -> (&'static str, FaultName) {
 fn made(alloc: Global, file: &GameFile, play: Play) -> Result<Sheet, NoMemory>
     ensures { IfOk result (λ sheet. sheet.max_seats ≡ file.now.head.seats.most) }
 {
-    match name_and_moves(alloc, file) {
-        Ok((name, moves)) => Ok(play.sheet(name, moves, file.head.seats)),
+    match head_of(alloc, file) {
+        Ok(head) => Ok(play.sheet(head)),
         Err(NoMemory) => {
             drop(play);
             Err(NoMemory)
@@ -124,10 +177,16 @@ fn made(alloc: Global, file: &GameFile, play: Play) -> Result<Sheet, NoMemory>
     }
 }
 
-fn name_and_moves(alloc: Global, file: &GameFile) -> Result<(Text, List<MoveRow>), NoMemory> {
+fn head_of(alloc: Global, file: &GameFile) -> Result<Head, NoMemory>
+    ensures { IfOk result (λ head. head.seats ≡ file.now.head.seats) }
+{
     let moves = move_rows(alloc, file.flow.moves.as_slice())?;
     let name = file.head.game.copy(alloc)?;
-    Ok((name, moves))
+    Ok(Head {
+        name,
+        moves,
+        seats: file.head.seats,
+    })
 }
 
 fn move_rows(alloc: Global, members: &[MoveMember]) -> Result<List<MoveRow>, NoMemory> {
@@ -151,21 +210,26 @@ fn move_row(alloc: Global, member: &MoveMember) -> Result<MoveRow, NoMemory> {
 }
 
 fn play_of(around: &Around<'_>, file: &GameFile) -> Result<Play, Unread> {
-    let moves = file.flow.moves.as_slice();
-    let tables = &file.flow.tables;
     let base = base_of(around.alloc, &file.flow)?;
     let turn = around.turn(&file.flow.turn)?;
-    let phases = phase_rows(around, moves, tables.phases.as_slice())?;
-    let stages = stage_rows(around, moves, tables.stages.as_slice())?;
-    let specs = spec_rows(around, tables.stages.as_slice())?;
+    let tables = tables_of(around, &file.flow)?;
     let events = events_of(around.alloc, &file.end.events)?;
     Ok(Play {
         base,
         turn,
+        tables,
+        events,
+    })
+}
+
+fn tables_of(around: &Around<'_>, flow: &FileFlow) -> Result<Tables, Unread> {
+    let phases = phase_rows(around, flow)?;
+    let stages = stage_rows(around, flow)?;
+    let specs = spec_rows(around, flow.tables.stages.as_slice())?;
+    Ok(Tables {
         phases,
         stages,
         specs,
-        events,
     })
 }
 

@@ -97,6 +97,10 @@ impl Around<'_> {
         if numbers.is_empty() || numbers.len() > 64 {
             return Err(self.bad_order(at));
         }
+        self.each_seat(numbers, at)
+    }
+
+    fn each_seat(&self, numbers: &[i32], at: &At<'_>) -> Result<List<Seat>, Unread> {
         let mut seats = List::new(self.alloc);
         for number in numbers {
             seats.push(self.seat(*number, at)?)?;

@@ -30,7 +30,7 @@ pub fn frame_of(alloc: Global, file: &GameFile) -> Result<Frame, Unread>
     };
     let names = names_of(alloc, &file.names, &known)?;
     let layout = layout_of(alloc, &names.slots, file.head.seats.most)?;
-    let play = play_of(alloc, file, &names.slots, &known)?;
+    let play = hinted_play(alloc, file, &names.slots, &known)?;
     Ok(play.frame(names, layout))
 }
 
@@ -131,6 +131,41 @@ impl Flow {
     }
 }
 
+/// What a frame has beside names, with hints for what is there.
+fn hinted_play(
+    alloc: Global,
+    file: &GameFile,
+    slots: &FrameSlots,
+    known: &Known<'_>,
+) -> Result<Play, Unread>
+    ensures fits { IfOk result (λ play. SheetFits play.flow.sheet) }
+    ensures seats { IfOk result (λ play. play.flow.sheet.max_seats ≡ file.now.head.seats.most) }
+{
+    let play = play_of(alloc, file, slots, known)?;
+    match check_hints(alloc, file, slots, play.moves.as_slice()) {
+        Ok(()) => Ok(play),
+        Err(unread) => {
+            drop(play);
+            Err(unread)
+        }
+    }
+}
+
+fn check_hints(
+    alloc: Global,
+    file: &GameFile,
+    slots: &FrameSlots,
+    moves: &[MoveFrame],
+) -> Result<(), Unread> {
+    let hinted = Hinted {
+        alloc,
+        slots,
+        members: file.flow.moves.as_slice(),
+        moves,
+    };
+    hinted.check(file.hints.as_slice())
+}
+
 fn play_of(
     alloc: Global,
     file: &GameFile,
@@ -143,13 +178,6 @@ fn play_of(
     let scores = scores_of(alloc, &file.head.scores, slots.common.as_slice())?;
     let flow = flow_of(alloc, file, slots.common.as_slice())?;
     let moves = moves_of(alloc, file, &flow.sheet, known)?;
-    let hinted = Hinted {
-        alloc,
-        slots,
-        members: file.flow.moves.as_slice(),
-        moves: moves.as_slice(),
-    };
-    hinted.check(file.hints.as_slice())?;
     Ok(Play {
         scores,
         moves,
