@@ -65,7 +65,7 @@ def fetch(port, path):
 
 def tries(root, program, page, sarpuntxe):
     """Fetches the page, begins a match, starts the program anew, and plays the match to its end."""
-    rooms = "/var/tmp/rooms"
+    rooms = "/srv/rooms"
     os.makedirs(root + rooms)
     os.chown(root + rooms, 65534, 65534)
     server = Running(root, program, "--ws", "--page", page, "--keep", rooms, "--links", "64")
@@ -123,8 +123,8 @@ def in_root(root, *words):
 
 
 def tries_package(root, package, sarpuntxe):
-    shutil.copy(package, f"{root}/tmp/sarpuntxe.deb")
-    in_root(root, "dpkg", "--install", "/tmp/sarpuntxe.deb")
+    shutil.copy(package, f"{root}/srv/sarpuntxe.deb")
+    in_root(root, "dpkg", "--install", "/srv/sarpuntxe.deb")
     files = [name for name in in_root(root, "dpkg", "--listfiles", "sarpuntxe").splitlines() if not os.path.isdir(root + name)]
     assert not in_root(root, "dpkg", "--verify", "sarpuntxe"), "a file isn't as the package has it"
     count = tries(root, "/usr/lib/sarpuntxe/board_server", "/usr/share/sarpuntxe/page", sarpuntxe)
