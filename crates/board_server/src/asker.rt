@@ -120,25 +120,13 @@ impl Askers {
     /// Takes those who have come. Where there are more than may ask at once, the oldest is let go.
     fn take(&mut self) {
         for _ in 0..MOST {
-            let Ok((stream, _addr)) = self.listener.accept() else {
-                return;
-            };
-            if stream.set_nonblocking(true).is_err() {
-                return;
-            }
-            let Ok(begun) = Instant::now(&self.rt) else {
+            let Some(asker) = accepted(self.rt, &mut self.listener) else {
                 return;
             };
             if self.waiting.len() >= MOST {
                 drop(self.waiting.remove(0));
             }
-            self.keep(Asker {
-                rt: self.rt,
-                stream,
-                begun,
-                head: Vec::new(self.rt.alloc()),
-                patience: Duration::from_secs(PATIENCE),
-            });
+            self.keep(asker);
         }
     }
 
@@ -146,6 +134,20 @@ impl Askers {
     fn keep(&mut self, asker: Asker) {
         let _kept = self.waiting.push(asker);
     }
+}
+
+/// Somebody who has come to a listener that doesn't block, if anybody has.
+fn accepted(rt: HostRuntime, listener: &mut TcpListener) -> Option<Asker> {
+    let (stream, _addr) = listener.accept().ok()?;
+    stream.set_nonblocking(true).ok()?;
+    let begun = Instant::now(&rt).ok()?;
+    Some(Asker {
+        rt,
+        stream,
+        begun,
+        head: Vec::new(rt.alloc()),
+        patience: Duration::from_secs(PATIENCE),
+    })
 }
 
 /// What is answered at once.
