@@ -1,9 +1,10 @@
 //! The text of one value, appended to bytes.
 
-ghost use Rattle.std.specs.Prelude.{◌≡◌, ◌++◌, OnOk};
+ghost use Rattle.std.specs.Prelude.{◌≡◌, ◌++◌, OnOk, true};
 ghost use Rattle.serde_json.specs.Data.{boolean, null, string};
 ghost use Rattle.serde_json.specs.Written.{comma_if, compact_text};
 ghost use Rattle.json_text.specs.Numbers.{integer, natural, naturals};
+ghost use Rattle.json_text.specs.Unescaped.{is_plain, needs_no_escape};
 
 use itoa::Buffer;
 use json::Writer;
@@ -50,9 +51,41 @@ pub fn put_integer(out: &mut Vec<u8>, n: i64) -> Result<(), AllocError>
     out.extend_from_slice(buffer.format(n).as_bytes())
 }
 
-/// Appends a text, in quotation marks and with escapes.
-#[tactic(auto, unfolding(json::specs::Print::print_from))]
+/// Appends a text, in quotation marks and with escapes. One that needs none, as most do, is copied.
 pub fn put_string(alloc: Global, out: &mut Vec<u8>, text: &str) -> Result<(), AllocError>
+    ensures { OnOk result (out.new.items ≡ out.old.items ++ compact_text (string text.now)) }
+{
+    if needs_no_escape(text) {
+        put_plain(out, text)
+    } else {
+        put_escaped(alloc, out, text)
+    }
+}
+
+fn put_plain(out: &mut Vec<u8>, text: &str) -> Result<(), AllocError>
+    requires { needs_no_escape text.now ≡ true }
+    ensures { OnOk result (out.new.items ≡ out.old.items ++ compact_text (string text.now)) }
+{
+    out.push(b'"')?;
+    out.extend_from_slice(text.as_bytes())?;
+    out.push(b'"')?;
+    Ok(())
+}
+
+fn needs_no_escape(text: &str) -> bool
+    ensures { result ≡ needs_no_escape text.now }
+{
+    text.as_bytes().iter().all(|byte| is_plain(*byte))
+}
+
+fn is_plain(byte: u8) -> bool
+    ensures { result ≡ is_plain byte }
+{
+    byte >= 32 && byte != b'"' && byte != b'\\'
+}
+
+#[tactic(auto, unfolding(json::specs::Print::print_from))]
+fn put_escaped(alloc: Global, out: &mut Vec<u8>, text: &str) -> Result<(), AllocError>
     ensures { OnOk result (out.new.items ≡ out.old.items ++ compact_text (string text.now)) }
 {
     let mut writer = Writer::new(mem::replace(out, Vec::new(alloc)));

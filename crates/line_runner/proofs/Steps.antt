@@ -1,5 +1,5 @@
 -- What the lines of a script are from a byte on, and at the end.
-use Rattle.std.proofs.Common.{◌≡◌, ◌≢◌, ℕ, ◌+◌, List, [], ◌∷◌, ◌++◌, length, drop, false, eqb, inl, inr, refl, ap, ◌∙◌, arith}
+use Rattle.std.proofs.Common.{◌≡◌, ◌≢◌, ◌≤◌, ◌<◌, ℕ, zero, suc, ◌+◌, List, [], ◌∷◌, ◌++◌, length, take, drop, slice_index, false, eqb, inl, inr, refl, sym, ap, ◌∙◌, arith, append_assoc, append-nil, length-append}
 use Rattle.std.proofs.lemmas.Bool.{eq-eqb}
 use Rattle.std.proofs.lemmas.Bool.Decides.{eqb_tells}
 use Rattle.line_runner.specs.ScriptLines.{Script, Ended, TooLong, TooMany, no_lines, first_line, last_line, lines_from, without_return, most_bytes, most_lines}
@@ -53,6 +53,18 @@ module _ (last : List ℕ → Script) where
       → length begun ≢ most_bytes → lines_from last n begun (waiting ++ left) ≡ lines_from last n (begun ++ b ∷ []) (drop 1 waiting ++ left)
   after_byte n begun waiting left b shown ne other short =
       split n begun waiting left b shown ∙ byte n begun (drop 1 waiting ++ left) b ne other short
+
+  -- bytes that are no newline and fit become part of the line
+  pub after_run : (n : ℕ) (begun waiting left : List ℕ) (k : ℕ) → n ≢ most_lines → k ≤ length waiting → ((place : ℕ) → place < k → slice_index waiting place ≢ 10)
+      → length begun + k ≤ most_bytes → lines_from last n begun (waiting ++ left) ≡ lines_from last n (begun ++ take k waiting) (drop k waiting ++ left)
+  after_run n begun waiting left zero ne inside plain fits = ap (λ l. lines_from last n l (waiting ++ left)) (sym (append-nil begun))
+  after_run n begun [] left (suc k) ne inside plain fits = absurd (omega arith)
+  after_run n begun (b ∷ waiting) left (suc k) ne inside plain fits =
+      let short : length begun ≢ most_bytes = λ e. omega (arith, fits, e) in
+      let longer : length (begun ++ b ∷ []) + k ≤ most_bytes = rw (length-append begun (b ∷ [])) (omega (arith, fits)) in
+      byte n begun (waiting ++ left) b ne (plain 0 (omega arith)) short
+      ∙ after_run n (begun ++ b ∷ []) waiting left k ne (omega arith) (λ place low. plain (suc place) (omega arith)) longer
+      ∙ ap (λ l. lines_from last n l (drop k waiting ++ left)) (append_assoc begun (b ∷ []) (take k waiting))
 
 -- with nothing left and nothing begun, no line comes
 pub at_end : (n : ℕ) (begun waiting : List ℕ) → waiting ≡ [] → length begun ≡ 0 → lines_from last_line n begun (waiting ++ []) ≡ no_lines Ended

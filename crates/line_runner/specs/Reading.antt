@@ -107,7 +107,7 @@ pub record Moves (answer : Option Next) (line : List ℕ) (old new : Reader) (be
   pub at_end : new.ended ≡ true → old.ended ≡ false → after ≡ []
   pub whole : new.ended ≡ false → (more : List ℕ) → Steps answer line (whole_to_come old (read ++ more)) (whole_to_come new more)
 
--- with no answer yet, the line that has begun has one byte more
+-- with no answer yet, the line that has begun has more bytes
 abbrev pub Grows : Option Next → List ℕ → List ℕ → Type 0
-Grows None old new = (length new ≡ length old + 1) × (length new ≤ 65536)
+Grows None old new = (length old < length new) × (length new ≤ 65536)
 Grows (Some answer) old new = Unit {0}

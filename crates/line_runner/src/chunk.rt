@@ -1,10 +1,11 @@
 //! Bytes that were read from a source and aren't used yet.
 
-ghost use Rattle.std.specs.Prelude.{◌≡◌, ◌≤◌, ◌<◌, [], length, drop, slice_get, IsSome};
+ghost use Rattle.std.specs.Prelude.{◌≡◌, ◌≢◌, ◌≤◌, ◌<◌, ℕ, [], length, take, drop, slice_get, slice_index, IsSome};
 ghost use Rattle.board_links.specs.Pieces.{told_bytes, ReadRaises};
 
 use crate::next::Peeked;
 use board_links::{Piece, Source};
+use memchr::memchr;
 use std::marker::Model;
 
 /// The bytes of one read that aren't used yet. Contracts see them as a list.
@@ -70,12 +71,46 @@ impl Chunk {
         }
     }
 
+    /// How many bytes come before a newline or the end of what waits.
+    pub fn run(&self) -> usize
+        ensures inside { result ≤ length self.now }
+        ensures plain { (place : ℕ) → place < result → slice_index self.now place ≢ 10 }
+    {
+        let waiting = self.waiting();
+        match memchr(b'\n', waiting) {
+            Some(place) => place,
+            None => waiting.len(),
+        }
+    }
+
+    /// The first so many bytes.
+    pub fn front(&self, count: usize) -> &[u8]
+        requires { count ≤ length self.now }
+        ensures { result.now ≡ take count self.now }
+    {
+        &self.waiting()[..count]
+    }
+
+    /// Uses the first so many bytes.
+    pub fn skip(&mut self, count: usize)
+        requires { count ≤ length self.old }
+        ensures { self.new ≡ drop count self.old }
+    {
+        self.at += count;
+    }
+
     /// Uses the first byte.
     pub fn advance(&mut self)
         requires { 0 < length self.old }
         ensures { self.new ≡ drop 1 self.old }
     {
         self.at += 1;
+    }
+
+    fn waiting(&self) -> &[u8]
+        ensures { result.now ≡ self.now }
+    {
+        &self.bytes[self.at..self.end]
     }
 
     fn first(&self) -> Option<u8>

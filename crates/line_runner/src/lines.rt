@@ -1,6 +1,6 @@
 //! The lines of a script, one by one.
 
-ghost use Rattle.std.specs.Prelude.{◌≡◌, ◌≤◌, ◌<◌, ◌+◌, ℕ, List, [], ◌∷◌, length, drop, true, Some, IsSome};
+ghost use Rattle.std.specs.Prelude.{◌≡◌, ◌≢◌, ◌≤◌, ◌<◌, ◌+◌, ℕ, List, [], ◌∷◌, length, drop, slice_index, true, Some, IsSome};
 ghost use Rattle.board_links.specs.Pieces.{told_bytes};
 ghost use Rattle.line_runner.specs.Reader.{fresh, coming};
 ghost use Rattle.line_runner.specs.ScriptLines.{Script, Ended, no_lines, last_line, without_return};
@@ -113,9 +113,47 @@ impl Lines {
             return Some(Next::End);
         }
         match self.chunk.peek(source) {
-            Peeked::Byte(byte) => self.take(byte),
+            Peeked::Byte(byte) => self.take_some(byte),
             Peeked::End => Some(self.last()),
             Peeked::Failed => Some(Next::ReadFault),
+        }
+    }
+
+    // The run of bytes before the next newline, where it fits whole; else the byte.
+    fn take_some(&mut self, byte: u8) -> Option<Next>
+        requires { self.old.waiting ≡ byte ∷ drop 1 self.old.waiting }
+        ensures raises { (faults : ℕ) → StepRaises result faults faults }
+        ensures given { self.new.given ≡ given_by result self.old.given }
+        ensures most { self.new.given ≤ 1000000 }
+        ensures grows { Grows result self.old.begun self.new.begun }
+        ensures ended { self.new.ended ≡ self.old.ended }
+        ensures stands { StandsAt result self.new }
+        ensures told { (last : List ℕ → Script) (more : List ℕ) → Steps result self.new.line (coming last self.old more) (coming last self.new more) }
+    {
+        let run = self.chunk.run();
+        if run > 1 && self.given < MOST_LINES && run <= MOST_BYTES - self.begun.len() {
+            self.take_run(run)
+        } else {
+            self.take(byte)
+        }
+    }
+
+    fn take_run(&mut self, run: usize) -> Option<Next>
+        requires { (0 < run) × (run ≤ length self.old.waiting) × ((place : ℕ) → place < run → slice_index self.old.waiting place ≢ 10) × (self.old.given < 1000000) × (length self.old.begun + run ≤ 65536) }
+        ensures raises { (faults : ℕ) → StepRaises result faults faults }
+        ensures given { self.new.given ≡ given_by result self.old.given }
+        ensures most { self.new.given ≤ 1000000 }
+        ensures grows { Grows result self.old.begun self.new.begun }
+        ensures ended { self.new.ended ≡ self.old.ended }
+        ensures stands { StandsAt result self.new }
+        ensures told { (last : List ℕ → Script) (more : List ℕ) → Steps result self.new.line (coming last self.old more) (coming last self.new more) }
+    {
+        match self.begun.extend_from_slice(self.chunk.front(run)) {
+            Ok(()) => {
+                self.chunk.skip(run);
+                None
+            }
+            Err(_) => Some(Next::NoMemory),
         }
     }
 

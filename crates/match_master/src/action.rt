@@ -1,8 +1,10 @@
 //! An accepted action, as the lines that tell of it are made from it.
 
 ghost use Rattle.std.specs.Prelude.{◌≡◌, Some};
+ghost use Rattle.std.specs.Option.{ForSome};
 ghost use Rattle.serde_json.specs.Written.{compact_text};
 ghost use Rattle.move_log.specs.Redact.{redact};
+ghost use Rattle.player_sight.specs.Change.{put_part};
 ghost use Rattle.player_sight.specs.CtxData.{ctx_data};
 ghost use Rattle.player_sight.specs.EntryData.{entry_data};
 
@@ -25,6 +27,8 @@ pub struct Action<'a, X: Game> {
     pub texts: &'a SharedTexts,
     ghost ctx: { texts.now.ctx.items ≡ compact_text (ctx_data (X.rules game.now).sheet prepared.now.table.ctx) },
     ghost own: { texts.now.entry.items ≡ compact_text (entry_data (X.rules game.now).sheet (redact (X.rules game.now).sheet (Some entry.now.seat) entry.now)) },
+    ghost changed: { ForSome texts.now.changed (λ t. t.items ≡ compact_text (put_part (ctx_data (X.rules game.now).sheet state.now.table.ctx)
+        (ctx_data (X.rules game.now).sheet prepared.now.table.ctx))) },
 }
 
 /// What all viewers see of an action, and what all see from whom no argument is hidden.
@@ -34,4 +38,6 @@ pub struct SharedTexts {
     pub ctx: Vec<u8>,
     /// The text of its entry as the seat sees it that acted.
     pub entry: Vec<u8>,
+    /// The text of what changed in the context, if it was made: where somebody is told changes.
+    pub changed: Option<Vec<u8>>,
 }

@@ -1,6 +1,7 @@
 //! The lines of an attachment, made of the state of the match.
 
 ghost use Rattle.std.specs.Prelude.{◌≡◌, ◌-◌, false, IfOk, Some};
+ghost use Rattle.std.specs.Option.{ForSome};
 ghost use Rattle.serde_json.specs.Data.{Data};
 ghost use Rattle.serde_json.specs.View.{view};
 ghost use Rattle.serde_json.specs.Written.{compact_text, has_float};
@@ -85,19 +86,31 @@ fn sync_line(
     Ok(line)
 }
 
-/// The texts of an action that more than one viewer sees.
+/// The texts of an action that more than one viewer sees; that of what changed in the context only where it is wanted.
 pub fn shared_texts(
     alloc: Global,
     sheet: &Sheet,
+    before: &Ctx,
     ctx: &Ctx,
     entry: &Entry,
+    changes: bool,
 ) -> Result<SharedTexts, NoMemory>
     ensures ctx { IfOk result (λ t. t.ctx.items ≡ compact_text (ctx_data sheet.now ctx.now)) }
     ensures entry { IfOk result (λ t. t.entry.items ≡ compact_text (entry_data sheet.now (redact sheet.now (Some entry.now.seat) entry.now))) }
+    ensures changed { IfOk result (λ t. ForSome t.changed (λ c. c.items ≡ compact_text (put_part (ctx_data sheet.now before.now) (ctx_data sheet.now ctx.now)))) }
 {
+    let changed = if changes {
+        Some(changed_ctx(alloc, sheet, before, ctx)?)
+    } else {
+        None
+    };
     let ctx = ctx_text(alloc, sheet, ctx)?;
     let entry = entry_text(alloc, sheet, entry, Some(entry.seat))?;
-    Ok(SharedTexts { ctx, entry })
+    Ok(SharedTexts {
+        ctx,
+        entry,
+        changed,
+    })
 }
 
 /// The text of a context.
@@ -198,11 +211,32 @@ fn change<X: Game>(
         (put_part (value_seen (X.rules action.now.game.now) action.now.state.now.table seat) (value_seen (X.rules action.now.game.now) action.now.prepared.now.table seat))
         action.now.prepared.now.number)) }
 {
-    let ctx = changed_ctx(alloc, action)?;
+    match &action.texts.changed {
+        Some(ctx) => change_of(alloc, action, seat, ctx.as_slice(), entry),
+        None => {
+            let sheet = action.game.sheet();
+            let ctx = changed_ctx(alloc, sheet, action.state.ctx(), action.prepared.ctx())?;
+            change_of(alloc, action, seat, ctx.as_slice(), entry)
+        }
+    }
+}
+
+fn change_of<X: Game>(
+    alloc: Global,
+    action: &Action<'_, X>,
+    seat: Option<Seat>,
+    ctx: &[u8],
+    entry: &[u8],
+) -> Result<Vec<u8>, NoMemory>
+    ensures { (c e : Data) → ctx.now ≡ compact_text c → entry.now ≡ compact_text e → IfOk result (λ l. l.items ≡ text (Change c e
+        (gone_part (value_seen (X.rules action.now.game.now) action.now.state.now.table seat) (value_seen (X.rules action.now.game.now) action.now.prepared.now.table seat))
+        (put_part (value_seen (X.rules action.now.game.now) action.now.state.now.table seat) (value_seen (X.rules action.now.game.now) action.now.prepared.now.table seat))
+        action.now.prepared.now.number)) }
+{
     let g = changed_state(alloc, action, seat)?;
     change_line(
         alloc,
-        ctx.put.as_slice(),
+        ctx,
         entry,
         g.gone.as_slice(),
         g.put.as_slice(),
@@ -235,15 +269,17 @@ struct Changed {
     gone: Vec<u8>,
 }
 
-/// What an accepted action changed in the context.
-fn changed_ctx<X: Game>(alloc: Global, action: &Action<'_, X>) -> Result<Changed, NoMemory>
-    ensures { IfOk result (λ t. t.put.items ≡ compact_text (put_part (ctx_data (X.rules action.now.game.now).sheet action.now.state.now.table.ctx)
-        (ctx_data (X.rules action.now.game.now).sheet action.now.prepared.now.table.ctx))) }
+/// The text of what changed in the context.
+fn changed_ctx(alloc: Global, sheet: &Sheet, before: &Ctx, after: &Ctx) -> Result<Vec<u8>, NoMemory>
+    ensures { IfOk result (λ t. t.items ≡ compact_text (put_part (ctx_data sheet.now before.now) (ctx_data sheet.now after.now))) }
 {
-    let sheet = action.game.sheet();
-    let before = ctx_value(alloc, sheet, action.state.ctx())?;
-    match ctx_value(alloc, sheet, action.prepared.ctx()) {
-        Ok(after) => changed_texts(alloc, before, after),
+    let before = ctx_value(alloc, sheet, before)?;
+    match ctx_value(alloc, sheet, after) {
+        Ok(after) => {
+            let Changed { put, gone } = changed_texts(alloc, before, after)?;
+            drop(gone);
+            Ok(put)
+        }
         Err(no) => {
             drop(before);
             Err(no)

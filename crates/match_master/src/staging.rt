@@ -17,6 +17,7 @@ use move_log::Entry;
 use reducer::Prepared;
 use std::alloc::Global;
 use std::sync::Arc;
+use wire_json::Protocol;
 
 /// Stages what everybody is told of an action that a match has accepted and not yet taken in: at each attachment the line for its
 /// viewer and, at the pass's own, the verdict behind that. What waits is as before.
@@ -35,7 +36,14 @@ pub fn stage<X: Game>(
         ≡ all_told pass verdict.now.value.items (action_line (X.rules running.now.game) running.now.state prepared.now entry.now) (all_held attachments.old.entries)) }
 {
     let sheet = running.game.sheet();
-    let texts = shared_texts(alloc, sheet, prepared.ctx(), entry)?;
+    let texts = shared_texts(
+        alloc,
+        sheet,
+        running.state.ctx(),
+        prepared.ctx(),
+        entry,
+        tells_changes(attachments),
+    )?;
     let action = Action {
         game: &running.game,
         state: &running.state,
@@ -44,6 +52,16 @@ pub fn stage<X: Game>(
         texts: &texts,
     };
     stage_all(alloc, &action, attachments, pass, verdict)
+}
+
+/// Whether somebody is told changes.
+fn tells_changes(attachments: &Attachments) -> bool {
+    for place in 0..attachments.len() {
+        if let (_, Protocol::Two) = viewer_at(attachments, place) {
+            return true;
+        }
+    }
+    false
 }
 
 /// Stages the lines of an action at each attachment.

@@ -5,5 +5,4 @@ pub mod MemberPut
 pub mod Changes
 pub mod ShownPlain
 pub mod RisingRows
-pub mod Unescaped
 pub mod SeenText

@@ -8,4 +8,3 @@ pub mod Seen
 pub mod PlainSnapshot
 pub mod RowList
 pub mod Tails
-pub mod Unescaped

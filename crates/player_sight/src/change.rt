@@ -7,6 +7,7 @@ ghost use Rattle.serde_json.specs.View.{view, items_of, members_view};
 ghost use Rattle.serde_json.specs.Written.{compact_text, has_float, members_have_float};
 ghost use Rattle.player_sight.specs.Change.{has_text_of, changed_members, lost_names, put_part, gone_part};
 
+use crate::same::is_same;
 use game_sheet::NoMemory;
 use serde_json::{Map, Value};
 use std::alloc::Global;
@@ -90,36 +91,19 @@ fn is_kept(alloc: Global, old: &Value, name: &str, value: &Value) -> Result<bool
     }
 }
 
-// Where the two are plainly equal, no text is made.
+// Where the two are seen to be the same, no text is made.
 #[tactic(auto, using(crate::proofs::Changes::same_text))]
 fn is_same_text(alloc: Global, a: &Value, b: &Value) -> Result<bool, NoMemory>
     requires first { has_float (view a.now) ≡ false }
     requires second { has_float (view b.now) ≡ false }
     ensures { IfOk result (λ same. same ≡ bytes_eq (compact_text (view a.now)) (compact_text (view b.now))) }
 {
-    if is_plainly_equal(a, b) {
+    if is_same(a, b) {
         return Ok(true);
     }
     let first = a.to_string(alloc)?;
     let second = b.to_string(alloc)?;
     Ok(first.as_str() == second.as_str())
-}
-
-// Whether both are the same number from 0, text, truth value or null.
-#[tactic(auto, using(crate::proofs::Changes::is_natural, crate::proofs::Changes::is_text, crate::proofs::Changes::is_truth, crate::proofs::Changes::is_nothing))]
-fn is_plainly_equal(a: &Value, b: &Value) -> bool
-    ensures { result ≡ true → view a.now ≡ view b.now }
-{
-    if let (Some(a), Some(b)) = (a.as_u64(), b.as_u64()) {
-        return a == b;
-    }
-    if let (Some(a), Some(b)) = (a.as_str(), b.as_str()) {
-        return a == b;
-    }
-    if let (Some(a), Some(b)) = (a.as_bool(), b.as_bool()) {
-        return a == b;
-    }
-    a.is_null() && b.is_null()
 }
 
 fn gone_between(alloc: Global, old: &Value, new: &Value) -> Result<Value, NoMemory>

@@ -7,6 +7,7 @@ mod context;
 mod entries;
 mod members;
 mod parts;
+mod same;
 mod shown;
 mod snapshots;
 mod text_active;

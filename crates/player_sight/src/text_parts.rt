@@ -1,10 +1,9 @@
 //! Names of the sheet, appended to bytes.
 
-ghost use Rattle.std.specs.Prelude.{◌≡◌, ◌++◌, OnOk, true};
+ghost use Rattle.std.specs.Prelude.{◌≡◌, ◌++◌, OnOk};
 ghost use Rattle.serde_json.specs.Data.{string};
 ghost use Rattle.serde_json.specs.Written.{compact_text};
 ghost use Rattle.player_sight.specs.Parts.{move_name, phase_or_null, stage_or_null};
-ghost use Rattle.player_sight.specs.Unescaped.{is_plain, needs_no_escape};
 
 use game_sheet::{MoveId, NoMemory, PhaseId, Sheet, StageId};
 use json_text::{put_null, put_string};
@@ -56,35 +55,9 @@ pub fn put_stage(
     }
 }
 
-/// Appends a text in quotation marks. One that needs no escape, as names do, is copied.
+/// Appends a text in quotation marks.
 pub fn put_name(alloc: Global, out: &mut Vec<u8>, text: &str) -> Result<(), NoMemory>
     ensures { OnOk result (out.new.items ≡ out.old.items ++ compact_text (string text.now)) }
 {
-    if needs_no_escape(text) {
-        put_plain(out, text)
-    } else {
-        Ok(put_string(alloc, out, text)?)
-    }
-}
-
-fn put_plain(out: &mut Vec<u8>, text: &str) -> Result<(), NoMemory>
-    requires { needs_no_escape text.now ≡ true }
-    ensures { OnOk result (out.new.items ≡ out.old.items ++ compact_text (string text.now)) }
-{
-    out.push(b'"')?;
-    out.extend_from_slice(text.as_bytes())?;
-    out.push(b'"')?;
-    Ok(())
-}
-
-fn needs_no_escape(text: &str) -> bool
-    ensures { result ≡ needs_no_escape text.now }
-{
-    text.as_bytes().iter().all(|byte| is_plain(*byte))
-}
-
-fn is_plain(byte: u8) -> bool
-    ensures { result ≡ is_plain byte }
-{
-    byte >= 32 && byte != b'"' && byte != b'\\'
+    Ok(put_string(alloc, out, text)?)
 }

@@ -1,4 +1,5 @@
 pub mod MatchTexts
+pub mod MatchPut
 pub mod KeyTexts
 pub mod Texts
 pub mod Appending
@@ -6,6 +7,7 @@ pub mod FieldLaws
 pub mod ActLaws
 pub mod ClientLaws
 pub mod ClientWriting
+pub mod Guessing
 pub mod Trees
 pub mod Tables
 pub mod AnswerLaws

@@ -20,6 +20,9 @@ AreDigits ds = list_all is_ascii_digit ds ≡ true
 own : IsNumeralModel AreDigits (digits_value 10)
 own = numerals_by_value AreDigits (search rules)
 
+pub decimal_digits : (n : ℕ) → n < 2 ^ 64 → AreDigits (decimal n)
+decimal_digits n h = digits_decimal own n h
+
 parsed : {E : Type 0} (r : Result ℕ E) (some : Type 0) (v : ℕ) → some → OkIff r (some × (v < 2 ^ 64)) v → result_ok r ≡ cond (nat_lt v (2 ^ 64)) (Some v) None
 parsed (Ok x) some v s h = rw (lt-ltb v (2 ^ 64) h.0.1, h.1) refl
 parsed (Err e) some v s h = rw (false_from_ne_true (nat_lt v (2 ^ 64)) (λ t. h (s, ltb-true v (2 ^ 64) t))) refl

@@ -11,6 +11,7 @@ ghost use Rattle.wire_json.specs.declared.client.ClientMsg.{ClientMsg as Message
 
 use crate::acts::act_member_of;
 use crate::client::ClientMsg;
+use crate::guess::guessed;
 use crate::lobby_read::{lobby_request_of, place_of};
 use crate::members::{at, key_at, key_or_null_of, match_at, number_member_of};
 use crate::protocol::Protocol;
@@ -39,8 +40,17 @@ pub fn read_client(alloc: Global, line: &[u8]) -> Result<ClientMsg, WireNo>
     read_any(alloc, line)
 }
 
-#[tactic(auto, unfolding(crate::specs::ClientReading::client_read))]
 fn read_any(alloc: Global, line: &[u8]) -> Result<ClientMsg, WireNo>
+    ensures { Gives result (client_read line.now) }
+{
+    match guessed(alloc, line) {
+        Some(message) => Ok(message),
+        None => read_tree(alloc, line),
+    }
+}
+
+#[tactic(auto, unfolding(crate::specs::ClientReading::client_read))]
+fn read_tree(alloc: Global, line: &[u8]) -> Result<ClientMsg, WireNo>
     ensures { Gives result (client_read line.now) }
 {
     match read_line(alloc, line, CLIENT_LINE) {

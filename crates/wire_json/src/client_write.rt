@@ -36,7 +36,8 @@ pub fn write_client(alloc: Global, message: &ClientMsg) -> Result<Vec<u8>, NoMem
     Ok(line)
 }
 
-fn put_message(alloc: Global, out: &mut Vec<u8>, message: &ClientMsg) -> Result<(), NoMemory>
+/// Appends the object of a message.
+pub fn put_message(alloc: Global, out: &mut Vec<u8>, message: &ClientMsg) -> Result<(), NoMemory>
     requires { IsSendable message.now }
     ensures text { OnOk result (out.new.items ≡ out.old.items ++ compact_text (object (client_members message.now))) }
     ensures fits { OnOk result (ClientFits message.now) }

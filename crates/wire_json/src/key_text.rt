@@ -48,3 +48,22 @@ fn hex_of(alloc: Global, bytes: &[u8; 16]) -> Result<String, NoMemory>
 {
     Ok(hex::encode(alloc, bytes)?)
 }
+
+/// The digits of a key's text.
+pub fn digits_of_key(key: &Key) -> [u8; 32]
+    ensures text { result ≡ encode_lower key.now }
+    ensures sixteen_bytes { IsKey key.now }
+{
+    digits_of(key.bytes())
+}
+
+fn digits_of(bytes: &[u8; 16]) -> [u8; 32]
+    ensures text { result ≡ encode_lower bytes.now }
+    ensures small { IsBytes bytes.now }
+{
+    let mut digits = [0; 32];
+    let Ok(()) = hex::encode_to_slice(bytes, &mut digits) else {
+        unreachable!();
+    };
+    digits
+}

@@ -10,6 +10,7 @@ mod change_read;
 mod client;
 mod client_read;
 mod client_write;
+mod guess;
 mod key_text;
 mod lobby_read;
 mod match_row;

@@ -8,11 +8,11 @@ ghost use Rattle.sheet_json.specs.Seats.{natural};
 ghost use Rattle.wire_json.specs.KeyText.{IsKey};
 ghost use Rattle.wire_json.specs.MatchText.{match_text, IsName};
 
-use crate::key_text::text_of_key;
-use crate::match_text::text_of_match;
+use crate::key_text::digits_of_key;
 use game_sheet::{Key, MatchName, NoMemory};
 use json_text::{put_natural, put_string};
 use std::alloc::Global;
+use std::str;
 
 /// Appends a text, in quotation marks and with escapes.
 pub fn put_text(alloc: Global, out: &mut Vec<u8>, text: &str) -> Result<(), NoMemory>
@@ -24,12 +24,15 @@ pub fn put_text(alloc: Global, out: &mut Vec<u8>, text: &str) -> Result<(), NoMe
 }
 
 /// Appends the text of a match's name.
-pub fn put_match(alloc: Global, out: &mut Vec<u8>, name: &MatchName) -> Result<(), NoMemory>
+pub fn put_match(_alloc: Global, out: &mut Vec<u8>, name: &MatchName) -> Result<(), NoMemory>
     ensures text { OnOk result (out.new.items ≡ out.old.items ++ compact_text (string (match_text name.now))) }
     ensures named { OnOk result (IsName name.now) }
 {
-    let text = text_of_match(alloc, name)?;
-    put_text(alloc, out, text.as_str())
+    out.push(b'"')?;
+    put_natural(out, u64::from(name.room()))?;
+    out.push(b'-')?;
+    put_natural(out, name.serial())?;
+    Ok(out.push(b'"')?)
 }
 
 /// Appends the text of a key.
@@ -37,8 +40,11 @@ pub fn put_key(alloc: Global, out: &mut Vec<u8>, key: &Key) -> Result<(), NoMemo
     ensures text { OnOk result (out.new.items ≡ out.old.items ++ compact_text (string (encode_lower key.now))) }
     ensures sixteen_bytes { OnOk result (IsKey key.now) }
 {
-    let text = text_of_key(alloc, key)?;
-    put_text(alloc, out, text.as_str())
+    let digits = digits_of_key(key);
+    let Ok(text) = str::from_utf8(&digits) else {
+        unreachable!();
+    };
+    put_text(alloc, out, text)
 }
 
 /// Appends a number of 32 bits.

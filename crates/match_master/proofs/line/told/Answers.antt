@@ -11,3 +11,11 @@ returns-in-One g c = λ told.
     let entry = c.args.action.now.entry.now in
     subst (λ p. IfOk c.whole.result (λ l. l.items ≡ action_line rules c.args.action.now.state.now after entry c.args.seat p)) (sym c.in-One.is)
     (c.whole.ensures (entry_data rules.sheet (redact rules.sheet c.args.seat entry)) told)
+
+pub returns-in-Two : goal.returns-in-Two
+returns-in-Two g c = λ told.
+    let rules = g.X.Game.rules c.args.action.now.game.now in
+    let after = c.args.action.now.prepared.now in
+    let entry = c.args.action.now.entry.now in
+    subst (λ p. IfOk c.change.result (λ l. l.items ≡ action_line rules c.args.action.now.state.now after entry c.args.seat p)) (sym c.in-Two.is)
+    (c.change.ensures (entry_data rules.sheet (redact rules.sheet c.args.seat entry)) told)

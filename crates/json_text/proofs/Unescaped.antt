@@ -5,7 +5,7 @@ use Rattle.json.proofs.Printed.Strings.{escape_byte_plain}
 use Rattle.json.specs.Print.{escape, escape_byte}
 use Rattle.serde_json.specs.Data.{string}
 use Rattle.serde_json.specs.Written.{compact_text}
-use Rattle.player_sight.specs.Unescaped.{is_plain, needs_no_escape}
+use Rattle.json_text.specs.Unescaped.{is_plain, needs_no_escape}
 
 plain_byte : (byte : ℕ) → is_plain byte ≡ true → escape_byte byte ≡ byte ∷ []
 plain_byte byte h =

@@ -1,5 +1,5 @@
-use Rattle.player_sight.proofs.Unescaped.{plain_text}
-use Rattle.player_sight.proofs.text_parts.put_plain.Goals as goal
+use Rattle.json_text.proofs.Unescaped.{plain_text}
+use Rattle.json_text.proofs.put.put_plain.Goals as goal
 
 pub returns : goal.returns
 returns c =
