@@ -1,10 +1,10 @@
 #!/usr/bin/env python3
 """Starts servers with bots, and looks on. It starts each server itself, on a free port.
 
-  bots.py PROGRAM    Matches of tic-tac-toe by two bots, one after another: how long each took from the line that says where the server
-                     listens to the end of the process. Then each of the six games, with a spectator who checks that it is sent every
-                     update in step. Then a person takes a bot's seat over in the middle of High Hand, and plays on. Last, bots that wait
-                     between two moves: none comes before somebody connects, and a person plays tic-tac-toe against one of them.
+  bots.py PROGRAM    Matches of tic-tac-toe by two bots, one after another: how long each took from the start of the process to its
+                     end. Then each of the six games, with a spectator who checks that it is sent every update in step. Then a person
+                     takes a bot's seat over in the middle of High Hand, and plays on. Last, bots that wait between two moves: none comes before
+                     somebody connects, and a person plays tic-tac-toe against one of them.
 
 One worker serves, so that the spectator has its turn between those of the bots; with several the bots may be done before it is heard. The
 spectator connects as soon as the port listens. It prints at which state number it came in.
@@ -108,9 +108,8 @@ def timed(program):
     """How long so many matches of tic-tac-toe took, in milliseconds."""
     took = []
     for _ in range(MATCHES):
-        server = start(program, free_port(), "--workers", "3", "--sessions", "2", "--bots", "tic-tac-toe", "--seats", "2")
-        server.stderr.readline()
         begun = time.monotonic()
+        server = start(program, free_port(), "--workers", "3", "--sessions", "2", "--bots", "tic-tac-toe", "--seats", "2")
         report, _ = server.communicate(timeout=PATIENCE)
         took.append((time.monotonic() - begun) * 1000)
         check(server.returncode == 0 and report.startswith("sessions 2\nroom 0 serial 1 number "), f"it ended so: {report!r}")

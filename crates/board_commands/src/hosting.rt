@@ -24,8 +24,8 @@ use std::alloc::Global;
 use std::sync::Wait;
 use std::thread::Threads;
 
-/// Serves as `serve` does, without bots, in rooms whose changes are kept on the disks of a shelf. All rooms that the words ask for are opened first;
-/// the shelf is told then that links are taken. A match to which no session was attached for as many minutes as the words say, by the clock outside, is
+/// Serves as `serve` does, without bots, in rooms whose changes are kept on the disks of a shelf. All rooms that the words ask for are opened first,
+/// before a link is taken. A match to which no session was attached for as many minutes as the words say, by the clock outside, is
 /// cleared.
 ///
 /// There is one of `readies` for each worker that the words ask for. The door has given no link, hasn't answered that it is shut, and tells of none
@@ -131,7 +131,6 @@ where
     drop(asked);
     match open_rooms(rt, alloc, shelf, rooms, u32::from(links) + 2) {
         Ok(opened) => {
-            shelf.ready();
             let (end, door, closed) = serve_opened(
                 rt, alloc, opened, links, readies, idle, outside, sessions, door, sink, seed,
             );

@@ -10,9 +10,9 @@ use line_runner::Exit;
 /// The page of help.
 pub const HELP: &str = "board_server: matches of turn-based games
 
-board_server serve --listen ADDRESS [--rooms 16] [--workers 8] [--links N] [--sessions 1000000] [--silence SECONDS] [--idle MINUTES] [--status ADDRESS] [--ws [--origin TEXT] [--page FOLDER]]
+board_server serve --listen ADDRESS [--rooms 16] [--workers 8] [--links N] [--sessions COUNT] [--silence SECONDS] [--idle MINUTES] [--status ADDRESS] [--ws [--origin TEXT] [--page FOLDER]]
         [--keep FOLDER | --bots GAME --seats COUNT [--pace SECONDS]]
-    serves matches over TCP, or over WebSockets, N at once or as many as workers, until so many sessions are over, and reports;
+    serves matches over TCP, or over WebSockets, N at once or as many as workers, without end or until so many sessions are over, and reports then;
     clears a match that no session looked at for so many minutes; tells at a second address, by HTTP, what goes on; gives browsers the page in a folder;
     keeps each room in a journal in a folder, and goes on from there at the next start; with bots at all seats of a first match, fewer than N, which answer at once or after so many seconds
 board_server play --connect ADDRESS --game NAME --match MATCH [--seat SEAT --key KEY] [--draw]

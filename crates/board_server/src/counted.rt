@@ -1,4 +1,4 @@
-//! A door that says at once when it fails, and counts its links and what goes over them.
+//! A door that says where it listens once it is asked for a link, says at once when it fails, and counts its links and what goes over them.
 
 ghost use Rattle.std.specs.Prelude.{◌≡◌};
 
@@ -7,23 +7,58 @@ use board_links::{Came, Door, Link, Out, SessionEnd, Visit};
 use game_sheet::{Bytes, MatchName, Seat};
 use mio::Registry;
 use poll_links::{Looks, Watched};
+use std::net::SocketAddr;
 use std::sync::Wait;
 
-/// A door that says on standard error when it fails, and counts its links and what goes over them, where there is a tally. In all else it is the door
-/// within. The sessions that go on when it fails may last for hours, and the program tells how it ended only then.
+/// Where a server listens, as far as the system says it.
+#[derive(Clone, Copy)]
+pub struct Addresses {
+    /// For the sessions.
+    pub door: Option<SocketAddr>,
+    /// For who asks for the status, if that may be asked for.
+    pub status: Option<SocketAddr>,
+}
+
+/// Says on standard error where the server listens. A line that can't be written is lost.
+fn announce(rt: &HostRuntime, addresses: Addresses) {
+    if let Some(addr) = addresses.door {
+        let _said = eprintln!(rt; "listening on {addr}");
+    }
+    if let Some(addr) = addresses.status {
+        let _said = eprintln!(rt; "status on {addr}");
+    }
+}
+
+/// What is noted of a door: where it listens, and what is counted of its links, if that is counted.
+#[derive(Clone, Copy)]
+pub struct Notes<'a> {
+    pub addresses: Addresses,
+    pub tally: Option<&'a Tally>,
+}
+
+/// A door that says on standard error where it listens when it is first asked for a link, since the rooms are there then and the workers stand; says
+/// there when it fails; and counts its links and what goes over them, where there is a tally. In all else it is the door within. The sessions that go
+/// on when it fails may last for hours, and the program tells how it ended only then.
 #[derive(Drop)]
 pub struct CountedDoor<'a, D: Door> {
     rt: HostRuntime,
     door: D,
+    /// Where it listens, until that is said.
+    unsaid: Option<Addresses>,
     tally: Option<&'a Tally>,
 }
 
 impl<'a, D: Door> CountedDoor<'a, D> {
     /// Over this door, which has given no link.
-    pub fn new(rt: HostRuntime, door: D, tally: Option<&'a Tally>) -> CountedDoor<'a, D>
+    pub fn new(rt: HostRuntime, door: D, notes: Notes<'a>) -> CountedDoor<'a, D>
         ensures { result.door ≡ door }
     {
-        CountedDoor { rt, door, tally }
+        CountedDoor {
+            rt,
+            door,
+            unsaid: Some(notes.addresses),
+            tally: notes.tally,
+        }
     }
 }
 
@@ -47,6 +82,9 @@ impl<'a, D: Door> Door for CountedDoor<'a, D> {
     ghost returned = { λ d. D.returned d.door };
 
     fn accept<R: Wait>(&mut self, rt: &R) -> Visit<CountedLink<'a, D::L>> {
+        if let Some(addresses) = self.unsaid.take() {
+            announce(&self.rt, addresses);
+        }
         match self.door.accept(rt) {
             Visit::Came(link) => {
                 if let Some(tally) = self.tally {

@@ -6,7 +6,7 @@ ghost use Rattle.board_commands.specs.Serving.{seats_asked};
 ghost use Rattle.command_words.specs.Serve.{serve_from};
 ghost use Rattle.command_words.specs.declared.serve.ServeWords.{ServeWords as Asked};
 
-use crate::counted::CountedDoor;
+use crate::counted::{Addresses, CountedDoor, Notes};
 use crate::journal_file::open_journal;
 use crate::journals::Journals;
 use crate::outside::SystemOutside;
@@ -183,7 +183,7 @@ pub fn serve_there<R: Threads + Wait + Sync>(
         usize::from(workers),
         u32::from(links),
         // Bots' sessions count too, and need no connection.
-        sessions.saturating_sub(u32::from(seats)),
+        sessions.saturating_sub(u64::from(seats)),
     );
     match opened {
         Ok((door, readies)) => serve_door(
@@ -244,32 +244,32 @@ fn serve_door<R: Threads + Wait + Sync>(
         },
     };
     let journals = match keep {
-        Some(folder) => Some(Journals::new(*rt, folder, addresses)),
-        None => {
-            announce(rt, addresses);
-            None
-        }
+        Some(folder) => Some(Journals::new(*rt, folder)),
+        None => None,
     };
     let tally = Tally::new();
-    let counted = if listener.is_some() {
-        Some(&tally)
-    } else {
-        None
+    let notes = Notes {
+        addresses,
+        tally: if listener.is_some() {
+            Some(&tally)
+        } else {
+            None
+        },
     };
     let outside = SystemOutside::new(*rt, listener, &tally, seats);
     if ws {
         let door = WsDoor::with_pages(rt.alloc(), PollStreams::over(door), origin, pages);
         serve_counted(
-            leave, rt, words, seats, journals, readies, door, counted, outside,
+            leave, rt, words, seats, journals, readies, door, notes, outside,
         )
     } else {
         serve_counted(
-            leave, rt, words, seats, journals, readies, door, counted, outside,
+            leave, rt, words, seats, journals, readies, door, notes, outside,
         )
     }
 }
 
-/// Serves matches at this door, whose links are counted where there is a tally.
+/// Serves matches at this door, of which these notes are taken.
 fn serve_counted<'a, D: Door + Send, R: Threads + Wait + Sync>(
     leave: &R,
     rt: &HostRuntime,
@@ -278,7 +278,7 @@ fn serve_counted<'a, D: Door + Send, R: Threads + Wait + Sync>(
     journals: Option<Journals>,
     readies: Vec<PollReady<HostRuntime>>,
     door: D,
-    counted: Option<&'a Tally>,
+    notes: Notes<'a>,
     outside: SystemOutside<'_>,
 ) -> Exit
 where
@@ -292,7 +292,7 @@ where
     requires shut { D.shut door ≡ false }
     requires none_back { IfSome (D.returned door) (λ told. told ≡ []) }
 {
-    let door = CountedDoor::new(*rt, door, counted);
+    let door = CountedDoor::new(*rt, door, notes);
     serve_at(leave, rt, words, seats, journals, readies, door, outside)
 }
 
@@ -465,25 +465,6 @@ where
     // The process ends with this run, and its memory goes with it.
     mem::forget(books);
     Ok(exit)
-}
-
-/// Where a server listens, as far as the system says it.
-#[derive(Clone, Copy)]
-pub struct Addresses {
-    /// For the sessions.
-    pub door: Option<SocketAddr>,
-    /// For who asks for the status, if that may be asked for.
-    pub status: Option<SocketAddr>,
-}
-
-/// Says on standard error where the server listens. A line that can't be written is lost.
-pub fn announce(rt: &HostRuntime, addresses: Addresses) {
-    if let Some(addr) = addresses.door {
-        let _said = eprintln!(rt; "listening on {addr}");
-    }
-    if let Some(addr) = addresses.status {
-        let _said = eprintln!(rt; "status on {addr}");
-    }
 }
 
 /// Random bytes of the system.

@@ -1,18 +1,16 @@
 //! The journals of a server's rooms, one file a room, in a folder.
 
-use crate::edge::{Addresses, announce};
 use crate::journal_file::{JournalDisk, open_journal};
 use game_sheet::{Number, Text};
 use kept_serve::Shelf;
 use object_journal::OpenNo;
 use std::io;
 
-/// The journals in a folder, and how many could not be opened. What becomes of each room is said on standard error, and then where the server listens; a
-/// line that can't be written is lost. No clause says which disks it gave.
+/// The journals in a folder, and how many could not be opened. What becomes of each room is said on standard error; a line that can't be written is
+/// lost. No clause says which disks it gave.
 pub struct Journals {
     rt: HostRuntime,
     folder: Text,
-    addresses: Addresses,
     faults: u64,
 }
 
@@ -21,7 +19,6 @@ impl Drop for Journals {
         let Journals {
             rt: _,
             folder,
-            addresses: _,
             faults: _,
         } = self;
         drop(folder);
@@ -29,12 +26,11 @@ impl Drop for Journals {
 }
 
 impl Journals {
-    /// Those in this folder, of a server that listens at these addresses.
-    pub fn new(rt: HostRuntime, folder: Text, addresses: Addresses) -> Journals {
+    /// Those in this folder.
+    pub fn new(rt: HostRuntime, folder: Text) -> Journals {
         Journals {
             rt,
             folder,
-            addresses,
             faults: 0,
         }
     }
@@ -87,9 +83,5 @@ impl Shelf for Journals {
             OpenNo::Damaged { place } => eprintln!(self.rt; "room {room}: bad record {place}"),
             OpenNo::NoMemory => eprintln!(self.rt; "room {room}: no memory"),
         };
-    }
-
-    fn ready(&mut self) {
-        announce(&self.rt, self.addresses);
     }
 }

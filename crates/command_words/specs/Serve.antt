@@ -6,7 +6,7 @@ use Rattle.any_game.specs.GameKind.{GameKind}
 use Rattle.clap.specs.Words.{App, Row, fault_of, first_of, matches_of, new_app, with_rule}
 use Rattle.clap.specs.Kinds.{Kinds}
 use Rattle.command_words.specs.Games.{bots_from, pace_from}
-use Rattle.command_words.specs.Numbers.{number_or}
+use Rattle.command_words.specs.Numbers.{endless, number_or}
 use Rattle.command_words.specs.Options.{flag_rule, needed_rule, option_rule}
 use Rattle.command_words.specs.declared.serve.ServeWords.{ServeWords}
 
@@ -61,7 +61,7 @@ is_said text = bytes_eq (unwrap_or text []) (codes "true")
 abbrev pub serve_of : Option (List ℕ) → Option (List ℕ) → Option (List ℕ) → Option (List ℕ) → Option (List ℕ) → Option (List ℕ) → Option (List ℕ) → Guests → Option ServeWords
 serve_of None rooms workers links sessions silence idle g = None
 serve_of (Some listen) rooms workers links sessions silence idle g =
-    with_numbers listen (number_or 1 64 16 rooms) (number_or 1 32 8 workers) links (number_or 1 1000000 1000000 sessions) (number_or 0 86400 0 silence) (number_or 0 10080 0 idle) g
+    with_numbers listen (number_or 1 64 16 rooms) (number_or 1 32 8 workers) links (number_or 1 1000000 endless sessions) (number_or 0 86400 0 silence) (number_or 0 10080 0 idle) g
 
 abbrev pub serve_in : List Row → Option ServeWords
 serve_in rows =

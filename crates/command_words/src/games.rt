@@ -28,7 +28,7 @@ pub(crate) fn bots_of(
     alloc: Global,
     game: Option<&str>,
     seats: Option<&str>,
-    links: u32,
+    links: u64,
 ) -> Result<Option<(AnyGame, u8)>, WordsNo>
     ensures { Answers (bots_from links (option_map (λ text. text.now) game.entry) (option_map (λ text. text.now) seats.entry)) result }
 {
@@ -44,7 +44,7 @@ fn table_of(
     alloc: Global,
     game: &str,
     seats: &str,
-    links: u32,
+    links: u64,
 ) -> Result<Option<(AnyGame, u8)>, WordsNo>
     ensures { Answers (table_from links (named game.now) seats.now) result }
 {
@@ -56,7 +56,7 @@ fn table_of(
 }
 
 /// How many seats a word says, where a match of the game may have as many and they are fewer than the links.
-fn seats_of(game: &AnyGame, seats: &str, links: u32) -> Option<u8>
+fn seats_of(game: &AnyGame, seats: &str, links: u64) -> Option<u8>
     ensures { result ≡ seats_from links game.now seats.now }
 {
     let seats = decimal_of(seats)?;
@@ -69,19 +69,19 @@ fn seats_of(game: &AnyGame, seats: &str, links: u32) -> Option<u8>
 
 /// Whether a match of the game may have so many seats, and they are fewer than the links, of which there are at most 32: the streams of words from
 /// 32 on are the bots'.
-fn are_enough(game: &AnyGame, seats: u64, links: u32) -> bool
+fn are_enough(game: &AnyGame, seats: u64, links: u64) -> bool
     ensures same { result ≡ are_enough links game.now seats }
     ensures few { result ≡ true → seats ≤ 255 }
 {
     let sheet = game.sheet();
     u64::from(sheet.min_seats) <= seats
         && seats <= u64::from(sheet.max_seats)
-        && seats < u64::from(links)
+        && seats < links
         && links <= 32
 }
 
 /// How many seconds a bot of this game lets pass before it answers; none where that is said though no bots are.
-pub(crate) fn pace_of(game: Option<&str>, pace: Option<&str>) -> Option<u32>
+pub(crate) fn pace_of(game: Option<&str>, pace: Option<&str>) -> Option<u64>
     ensures same { result ≡ pace_from (option_map (λ text. text.now) game.entry) (option_map (λ text. text.now) pace.entry) }
     ensures bounds { IfSome result (λ n. n ≤ 60) }
 {

@@ -6,7 +6,7 @@ ghost use Rattle.command_words.specs.Numbers.{number_or as number_is};
 use wire_json::decimal_of;
 
 /// The number that a word writes, from `lo` to `hi`, or what stands for one that isn't said; none where the word is in no form.
-pub fn number_or(word: Option<&str>, lo: u32, hi: u32, unsaid: u32) -> Option<u32>
+pub fn number_or(word: Option<&str>, lo: u64, hi: u64, unsaid: u64) -> Option<u64>
     requires { (lo ≤ unsaid) × (unsaid ≤ hi) }
     ensures value { result ≡ number_is lo hi unsaid (option_map (λ text. text.now) word.entry) }
     ensures bounds { IfSome result (λ n. (lo ≤ n) × (n ≤ hi)) }
@@ -15,8 +15,8 @@ pub fn number_or(word: Option<&str>, lo: u32, hi: u32, unsaid: u32) -> Option<u3
         return Some(unsaid);
     };
     let number = decimal_of(word)?;
-    if u64::from(lo) <= number && number <= u64::from(hi) {
-        Some(number as u32)
+    if lo <= number && number <= hi {
+        Some(number)
     } else {
         None
     }

@@ -4,6 +4,7 @@
 ghost use Rattle.std.specs.Prelude.{◌≡◌, ◌≤◌, IfOk, codes, map, option_map, string_bytes};
 ghost use Rattle.clap.specs.Words.{FailsBy, HasMatchesOf, fault_of, first_value, found_of};
 ghost use Rattle.command_words.specs.Answers.{Answers};
+ghost use Rattle.command_words.specs.Numbers.{endless, number_or};
 ghost use Rattle.command_words.specs.Serve.{go_together, guests, is_said, serve_app, serve_from, serve_of};
 
 use crate::games::{bots_of, pace_of};
@@ -26,8 +27,8 @@ pub struct ServeWords {
     pub workers: u8,
     /// How many sessions it serves at once, 1 to 4,096.
     pub links: u16,
-    /// How many sessions it serves before it ends, 1 to 1,000,000.
-    pub sessions: u32,
+    /// How many sessions it serves before it ends, 1 to 1,000,000; 18,446,744,073,709,551,615, which none comes to, where they aren't said.
+    pub sessions: u64,
     /// For how many seconds a peer may send nothing, up to 86,400; 0 for good.
     pub silence: u32,
     /// After how many minutes in which nobody looks at it a match is cleared, 0 to 10,080; 0: never.
@@ -102,9 +103,7 @@ fn words_in(alloc: Global, matches: &ArgMatches) -> Result<ServeWords, WordsNo>
     let rooms = number_or(matches.get_str("rooms"), 1, 64, 16).ok_or(WordsNo::Usage)?;
     let workers = number_or(matches.get_str("workers"), 1, 32, 8).ok_or(WordsNo::Usage)?;
     let links = number_or(matches.get_str("links"), 1, 4_096, workers).ok_or(WordsNo::Usage)?;
-    let sessions = number_or(matches.get_str("sessions"), 1, 1_000_000, 1_000_000).ok_or(
-        WordsNo::Usage,
-    )?;
+    let sessions = sessions_of(matches.get_str("sessions")).ok_or(WordsNo::Usage)?;
     let silence = number_or(matches.get_str("silence"), 0, 86_400, 0).ok_or(WordsNo::Usage)?;
     let idle = number_or(matches.get_str("idle"), 0, 10_080, 0).ok_or(WordsNo::Usage)?;
     let origin = matches.get_str("origin");
@@ -132,8 +131,8 @@ fn words_in(alloc: Global, matches: &ArgMatches) -> Result<ServeWords, WordsNo>
         workers: workers.min(links) as u8,
         links: links as u16,
         sessions,
-        silence,
-        idle,
+        silence: silence as u32,
+        idle: idle as u32,
         origin,
         page,
         keep,
@@ -142,6 +141,16 @@ fn words_in(alloc: Global, matches: &ArgMatches) -> Result<ServeWords, WordsNo>
         bots,
         pace: pace as u8,
     })
+}
+
+/// How many sessions a server has in which so many are said: without end where none are. None where the word is in no form.
+fn sessions_of(word: Option<&str>) -> Option<u64>
+    ensures { result ≡ number_or 1 1000000 endless (option_map (λ text. text.now) word.entry) }
+{
+    match word {
+        Some(_) => number_or(word, 1, 1_000_000, 1_000_000),
+        None => Some(u64::MAX),
+    }
 }
 
 /// Whether these go together: an origin or a page has WebSockets, and rooms that are kept have no bots.

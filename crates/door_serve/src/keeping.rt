@@ -124,11 +124,11 @@ fn serve_until_over<
     readies: Vec<W>,
     seed: [u8; 32],
     door: D,
-    sessions: u32,
+    sessions: u64,
     over: &AtomicU64,
 ) -> (
     DoorEnd,
-    u32,
+    u64,
     Vec<Vec<Pass<B>>>,
     Vec<Pass<Wishes>>,
     Vec<Pass<B>>,
@@ -194,11 +194,11 @@ fn serve_beside<
     readies: Vec<W>,
     seed: [u8; 32],
     door: D,
-    sessions: u32,
+    sessions: u64,
 ) -> (
     (
         DoorEnd,
-        u32,
+        u64,
         Vec<Vec<Pass<B>>>,
         Vec<Pass<Wishes>>,
         Vec<Pass<B>>,
@@ -238,7 +238,7 @@ where
         { keep(rt, desks, own, keeper, over) },
         move || -> (
             DoorEnd,
-            u32,
+            u64,
             Vec<Vec<Pass<B>>>,
             Vec<Pass<Wishes>>,
             Vec<Pass<B>>,
@@ -303,11 +303,11 @@ pub(crate) fn serve_with_keeper<
     readies: Vec<W>,
     seed: [u8; 32],
     door: D,
-    sessions: u32,
+    sessions: u64,
 ) -> (
     (
         DoorEnd,
-        u32,
+        u64,
         Vec<Vec<Pass<B>>>,
         Vec<Pass<Wishes>>,
         Vec<Pass<B>>,

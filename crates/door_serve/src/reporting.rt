@@ -13,7 +13,7 @@ use hosted_room::HostedRoom;
 use itoa::Buffer;
 
 /// The line that says how many sessions there were.
-fn sessions_line(count: u32) -> ArrayString<64>
+fn sessions_line(count: u64) -> ArrayString<64>
     ensures { result.bytes ≡ sessions_text count }
 {
     let mut line = ArrayString::new();
@@ -118,7 +118,7 @@ fn print_rooms<B: HostedRoom<AnyGame>, K: Sink>(sink: &mut K, room: u8, rooms: &
 /// Prints the whole report.
 pub(crate) fn print_report<B: HostedRoom<AnyGame>, K: Sink>(
     sink: &mut K,
-    count: u32,
+    count: u64,
     rooms: &[B],
 ) -> Put
     requires { length rooms.now ≤ 64 }

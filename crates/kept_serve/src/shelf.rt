@@ -32,9 +32,4 @@ pub trait Shelf {
     fn refused(&mut self, room: u8, why: &OpenNo)
         ensures given { given self.new ≡ given self.old }
         ensures never_falls { faults self.old ≤ faults self.new };
-
-    /// Is told that all rooms were opened, and that links are taken now.
-    fn ready(&mut self)
-        ensures given { given self.new ≡ given self.old }
-        ensures never_falls { faults self.old ≤ faults self.new };
 }

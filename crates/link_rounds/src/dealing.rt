@@ -121,8 +121,8 @@ pub fn serve_places<
     witness: S::Witness,
     readies: Vec<W>,
     door: D,
-    sessions: u32,
-) -> (DoorEnd, u32, Vec<S>, S::Witness, D)
+    sessions: u64,
+) -> (DoorEnd, u64, Vec<S>, S::Witness, D)
 where
     D::L: Send,
     S::Hall: Sync,

@@ -66,8 +66,8 @@ pub struct Gate<S: Service, D: Door, J: Shift, B: Ledger> {
     door: D,
     links: Book<J>,
     bots: Book<B>,
-    count: u32,
-    sessions: u32,
+    count: u64,
+    sessions: u64,
     end: Option<DoorEnd>,
 }
 
@@ -90,7 +90,7 @@ impl<S: Service, D: Door, J: Shift, B: Ledger> Gate<S, D, J, B> {
         door: D,
         links: Book<J>,
         bots: Book<B>,
-        sessions: u32,
+        sessions: u64,
     ) -> Gate<S, D, J, B>
         requires sessions { J.sessions ≡ sessions }
         requires faults { J.faults ≡ D.faults door }
@@ -194,7 +194,7 @@ impl<S: Service, D: Door, J: Shift, B: Ledger> Gate<S, D, J, B> {
     }
 
     /// The witness, the door, how its serving ended, and how many links it gave. All of them have come back.
-    pub fn close(self, all: &mut Share<J>, bots: &mut Share<B>) -> (DoorEnd, u32, S::Witness, D)
+    pub fn close(self, all: &mut Share<J>, bots: &mut Share<B>) -> (DoorEnd, u64, S::Witness, D)
         requires whole { (all.old.parts ≡ J.parts) × (bots.old.parts ≡ B.parts) }
         requires none_out { (all.old.amount ≡ 0) × (bots.old.amount ≡ 0) }
         ensures out { (D.out result.3 ≡ 0) × (D.bots_out result.3 ≡ 0) }

@@ -137,7 +137,7 @@ fn serve_by<
     mut all: Share<J>,
     mut all_bots: Share<B>,
     mut back: Vec<Bench<S, D::L, W>>,
-) -> (DoorEnd, u32, Vec<Bench<S, D::L, W>>, S::Witness, D)
+) -> (DoorEnd, u64, Vec<Bench<S, D::L, W>>, S::Witness, D)
 where
     D::L: Send,
     S::Hall: Sync,
@@ -186,10 +186,10 @@ fn run<
     benches: Vec<Bench<S, D::L, W>>,
     witness: S::Witness,
     door: D,
-    sessions: u32,
+    sessions: u64,
     blank: Blank,
     bots_blank: Blank,
-) -> (DoorEnd, u32, Vec<Bench<S, D::L, W>>, S::Witness, D)
+) -> (DoorEnd, u64, Vec<Bench<S, D::L, W>>, S::Witness, D)
 where
     D::L: Send,
     S::Hall: Sync,
@@ -247,8 +247,8 @@ pub fn serve_door<
     benches: Vec<Bench<S, D::L, W>>,
     witness: S::Witness,
     door: D,
-    sessions: u32,
-) -> (DoorEnd, u32, Vec<Bench<S, D::L, W>>, S::Witness, D)
+    sessions: u64,
+) -> (DoorEnd, u64, Vec<Bench<S, D::L, W>>, S::Witness, D)
 where
     D::L: Send,
     S::Hall: Sync,

@@ -4,6 +4,7 @@
 mod agenda;
 mod alarms;
 mod bells;
+mod each_second;
 mod incoming;
 mod knock;
 mod opening;

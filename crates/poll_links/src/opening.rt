@@ -11,7 +11,7 @@ use mio::net::TcpListener;
 use mio::{Interest, Poll, Waker};
 use std::alloc::Global;
 use std::io;
-use std::io::ErrorKind;
+use std::io::{Eprint, ErrorKind};
 use std::net::{Net, SocketAddr};
 use std::rt::Clock;
 use std::sync::Arc;
@@ -19,10 +19,10 @@ use std::sync::Arc;
 /// A door that listens at this address, or at any free port where its port is 0, and for each of so many workers what tells it which of its
 /// links are ready, at so many places in all. They are dealt over the workers as `link_rounds::serve_places` deals its services: as evenly as can
 /// be, and the first workers get one more; a worker without a free place leaves the next link to another. The door gives so many links and no
-/// more, and listens no longer then, nor once it has failed. Its links have lines of at most `limit` bytes, and a peer that sends nothing for
+/// more, and listens no longer then, nor once it has failed; errors of the system are said on standard error as `PollDoor` says. Its links have lines of at most `limit` bytes, and a peer that sends nothing for
 /// `silence` seconds, where they are said, is a fault of its link. An Err is the system's: the address is
 /// taken, or there are no descriptors left, of which each worker needs two, or no memory.
-pub fn open<N: Net + Clock + Copy + Drop>(
+pub fn open<N: Net + Clock + Eprint + Copy + Drop>(
     net: N,
     alloc: Global,
     addr: SocketAddr,
@@ -30,7 +30,7 @@ pub fn open<N: Net + Clock + Copy + Drop>(
     silence: Option<u32>,
     workers: usize,
     places: u32,
-    sessions: u32,
+    sessions: u64,
 ) -> io::Result<(PollDoor<N>, Vec<PollReady<N>>)>
     ensures workers { IfOk result (λ r. vec_len r.1 ≡ workers) }
     ensures given { IfOk result (λ r. ⟦<PollDoor<N> as Door>⟧.given r.0 ≡ 0) }

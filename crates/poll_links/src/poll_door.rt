@@ -3,6 +3,7 @@
 ghost use Rattle.std.specs.Prelude.{◌≡◌, ◌≤◌, false};
 
 use crate::bells::Bells;
+use crate::each_second::EachSecond;
 use crate::knock::{Knock, asked};
 use crate::poll_link::PollLink;
 use crate::poll_stream::PollStream;
@@ -10,20 +11,17 @@ use board_links::{Door, Link, SessionEnd, Visit};
 use mio::net::TcpListener;
 use std::alloc::Global;
 use std::io;
-use std::io::ErrorKind;
+use std::io::{Eprint, ErrorKind};
 use std::net::SocketAddr;
 use std::rt::Clock;
 use std::sync::{Arc, Wait};
 
-/// How many connections that failed before they were taken one call passes over.
-const TRIES: u32 = 64;
-
 /// A door over a TCP listener that never waits: it answers `Quiet` where no connection is there, or the system gives none now. It is never shut, and
 /// doesn't tell how many links are left. Once it has given its last link, or its listener is gone, it listens no more: who connects is refused, and it
-/// fails where it is asked for another.
+/// fails where it is asked for another. What the system has against a connection is said on standard error, at most once a second.
 #[derive(Drop)]
 pub struct PollDoor<C> {
-    clock: C,
+    system: C,
     alloc: Global,
     listener: Option<TcpListener>,
     bells: Arc<Bells, Global>,
@@ -33,20 +31,22 @@ pub struct PollDoor<C> {
     given: u64,
     came_back: u64,
     faults: u64,
+    /// Errors of connections, which are said.
+    errors: EachSecond,
     ghost within: { came_back ≤ given },
 }
 
-impl<C: Clock + Copy + Drop> PollDoor<C> {
+impl<C: Clock + Eprint + Copy + Drop> PollDoor<C> {
     /// A door over a listener that doesn't block and is registered with the workers' polls. It gives so many links, which have lines of at most
     /// `limit` bytes, and whose peers may be silent for so many seconds, or for good.
     pub(crate) fn over(
-        clock: C,
+        system: C,
         alloc: Global,
         listener: TcpListener,
         bells: Arc<Bells, Global>,
         limit: u32,
         silence: Option<u32>,
-        sessions: u32,
+        sessions: u64,
     ) -> PollDoor<C>
         ensures given { ⟦<PollDoor<C> as Door>⟧.given result ≡ 0 }
         ensures out { ⟦<PollDoor<C> as Door>⟧.out result ≡ 0 }
@@ -55,16 +55,17 @@ impl<C: Clock + Copy + Drop> PollDoor<C> {
         ensures faults { ⟦<PollDoor<C> as Door>⟧.faults result ≡ 0 }
     {
         PollDoor {
-            clock,
+            system,
             alloc,
             listener: Some(listener),
             bells,
             limit,
             silence,
-            sessions: u64::from(sessions),
+            sessions,
             given: 0,
             came_back: 0,
             faults: 0,
+            errors: EachSecond::new(),
         }
     }
 
@@ -77,22 +78,17 @@ impl<C: Clock + Copy + Drop> PollDoor<C> {
     }
 
     /// What the listener answers, past connections that failed before they were taken.
-    fn ask(&self) -> Knock {
-        let Some(listener) = &self.listener else {
-            return Knock::Gone;
-        };
-        for _ in 0..TRIES {
-            match asked(listener) {
-                Knock::Lost => {}
-                answer => return answer,
-            }
+    fn ask(&mut self) -> Knock
+        ensures { self.new ≡ record self.old { errors = self.new.errors } }
+    {
+        match &self.listener {
+            Some(listener) => asked(listener, &self.system, &mut self.errors),
+            None => Knock::Gone,
         }
-        // There may be more of them, so the listener is asked again after a while.
-        Knock::Full
     }
 }
 
-impl<C: Clock + Copy + Drop> Door for PollDoor<C> {
+impl<C: Clock + Eprint + Copy + Drop> Door for PollDoor<C> {
     ghost use Rattle.std.specs.Prelude.{None, false, ◌-◌};
 
     type L = PollLink<C>;
@@ -121,7 +117,7 @@ impl<C: Clock + Copy + Drop> Door for PollDoor<C> {
                 if self.given >= self.sessions {
                     self.listener = None;
                 }
-                let stream = PollStream::over(self.clock, stream, self.silence);
+                let stream = PollStream::over(self.system, stream, self.silence);
                 Visit::Came(PollLink::over(self.alloc, stream, self.limit))
             }
             Knock::Nothing => {

@@ -1,14 +1,14 @@
 //! Rooms that are kept on disks in memory: served, and opened again.
 
-ghost use Rattle.std.specs.Prelude.{◌≡◌, [], IfOk, Some, None, false, map, string_bytes, vec_len};
+ghost use Rattle.std.specs.Prelude.{◌≡◌, [], IfSome, false, vec_len};
 
-use crate::serving::{CREATE, JOIN, LEAVE, NobodyOutside, RENAME, door, readies, words};
-use board_commands::serve_kept;
-use board_links::{MemoryDoor, MemoryLink, MemorySink};
+use crate::serving::{CREATE, JOIN, LEAVE, NobodyOutside, RENAME, door, readies};
+use board_links::{Door, MemorySink, Sink};
+use door_serve::ServeEnd;
 use game_sheet::{List, NoMemory, Number};
-use kept_serve::{ClosedRoom, Shelf};
-use line_runner::Exit;
-use object_journal::OpenNo;
+use kept_serve::{ClosedRoom, Shelf, open_rooms, serve_opened};
+use link_rounds::Ready;
+use object_journal::{OpenNo, Stop};
 use room_disk::MemoryDisk;
 use std::alloc::Global;
 use std::process::Abort;
@@ -62,8 +62,6 @@ impl Shelf for Disks {
     fn refused(&mut self, _room: u8, _why: &OpenNo) {
         self.refused = self.refused.saturating_add(1);
     }
-
-    fn ready(&mut self) {}
 }
 
 /// A shelf of one disk, with these bytes, whose calls of these numbers fail.
@@ -82,6 +80,51 @@ fn shelf(alloc: Global, bytes: &[u8], failing: &[u64]) -> Result<Disks, NoMemory
     })
 }
 
+/// How serving ended, or why a room wasn't opened.
+type Ended = Result<ServeEnd, OpenNo>;
+
+/// Opens one room over this shelf, and serves this door over it at one place: how it ends, and the rooms.
+fn hosted<S: Shelf, P: Door + Send, W: Ready<P::L> + Send, K: Sink, R: Threads + Wait + Sync>(
+    rt: &R,
+    alloc: Global,
+    shelf: &mut S,
+    readies: Vec<W>,
+    door: P,
+    sink: &mut K,
+) -> (Ended, Vec<ClosedRoom<S::D>>)
+where
+    S::D: Send,
+    P::L: Send,
+    requires readies { vec_len readies ≡ 1 }
+    requires fresh { (P.given door ≡ 0) × (P.out door ≡ 0) × (P.bots_out door ≡ 0) × (P.shut door ≡ false) }
+    requires none_back { IfSome (P.returned door) (λ told. told ≡ []) }
+{
+    match open_rooms(rt, alloc, shelf, 1, 3) {
+        Ok(opened) => {
+            let (end, door, closed) = serve_opened(
+                rt,
+                alloc,
+                opened,
+                1,
+                readies,
+                0,
+                NobodyOutside,
+                1000,
+                door,
+                sink,
+                [0; 32],
+            );
+            drop(door);
+            (Ok(end), closed)
+        }
+        Err(why) => {
+            drop(readies);
+            drop(door);
+            (Err(why), Vec::new(alloc))
+        }
+    }
+}
+
 /// Serves one room over this shelf, two sessions one after another: how it ends, the rooms, and what was printed.
 fn served<R: Threads + Wait + Sync>(
     rt: &R,
@@ -89,33 +132,35 @@ fn served<R: Threads + Wait + Sync>(
     shelf: &mut Disks,
     first: &[&[u8]],
     second: &[&[u8]],
-) -> Result<(Exit, Vec<ClosedRoom<MemoryDisk>>, MemorySink), NoMemory> {
-    let words = words(alloc, &["--rooms", "1", "--keep", "x"])?;
-    let readies = readies(alloc, words.as_slice())?;
+) -> Result<(Ended, Vec<ClosedRoom<MemoryDisk>>, MemorySink), NoMemory> {
+    let readies = readies(alloc)?;
     let door = door(alloc, second, first, &[])?;
     let mut sink = MemorySink::new(alloc, List::new(alloc));
-    let (exit, door, closed) = serve_kept(
-        rt,
-        alloc,
-        words.as_slice(),
-        shelf,
-        readies,
-        door,
-        &mut sink,
-        [0; 32],
-        NobodyOutside,
-    );
-    drop(door);
-    drop(words);
-    Ok((exit, closed, sink))
+    let (end, closed) = hosted(rt, alloc, shelf, readies, door, &mut sink);
+    Ok((end, closed, sink))
+}
+
+/// Whether the door gave all its links, and the report was printed.
+fn is_done(end: &Ended) -> bool {
+    matches!(end, Ok(ServeEnd::Done))
+}
+
+/// Whether the disk of a room failed when it was opened.
+fn is_disk_fault(end: &Ended) -> bool {
+    matches!(end, Err(OpenNo::DiskFault))
+}
+
+/// Whether a room stopped since a change of it wasn't kept.
+fn is_not_kept(room: &ClosedRoom<MemoryDisk>) -> bool {
+    matches!(room.stopped, Some(Stop::NotKept { .. }))
 }
 
 #[test]
 fn a_match_outlasts_its_server(rt: HostRuntime) -> Result<(), NoMemory> {
     let alloc = rt.alloc();
     let mut shelf_1 = shelf(alloc, b"", &[])?;
-    let (exit, closed, sink) = served(&rt, alloc, &mut shelf_1, &[CREATE, JOIN], &[])?;
-    assert_eq!(rt; exit, Exit::Done);
+    let (end, closed, sink) = served(&rt, alloc, &mut shelf_1, &[CREATE, JOIN], &[])?;
+    assert!(rt; is_done(&end));
     assert_eq!(rt;
         sink.bytes(),
         b"sessions 2\nroom 0 serial 1 number 0\n".as_slice()
@@ -126,8 +171,8 @@ fn a_match_outlasts_its_server(rt: HostRuntime) -> Result<(), NoMemory> {
     };
     let mut shelf_2 = shelf(alloc, room.disk.bytes(), &[])?;
     drop(closed);
-    let (exit, closed, sink) = served(&rt, alloc, &mut shelf_2, &[LEAVE], &[CREATE])?;
-    assert_eq!(rt; exit, Exit::Done);
+    let (end, closed, sink) = served(&rt, alloc, &mut shelf_2, &[LEAVE], &[CREATE])?;
+    assert!(rt; is_done(&end));
     assert_eq!(rt; shelf_2.opened, 1);
     // the player left by the key that the first server gave, so another match could be made
     assert_eq!(rt;
@@ -149,7 +194,7 @@ fn a_room_whose_disk_fails_stops(rt: HostRuntime) -> Result<(), NoMemory> {
     let mut stops = 0u8;
     for failing in 1..41 {
         let mut shelf_1 = shelf(alloc, b"", &[failing])?;
-        let (exit, closed, sink) = served(
+        let (end, closed, sink) = served(
             &rt,
             alloc,
             &mut shelf_1,
@@ -157,14 +202,14 @@ fn a_room_whose_disk_fails_stops(rt: HostRuntime) -> Result<(), NoMemory> {
             &[CREATE],
         )?;
         if closed.len() == 1 && closed[0].stopped.is_some() {
-            assert_eq!(rt; exit, Exit::StoreFault);
+            assert!(rt; is_done(&end) && is_not_kept(&closed[0]));
             assert_eq!(rt; sink.bytes(), b"sessions 2\nroom 0 stopped\n".as_slice());
             stops = stops.saturating_add(1);
         } else if closed.len() == 0 {
-            assert_eq!(rt; exit, Exit::StoreFault);
+            assert!(rt; is_disk_fault(&end));
             assert_eq!(rt; sink.bytes(), b"".as_slice());
         } else {
-            assert_eq!(rt; exit, Exit::Done);
+            assert!(rt; is_done(&end));
         }
         drop(sink);
         drop(closed);
@@ -178,8 +223,8 @@ fn a_room_whose_disk_fails_stops(rt: HostRuntime) -> Result<(), NoMemory> {
 fn a_damaged_journal_is_not_served(rt: HostRuntime) -> Result<(), NoMemory> {
     let alloc = rt.alloc();
     let mut shelf_1 = shelf(alloc, b"\x01\x05\0\0\0", &[])?;
-    let (exit, closed, sink) = served(&rt, alloc, &mut shelf_1, &[CREATE], &[CREATE])?;
-    assert_eq!(rt; exit, Exit::BadRecord { place: 0 });
+    let (end, closed, sink) = served(&rt, alloc, &mut shelf_1, &[CREATE], &[CREATE])?;
+    assert!(rt; matches!(end, Err(OpenNo::Damaged { place: 0 })));
     assert_eq!(rt; closed.len(), 0);
     assert_eq!(rt; sink.bytes(), b"".as_slice());
     assert_eq!(rt; shelf_1.refused, 1);
@@ -196,16 +241,16 @@ fn started<R: Threads + Wait + Sync>(
     alloc: Global,
     bytes: &[u8],
     failing: &[u64],
-) -> Result<(Exit, MemorySink, usize), NoMemory> {
+) -> Result<(Ended, MemorySink, usize), NoMemory> {
     let mut shelf = shelf(alloc, bytes, failing)?;
-    let (exit, closed, sink) = served(rt, alloc, &mut shelf, &[], &[])?;
+    let (end, closed, sink) = served(rt, alloc, &mut shelf, &[], &[])?;
     drop(shelf);
     let count = match closed.as_slice() {
         [room] => room.disk.bytes().len(),
         _ => 0,
     };
     drop(closed);
-    Ok((exit, sink, count))
+    Ok((end, sink, count))
 }
 
 /// The records of a match with its create, a join, two renames and a leave have 119, 83, 85, 85 and 71 bytes; those of one that is made and cleared have
@@ -215,16 +260,16 @@ fn a_file_without_a_match_begins_anew(rt: HostRuntime) -> Result<(), NoMemory> {
     let alloc = rt.alloc();
     let mut shelf_1 = shelf(alloc, b"", &[])?;
     let lines = [CREATE, JOIN, RENAME, RENAME, LEAVE];
-    let (exit, closed, sink) = served(&rt, alloc, &mut shelf_1, &lines, &[])?;
-    assert_eq!(rt; exit, Exit::Done);
+    let (end, closed, sink) = served(&rt, alloc, &mut shelf_1, &lines, &[])?;
+    assert!(rt; is_done(&end));
     drop(sink);
     drop(shelf_1);
     let [room] = closed.as_slice() else {
         panic!(rt; "the room didn't come back")
     };
     assert_eq!(rt; room.disk.bytes().len(), 444);
-    let (exit, sink, count) = started(&rt, alloc, room.disk.bytes(), &[])?;
-    assert_eq!(rt; exit, Exit::Done);
+    let (end, sink, count) = started(&rt, alloc, room.disk.bytes(), &[])?;
+    assert!(rt; is_done(&end));
     assert_eq!(rt;
         sink.bytes(),
         b"sessions 2\nroom 0 serial 1 number -\n".as_slice()
@@ -232,8 +277,8 @@ fn a_file_without_a_match_begins_anew(rt: HostRuntime) -> Result<(), NoMemory> {
     assert_eq!(rt; count, 149);
     drop(sink);
     // after a sync, a length and a read
-    let (exit, sink, count) = started(&rt, alloc, room.disk.bytes(), &[4])?;
-    assert_eq!(rt; exit, Exit::StoreFault);
+    let (end, sink, count) = started(&rt, alloc, room.disk.bytes(), &[4])?;
+    assert!(rt; is_disk_fault(&end));
     assert_eq!(rt; sink.bytes(), b"".as_slice());
     assert_eq!(rt; count, 0);
     drop(sink);

@@ -1,5 +1,5 @@
-//! Tests of the server: runs whose reads and writes fail, scripts of a million lines, a match played over a link in memory, rooms that are kept on
-//! disks in memory, links that wait for each other, a session over a WebSocket byte by byte, and what a keeper tells from outside.
+//! Tests of the server: rooms that are kept on disks in memory, links that wait for each other, a session over a WebSocket byte by byte, and what a
+//! keeper tells from outside.
 #![tactic(auto)]
 
 #[cfg(test)]
@@ -8,12 +8,6 @@ mod frames;
 mod keeps;
 #[cfg(test)]
 mod meetings;
-#[cfg(test)]
-mod plays;
-#[cfg(test)]
-mod puts;
-#[cfg(test)]
-mod runs;
 #[cfg(test)]
 mod serving;
 #[cfg(test)]

@@ -1,12 +1,9 @@
-//! What servers in memory are given: the lines of players, a door of two links, the words of the call, and what names the places.
+//! What servers in memory are given: the lines of players, a door of two links, and what names the places.
 
-ghost use Rattle.std.specs.Prelude.{◌≡◌, [], IfOk, Some, false, map, string_bytes, vec_len};
+ghost use Rattle.std.specs.Prelude.{◌≡◌, [], IfOk, Some, false, vec_len};
 ghost use Rattle.board_links.specs.Doors.{IsFresh};
-ghost use Rattle.command_words.specs.Serve.{serve_from};
-ghost use Rattle.command_words.specs.declared.serve.ServeWords.{ServeWords as Asked};
 
 use board_links::{AtEnd, Door, MemoryDoor, MemoryLink, Scripted};
-use command_words::{WordsNo, serve_words};
 use game_sheet::{List, NoMemory};
 use link_rounds::InTurn;
 use room_keeper::{Outside, RoomStatus};
@@ -78,34 +75,11 @@ pub(crate) fn door(
     MemoryDoor::new(alloc, links, failing)
 }
 
-/// The words of a server with one worker, and these.
-pub(crate) fn words(alloc: Global, more: &[&str]) -> Result<Vec<String>, NoMemory> {
-    let mut words = Vec::new(alloc);
-    for word in ["serve", "--listen", "x", "--workers", "1"] {
-        words.push(String::from_str(alloc, word)?)?;
-    }
-    for word in more {
-        words.push(String::from_str(alloc, word)?)?;
-    }
-    Ok(words)
-}
-
-/// For each worker that the words ask for, what names its places in turn.
-pub(crate) fn readies(alloc: Global, words: &[String]) -> Result<Vec<InTurn>, NoMemory>
-    ensures { IfOk result (λ r. (asked : Asked) → serve_from (map string_bytes words.now) ≡ Some asked → vec_len r ≡ asked.workers) }
+/// For one worker of one place, what names that in turn.
+pub(crate) fn readies(alloc: Global) -> Result<Vec<InTurn>, NoMemory>
+    ensures { IfOk result (λ r. vec_len r ≡ 1) }
 {
-    let (workers, links) = match serve_words(alloc, words) {
-        Ok(asked) => {
-            let numbers = (asked.workers, asked.links);
-            drop(asked);
-            numbers
-        }
-        Err(WordsNo::Usage) => (0, 0),
-        Err(WordsNo::NoMemory) => return Err(NoMemory),
-    };
-    let mut readies = Vec::with_capacity(alloc, usize::from(workers))?;
-    for _worker in 0..workers {
-        readies.push_reserved(InTurn::new(u32::from(links)));
-    }
+    let mut readies = Vec::with_capacity(alloc, 1)?;
+    readies.push_reserved(InTurn::new(1));
     Ok(readies)
 }

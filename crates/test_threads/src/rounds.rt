@@ -85,7 +85,7 @@ pub fn serve<S: Service + Send, D: Door + Send, W: Ready<D::L> + Send, R: Thread
     witness: S::Witness,
     ready: W,
     door: D,
-) -> Result<(DoorEnd, u32, D), NoMemory>
+) -> Result<(DoorEnd, u64, D), NoMemory>
 where
     D::L: Send,
     S::Hall: Sync,
@@ -155,7 +155,7 @@ fn serve_dealt<S: Service + Send, D: Door + Send, R: Threads + Wait + Sync>(
     services: Vec<S>,
     witness: S::Witness,
     door: D,
-) -> Result<(DoorEnd, u32, Vec<S>, S::Witness, D), NoMemory>
+) -> Result<(DoorEnd, u64, Vec<S>, S::Witness, D), NoMemory>
 where
     D::L: Send,
     S::Hall: Sync,

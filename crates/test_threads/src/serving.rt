@@ -45,8 +45,8 @@ fn serve_by<S: Service + Send, D: Door + Send, W: Ready<D::L> + Send, R: Threads
     witness: S::Witness,
     readies: (W, W),
     door: D,
-    sessions: u32,
-) -> Option<(DoorEnd, u32)>
+    sessions: u64,
+) -> Option<(DoorEnd, u64)>
 where
     D::L: Send,
     S::Hall: Sync,
@@ -83,8 +83,8 @@ pub fn serve<D: Door + Send, W: Ready<D::L> + Send, R: Threads + Wait + Sync>(
     mut readies: Vec<W>,
     door: D,
     places: u32,
-    sessions: u32,
-) -> Option<(DoorEnd, u32)>
+    sessions: u64,
+) -> Option<(DoorEnd, u64)>
 where
     D::L: Send,
     requires fresh { (D.given door ≡ 0) × (D.out door ≡ 0) × (D.bots_out door ≡ 0) × (D.shut door ≡ false) }

@@ -122,7 +122,7 @@ pub struct PollStreams<C> {
     door: PollDoor<C>,
 }
 
-impl<C: Clock + Copy + Drop> PollStreams<C> {
+impl<C: Clock + Eprint + Copy + Drop> PollStreams<C> {
     /// Over this door.
     pub fn over(door: PollDoor<C>) -> PollStreams<C>
         ensures given { ⟦<PollStreams<C> as StreamDoor>⟧.given result ≡ ⟦<PollDoor<C> as Door>⟧.given door }
@@ -133,7 +133,7 @@ impl<C: Clock + Copy + Drop> PollStreams<C> {
     }
 }
 
-impl<C: Clock + Copy + Drop> StreamDoor for PollStreams<C> {
+impl<C: Clock + Eprint + Copy + Drop> StreamDoor for PollStreams<C> {
     type T = HeadStream<C>;
 
     ghost given = { λ d. ⟦<PollDoor<C> as Door>⟧.given d.door };
