@@ -1,7 +1,7 @@
 -- One step more in a round.
-use Rattle.std.proofs.Common.{◌≡◌, ◌≢◌, ◌+◌, ◌<◌, ◌≤◌, ◌==◌, ℕ, suc, cond, List, length, take, set, slice_index_or, Option, Some, None, option_map, zero, ◌++◌, subst, sym, ap, ◌∙◌, arith, append_assoc, length-set, get_or-set_same, get_or-set_other, subst₂}
+use Rattle.std.proofs.Common.{◌≡◌, ◌≢◌, ◌+◌, ◌<◌, ◌≤◌, ◌==◌, ℕ, suc, cond, List, length, take, set, slice_index_or, Option, subst, sym, ap, ◌∙◌, arith, length-set, get_or-set_same, get_or-set_other, subst₂}
 use Rattle.std.proofs.lemmas.List.{get_or_default}
-use Rattle.std.proofs.lemmas.List.Sums.{sum_by-append, sum_by_more}
+use Rattle.std.proofs.lemmas.List.Sums.{sum_by_more}
 use Rattle.std.proofs.lemmas.Bool.{eq-eqb, ne_eqb}
 use mathlib.Core.Logic.{dite}
 use native.Mathlib.Decide.{ℕ_discrete}
@@ -42,23 +42,3 @@ module _ {S L : Type 0} (turn : S → List Came → List ℕ → Option SessionE
       let kept : slice_index_or after k d ≡ slice_index_or mid k d = ap (λ l. slice_index_or l k d) e ∙ get_or-set_other mid n k q d (λ f. other (sym f)) in
       subst₂ (λ m r. Steps turn leave a m (slice_index_or places k d) r) (sym (unnamed k numbers i n low is other)) (sym kept) (so.1 k d here))
       in (ap length e ∙ (length-set mid n q ∙ so.0), λ k d here. at k d here)
-
-  steps_add : (n k : ℕ) (p m q : Seat S L) → Steps turn leave a n p m → Steps turn leave a k m q → Steps turn leave a (n + k) p q
-  steps_add n zero p m q first more = let z : n ≡ n + 0 = omega arith in subst₂ (λ j r. Steps turn leave a j p r) z (sym more) first
-  steps_add n (suc k) p m q first more = let z : suc (n + k) ≡ n + suc k = omega arith in subst (λ j. Steps turn leave a j p q) z (more.0, steps_add n k p m more.0 first more.1, more.2)
-
-  -- one round after another is one of both lists
-  pub round_then : (numbers more : List ℕ) (places mid after : List (Seat S L)) → Round turn leave a numbers places mid → Round turn leave a more mid after → Round turn leave a (numbers ++ more) places after
-  round_then numbers more places mid after first then = (
-    then.0 ∙ first.0,
-    λ k d here.
-        let count = sum_by-append (λ n. cond (n == k) 1 0) numbers more in
-        subst (λ j. Steps turn leave a j (slice_index_or places k d) (slice_index_or after k d)) (sym count)
-        (steps_add (times k numbers) (times k more) (slice_index_or places k d) (slice_index_or mid k d) (slice_index_or after k d) (first.1 k d here) (then.1 k d (omega (arith, here, first.0)))),
-  )
-
--- numbers that were named after others
-pub named_more : (old mid new : Option (List ℕ)) (numbers more : List ℕ) → mid ≡ option_map (λ told. told ++ numbers) old → new ≡ option_map (λ told. told ++ more) mid
-    → new ≡ option_map (λ told. told ++ (numbers ++ more)) old
-named_more None mid new numbers more e f = f ∙ ap (option_map (λ told. told ++ more)) e
-named_more (Some told) mid new numbers more e f = f ∙ (ap (option_map (λ l. l ++ more)) e ∙ ap Some (append_assoc told numbers more))
