@@ -19,8 +19,11 @@ pub struct Addresses {
     pub status: Option<SocketAddr>,
 }
 
-/// Says on standard error where the server listens. A line that can't be written is lost.
-fn announce(rt: &HostRuntime, addresses: Addresses) {
+/// Says on standard error where the server listens, unless that was said. A line that can't be written is lost.
+fn announce(rt: &HostRuntime, unsaid: Option<Addresses>) {
+    let Some(addresses) = unsaid else {
+        return;
+    };
     if let Some(addr) = addresses.door {
         let _said = eprintln!(rt; "listening on {addr}");
     }
@@ -82,9 +85,7 @@ impl<'a, D: Door> Door for CountedDoor<'a, D> {
     ghost returned = { λ d. D.returned d.door };
 
     fn accept<R: Wait>(&mut self, rt: &R) -> Visit<CountedLink<'a, D::L>> {
-        if let Some(addresses) = self.unsaid.take() {
-            announce(&self.rt, addresses);
-        }
+        announce(&self.rt, self.unsaid.take());
         match self.door.accept(rt) {
             Visit::Came(link) => {
                 if let Some(tally) = self.tally {
