@@ -94,8 +94,8 @@ def lists_of_games():
             if place:
                 rows = re.findall(r"(?m)^(?:GAMES|WORDLESS) = .*$", text)
                 yield "GAMES", texts.shown(path), texts.line_at(text, place.start()), QUOTED.findall("\n".join(rows))
-    yield "the page's files", "crates/page_files/src/folder.rt", 1, [
-        name for name in re.findall(r'"boards/([a-z-]+)\.js"', texts.read(texts.CRATES / "page_files/src/folder.rt")) if name in games()
+    yield "the page's files", "page/index.html", 1, [
+        name for name in re.findall(r'"boards/([a-z-]+)\.js"', texts.read(texts.TOP / "page/index.html")) if name in games()
     ]
 
 
@@ -218,17 +218,20 @@ def versions():
 
 
 def files_of_the_page():
-    """The list of the page's files in the program (page_files) has each file of page/, but for tests and what makes WebAssembly, and no other."""
-    name = "crates/page_files/src/folder.rt"
+    """page/index.html names each file of page/ and page/boards, and no other; a server hands out no further folder, but for tests and what makes
+    WebAssembly there is none."""
+    name = "page/index.html"
     text = texts.read(texts.TOP / name)
-    place = text.index("const NAMES")
-    listed = set(re.findall(r'"([^"]+)",', text[place:text.index("];", place)]))
     page = texts.TOP / "page"
-    there = {str(path.relative_to(page)) for suffix in (".js", ".html", ".css", ".svg") for path in texts.under(page, suffix)}
-    for file in sorted(there - listed):
-        yield name, texts.line_at(text, place), f"page/{file} is missing in the list, so no server hands it out"
-    for file in sorted(listed - there):
-        yield name, texts.line_at(text, place), f"there is no page/{file}, so no server with the page would start"
+    named = set(re.findall(r'(?:href|src)="([^"#]+\.[a-z]+)"', text))
+    there = {str(path.relative_to(page)) for suffix in (".js", ".css", ".svg") for path in texts.under(page, suffix)}
+    for file in sorted(there - named):
+        yield name, 1, f"it doesn't name page/{file}"
+    for file in sorted(named - there):
+        yield name, texts.line_at(text, text.index(f'"{file}"')), f"there is no page/{file}"
+    for file in sorted(there):
+        if "/" in file.removeprefix("boards/"):
+            yield f"page/{file}", 1, "a server hands out the files of page/ and page/boards alone"
 
 
 def same_client():

@@ -332,7 +332,7 @@ fn pages_in(rt: &HostRuntime, folder: Option<Text>) -> io::Result<Option<Arc<Pag
     let Some(folder) = folder else {
         return Ok(None);
     };
-    let pages = read_pages(rt, rt.alloc(), folder.as_str());
+    let pages = read_pages(rt, folder.as_str());
     if let Err(error) = &pages {
         say(rt, folder.as_str(), error);
     }

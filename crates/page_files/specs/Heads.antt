@@ -6,10 +6,14 @@ use Rattle.std.specs.Str.{str_eq_ignore_ascii_case}
 abbrev pub begins : List ℕ → List ℕ → Bool
 begins word bytes = if nat_lt (length bytes) (length word) then false else str_eq_ignore_ascii_case (take (length word) bytes) word
 
+-- these bytes begin so at some place
+unfoldable pub anywhere : (List ℕ → Bool) → List ℕ → Bool
+anywhere starts [] = false
+anywhere starts (b ∷ bytes) = starts (b ∷ bytes) || anywhere starts bytes
+
 -- a word stands somewhere in these bytes, whatever the case of its letters
-unfoldable pub holds : List ℕ → List ℕ → Bool
-holds word [] = false
-holds word (b ∷ bytes) = begins word (b ∷ bytes) || holds word bytes
+abbrev pub holds : List ℕ → List ℕ → Bool
+holds word bytes = anywhere (begins word) bytes
 
 -- a head that has a line `Upgrade:` asks for another protocol, as for a WebSocket
 abbrev pub asks_socket : List ℕ → Bool

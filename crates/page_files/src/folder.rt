@@ -1,75 +1,67 @@
 //! The files of a folder, as the program reads them once when it starts. What a file of the system has no clause says.
 
+use crate::form::asked_name;
 use crate::page::{Page, Pages};
 use game_sheet::NoMemory;
-use std::alloc::Global;
+use std::alloc::{AllocGlobal, Global};
 use std::fs::{self, Files};
 use std::io::{self, ErrorKind, Read};
 
-/// The files of the page, each by its name in the folder.
-const NAMES: [&str; 26] = [
-    "index.html",
-    "style.css",
-    "icon.svg",
-    "address.js",
-    "bell.js",
-    "elements.js",
-    "guess.js",
-    "keys.js",
-    "lines.js",
-    "lobby.js",
-    "log.js",
-    "main.js",
-    "match.js",
-    "sarpuntxe.js",
-    "seats.js",
-    "words.js",
-    "boards/blind-bid.js",
-    "boards/captions.js",
-    "boards/cards.js",
-    "boards/countdown.js",
-    "boards/high-hand.js",
-    "boards/index.js",
-    "boards/pig.js",
-    "boards/sealed.js",
-    "boards/tic-tac-toe.js",
-    "boards/unknown.js",
-];
+/// The page itself, which a folder of a page has.
+const INDEX: &str = "index.html";
 
-/// The client that guesses ahead, which the page does without where it isn't in the folder.
-const PROGRAM: &str = "page_program.wasm";
+/// The folder of the games' boards, which a packed page does without.
+const BOARDS: &str = "boards/";
 
-/// The files of the page in this folder; `/` is its `index.html`. An Err is the system's, as where a file isn't there.
-pub fn read_pages<R: Files>(files: &R, alloc: Global, folder: &str) -> io::Result<Pages> {
-    let mut pages = Pages::new(alloc);
-    for name in NAMES {
-        read_page(files, alloc, &mut pages, folder, name)?;
-    }
-    match read_page(files, alloc, &mut pages, folder, PROGRAM) {
+/// The files of the page in this folder, and in its `boards`. `/` is its `index.html`. Files of other kinds are left out, and so are names that begin
+/// with a dot. An Err is the system's, as where there is no `index.html`.
+pub fn read_pages<R: Files + AllocGlobal + Clone + Drop>(
+    rt: &R,
+    folder: &str,
+) -> io::Result<Pages> {
+    let mut pages = Pages::new(rt.alloc());
+    read_page(rt, &mut pages, folder, INDEX)?;
+    read_folder(rt, &mut pages, folder, "")?;
+    match read_folder(rt, &mut pages, folder, BOARDS) {
         Err(error) if error.kind() == ErrorKind::NotFound => {}
         read => read?,
     }
     Ok(pages)
 }
 
-/// Adds a file of the folder.
-fn read_page<R: Files>(
-    files: &R,
-    alloc: Global,
+/// Adds the files of a part of the folder.
+fn read_folder<R: Files + AllocGlobal + Clone + Drop>(
+    rt: &R,
+    pages: &mut Pages,
+    folder: &str,
+    part: &str,
+) -> io::Result<()> {
+    let place = joined(rt.alloc(), folder, "/", part)?;
+    for entry in fs::read_dir(rt, place.as_str())? {
+        let entry = entry?;
+        let name = joined(rt.alloc(), part, "", entry.file_name())?;
+        if name.as_str() != INDEX {
+            read_page(rt, pages, folder, name.as_str())?;
+        }
+    }
+    Ok(())
+}
+
+/// Adds a file of the folder, if it is of a kind that a page has.
+fn read_page<R: Files + AllocGlobal>(
+    rt: &R,
     pages: &mut Pages,
     folder: &str,
     name: &str,
 ) -> io::Result<()> {
-    let place = joined(alloc, folder, name)?;
-    let mut file = fs::open(files, place.as_str())?;
-    let mut body = Vec::new(alloc);
-    file.read_to_end(&mut body)?;
-    let path = if name == "index.html" {
-        joined(alloc, "", "")?
-    } else {
-        joined(alloc, "", name)?
+    let Some(kind) = kind_of(name) else {
+        return Ok(());
     };
-    match Page::new(alloc, path.as_str(), kind_of(name), body.as_slice()) {
+    let place = joined(rt.alloc(), folder, "/", name)?;
+    let mut file = fs::open(rt, place.as_str())?;
+    let mut body = Vec::new(rt.alloc());
+    file.read_to_end(&mut body)?;
+    match Page::new(rt.alloc(), name.as_bytes(), kind, body.as_slice()) {
         Ok(page) => added(pages.add(page)),
         Err(NoMemory) => added(Err(NoMemory)),
     }
@@ -83,26 +75,33 @@ fn added(done: Result<(), NoMemory>) -> io::Result<()> {
     }
 }
 
-/// A folder and a name, with a slash between.
-fn joined(alloc: Global, folder: &str, name: &str) -> io::Result<String> {
+/// Two names with this between.
+fn joined(alloc: Global, front: &str, between: &str, behind: &str) -> io::Result<String> {
     let mut place = String::new(alloc);
-    place.push_str(folder)?;
-    place.push_str("/")?;
-    place.push_str(name)?;
+    place.push_str(front)?;
+    place.push_str(between)?;
+    place.push_str(behind)?;
     Ok(place)
 }
 
-/// The kind of a file, by the end of its name.
-fn kind_of(name: &str) -> &'static str {
-    if name.ends_with(".html") {
-        "text/html; charset=utf-8"
-    } else if name.ends_with(".css") {
-        "text/css; charset=utf-8"
-    } else if name.ends_with(".svg") {
-        "image/svg+xml"
-    } else if name.ends_with(".wasm") {
-        "application/wasm"
+/// The kind of a file, by the end of its name; none where a page has no such files.
+fn kind_of(name: &str) -> Option<&'static str> {
+    if name == INDEX {
+        return Some("text/html; charset=utf-8");
+    }
+    if name.starts_with(".") || name.starts_with("boards/.") {
+        return None;
+    }
+    let asked = asked_name(name.as_bytes());
+    if asked.ends_with(b".css") {
+        Some("text/css; charset=utf-8")
+    } else if asked.ends_with(b".js") {
+        Some("text/javascript; charset=utf-8")
+    } else if asked.ends_with(b".svg") {
+        Some("image/svg+xml")
+    } else if asked.ends_with(b".wasm") {
+        Some("application/wasm")
     } else {
-        "text/javascript; charset=utf-8"
+        None
     }
 }

@@ -3,9 +3,11 @@
 #![tactic(auto)]
 
 mod folder;
+mod form;
 mod head;
 mod page;
 
 pub use folder::read_pages;
+pub use form::{Form, form_of};
 pub use head::asks_socket;
 pub use page::{Page, Pages};

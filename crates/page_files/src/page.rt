@@ -1,8 +1,10 @@
 //! The files that browsers may ask for, with their whole answers.
 
 ghost use Rattle.std.specs.Prelude.{◌≡◌, ◌++◌, ◌∷◌, [], IfOk, OnErr, OnOk, option_map};
-ghost use Rattle.page_files.specs.Pages.{answer_at, answer_to, first_lines, plain_answer, response, up_to_length};
+ghost use Rattle.page_files.specs.Forms.{form_of, path_of};
+ghost use Rattle.page_files.specs.Pages.{answer_at, answer_to, first_lines, keeping, plain_answer, response, up_to_length};
 
+use crate::form::{Form, form_of, path_of};
 use crate::head::{asks_get, asks_socket, path_in};
 use game_sheet::NoMemory;
 use itoa::Buffer;
@@ -16,9 +18,12 @@ const NOT_FOUND: &[u8] =
 const NOT_ALLOWED: &[u8] =
     b"HTTP/1.1 405 Method Not Allowed\r\nAllow: GET\r\nConnection: close\r\nContent-Type: text/plain\r\nContent-Length: 12\r\n\r\nNot allowed\n";
 
-/// The first lines of an answer, up to the policy.
-const FIRST: &[u8] =
-    b"HTTP/1.1 200 OK\r\nConnection: close\r\nCache-Control: no-cache\r\nX-Content-Type-Options: nosniff\r\nReferrer-Policy: no-referrer\r\nContent-Security-Policy: ";
+/// The first lines of an answer, up to how long a browser keeps it.
+const UP_TO_KEEPING: &[u8] = b"HTTP/1.1 200 OK\r\nConnection: close\r\nCache-Control: ";
+
+/// The lines behind that, up to the policy.
+const UP_TO_POLICY: &[u8] =
+    b"\r\nX-Content-Type-Options: nosniff\r\nReferrer-Policy: no-referrer\r\nContent-Security-Policy: ";
 
 /// What a browser may do with a file: run and show what came from here, and connect to here.
 const POLICY: &[u8] =
@@ -32,13 +37,13 @@ pub struct Page {
 }
 
 impl Page {
-    /// The file at a path, as `/main.js`, of a kind, as `text/javascript`.
-    pub fn new(alloc: Global, path: &str, kind: &str, body: &[u8]) -> Result<Page, NoMemory>
-        ensures path { IfOk result (λ p. p.path.items ≡ path.now) }
-        ensures answer { IfOk result (λ p. p.answer.items ≡ response kind.now body.now) }
+    /// The file of this name in the folder, as `boards/pig.js`, of a kind, as `text/javascript`; its form and its path are those of its name.
+    pub fn new(alloc: Global, name: &[u8], kind: &str, body: &[u8]) -> Result<Page, NoMemory>
+        ensures path { IfOk result (λ p. p.path.items ≡ path_of name.now) }
+        ensures answer { IfOk result (λ p. p.answer.items ≡ response (form_of name.now) kind.now body.now) }
     {
-        let path = Vec::from_slice(alloc, path.as_bytes())?;
-        match response(alloc, kind, body) {
+        let path = path_of(alloc, name)?;
+        match response(alloc, form_of(name), kind, body) {
             Ok(answer) => Ok(Page { path, answer }),
             Err(NoMemory) => {
                 drop(path);
@@ -83,13 +88,13 @@ impl Pages {
     }
 }
 
-/// The whole answer with a file of a kind.
-fn response(alloc: Global, kind: &str, body: &[u8]) -> Result<Vec<u8>, NoMemory>
-    ensures { IfOk result (λ answer. answer.items ≡ response kind.now body.now) }
+/// The whole answer with a file of a form and a kind.
+fn response(alloc: Global, form: Form, kind: &str, body: &[u8]) -> Result<Vec<u8>, NoMemory>
+    ensures { IfOk result (λ answer. answer.items ≡ response form kind.now body.now) }
 {
     let mut digits = Buffer::new();
     let count = digits.format(body.len());
-    let mut answer = lines_up_to_length(alloc, kind)?;
+    let mut answer = lines_up_to_length(alloc, form, kind)?;
     answer.extend_from_slice(count.as_bytes())?;
     answer.extend_from_slice(b"\r\n\r\n")?;
     answer.extend_from_slice(body)?;
@@ -97,24 +102,37 @@ fn response(alloc: Global, kind: &str, body: &[u8]) -> Result<Vec<u8>, NoMemory>
 }
 
 /// The lines of an answer up to its length.
-fn lines_up_to_length(alloc: Global, kind: &str) -> Result<Vec<u8>, NoMemory>
-    ensures { IfOk result (λ lines. lines.items ≡ up_to_length kind.now) }
+fn lines_up_to_length(alloc: Global, form: Form, kind: &str) -> Result<Vec<u8>, NoMemory>
+    ensures { IfOk result (λ lines. lines.items ≡ up_to_length form kind.now) }
 {
-    let mut lines = first_lines(alloc)?;
+    let mut lines = first_lines(alloc, form)?;
     lines.extend_from_slice(kind.as_bytes())?;
     lines.extend_from_slice(b"\r\nContent-Length: ")?;
     Ok(lines)
 }
 
 /// The lines of an answer up to its kind.
-fn first_lines(alloc: Global) -> Result<Vec<u8>, NoMemory>
-    ensures { IfOk result (λ lines. lines.items ≡ first_lines) }
+fn first_lines(alloc: Global, form: Form) -> Result<Vec<u8>, NoMemory>
+    ensures { IfOk result (λ lines. lines.items ≡ first_lines form) }
 {
     let mut lines = Vec::new(alloc);
-    lines.extend_from_slice(FIRST)?;
+    lines.extend_from_slice(UP_TO_KEEPING)?;
+    lines.extend_from_slice(keeping(form))?;
+    lines.extend_from_slice(UP_TO_POLICY)?;
     lines.extend_from_slice(POLICY)?;
     lines.extend_from_slice(b"\r\nContent-Type: ")?;
     Ok(lines)
+}
+
+/// How long a browser keeps a file, and how it is packed.
+fn keeping(form: Form) -> &'static [u8]
+    ensures { result.now ≡ keeping form }
+{
+    match form {
+        Form::Visited => b"no-cache",
+        Form::Kept => b"public, max-age=31536000, immutable",
+        Form::Packed => b"public, max-age=31536000, immutable\r\nContent-Encoding: gzip",
+    }
 }
 
 /// What is answered to a head that asks for no WebSocket.
