@@ -35,7 +35,9 @@ fn announce(rt: &HostRuntime, unsaid: Option<Addresses>) {
 /// What is noted of a door: where it listens, and what is counted of its links, if that is counted.
 #[derive(Clone, Copy)]
 pub struct Notes<'a> {
+    /// Where it listens.
     pub addresses: Addresses,
+    /// What counts its links, if they are counted.
     pub tally: Option<&'a Tally>,
 }
 
