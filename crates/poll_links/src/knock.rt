@@ -3,7 +3,7 @@
 use crate::each_second::EachSecond;
 use mio::net::{TcpListener, TcpStream};
 use std::io;
-use std::io::ErrorKind;
+use std::io::{Eprint, ErrorKind};
 use std::rt::Clock;
 
 /// What came of asking for a connection.
@@ -31,15 +31,12 @@ const GONE: [i32; 3] = [9, 22, 88];
 /// How many connections that failed before they were taken one call passes over.
 const TRIES: u32 = 64;
 
-/// What the listener answers, if it is there, past connections that failed before they were taken. Errors are said on standard error, once a second.
+/// What the listener answers, past connections that failed before they were taken. Errors are said on standard error, once a second.
 pub(crate) fn asked<C: Clock + Eprint>(
-    listener: &Option<TcpListener>,
+    listener: &TcpListener,
     system: &C,
     errors: &mut EachSecond,
 ) -> Knock {
-    let Some(listener) = listener else {
-        return Knock::Gone;
-    };
     for _ in 0..TRIES {
         match asked_once(listener, system, errors) {
             Knock::Lost => {}

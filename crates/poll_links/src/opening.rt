@@ -11,7 +11,7 @@ use mio::net::TcpListener;
 use mio::{Interest, Poll, Waker};
 use std::alloc::Global;
 use std::io;
-use std::io::ErrorKind;
+use std::io::{Eprint, ErrorKind};
 use std::net::{Net, SocketAddr};
 use std::rt::Clock;
 use std::sync::Arc;

@@ -11,7 +11,7 @@ use board_links::{Door, Link, SessionEnd, Visit};
 use mio::net::TcpListener;
 use std::alloc::Global;
 use std::io;
-use std::io::ErrorKind;
+use std::io::{Eprint, ErrorKind};
 use std::net::SocketAddr;
 use std::rt::Clock;
 use std::sync::{Arc, Wait};
@@ -76,6 +76,16 @@ impl<C: Clock + Eprint + Copy + Drop> PollDoor<C> {
             None => Err(io::Error::from(ErrorKind::NotConnected)),
         }
     }
+
+    /// What the listener answers, past connections that failed before they were taken.
+    fn ask(&mut self) -> Knock
+        ensures { self.new ≡ record self.old { errors = self.new.errors } }
+    {
+        match &self.listener {
+            Some(listener) => asked(listener, &self.system, &mut self.errors),
+            None => Knock::Gone,
+        }
+    }
 }
 
 impl<C: Clock + Eprint + Copy + Drop> Door for PollDoor<C> {
@@ -96,12 +106,12 @@ impl<C: Clock + Eprint + Copy + Drop> Door for PollDoor<C> {
     ghost returned = { λ _. None };
 
     fn accept<R: Wait>(&mut self, _rt: &R) -> Visit<PollLink<C>> {
-        if self.given >= self.sessions {
-            self.listener = None;
-            self.faults = self.faults.saturating_add(1);
-            return Visit::Failed;
-        }
-        match asked(&self.listener, &self.system, &mut self.errors) {
+        let answer = if self.given < self.sessions {
+            self.ask()
+        } else {
+            Knock::Gone
+        };
+        match answer {
             Knock::Came(stream) => {
                 self.given += 1;
                 if self.given >= self.sessions {
