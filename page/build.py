@@ -38,7 +38,7 @@ class Module:
     """A module of the page: its code without comments, in which what it takes from others and gives to them is still to be written."""
 
     def __init__(self, name, text):
-        self.name, self.lines, self.stands_on, self.gives = name, [], [], []
+        self.name, self.lines, self.stands_on, self.gives = name, [], [], {}
         for number, line in enumerate(without_comments(name, text), 1):
             try:
                 self.add(line)
@@ -49,16 +49,17 @@ class Module:
 
     def add(self, line):
         if found := IMPORT.fullmatch(line):
-            self.lines.append(f"const {taken(found['what'])} = {self.other(found['path'])};")
+            self.lines.append(f"const {taken(found['what'])} = {self.other(found['path'], wanted(found['what']))};")
         elif found := PASSED_ON.fullmatch(line):
-            self.lines.append(f"const {{ {found['names']} }} = {self.other(found['path'])};")
-            self.gives += found["names"].split(", ")
+            names = found["names"].split(", ")
+            self.lines.append(f"const {{ {found['names']} }} = {self.other(found['path'], names)};")
+            self.gives |= {one: one for one in names}
         elif found := DEFAULT.fullmatch(line):
             self.lines.append(f"const $default = {found['rest']}")
-            self.gives.append("default: $default")
+            self.gives["default"] = "default: $default"
         elif found := EXPORT.fullmatch(line):
             self.lines.append(found["rest"])
-            self.gives.append(found["name"])
+            self.gives[found["name"]] = found["name"]
         elif re.match(r"(?:import|export)\b(?![(.])", line):
             raise Unfit("this form is not known")
         elif re.search(r"\$[A-Za-z_]", line):
@@ -66,16 +67,17 @@ class Module:
         else:
             self.lines.append(line)
 
-    def other(self, path):
+    def other(self, path, names):
+        """What another module gives, of which these names are wanted."""
         name = os.path.normpath(os.path.join(os.path.dirname(self.name), path))
-        self.stands_on.append(name)
+        self.stands_on.append((name, names))
         return called(name)
 
     def code(self):
         """A call that runs the module and gives what it exports, so that its own names are its own."""
         if not self.gives:
             return "{\n" + "\n".join(self.lines) + "\n}\n"
-        return f"const {called(self.name)} = (() => {{\n" + "\n".join(self.lines) + f"\nreturn {{ {', '.join(self.gives)} }};\n}})();\n"
+        return f"const {called(self.name)} = (() => {{\n" + "\n".join(self.lines) + f"\nreturn {{ {', '.join(self.gives.values())} }};\n}})();\n"
 
 
 def called(name):
@@ -88,6 +90,13 @@ def taken(what):
     if what.startswith("*"):
         return what.removeprefix("* as ")
     return what.replace(" as ", ": ") if what.startswith("{") else f"{{ default: {what} }}"
+
+
+def wanted(what):
+    """The names that an import wants of its module; none of one that takes the module whole."""
+    if what.startswith("*"):
+        return []
+    return [one.split(" as ")[0] for one in what.strip("{ }").split(", ")] if what.startswith("{") else ["default"]
 
 
 def without_comments(name, text):
@@ -109,15 +118,18 @@ def bundled(files):
             raise Unfit(f"there is no page/{name}")
         begun.append(name)
         module = Module(name, files[name].decode())
-        for other in module.stands_on:
+        for other, names in module.stands_on:
             put(other)
-        modules[name] = module.code()
+            for one in names:
+                if one not in modules[other].gives:
+                    raise Unfit(f"page/{name} wants {one} of page/{other}, which doesn't give it")
+        modules[name] = module
 
     put(ENTRY)
     left = sorted(name for name in files if name.endswith(".js") and name not in modules)
     if left:
         raise Unfit(f"nothing imports page/{left[0]}")
-    return "".join(modules.values())
+    return "".join(module.code() for module in modules.values())
 
 
 def replaced(text, old, new, where):
