@@ -1,4 +1,4 @@
-.PHONY: program demo serve served page play try host page-test test quick-test edits check bench dist clients-test
+.PHONY: program demo serve served page packed play try host page-test test quick-test edits check bench dist clients-test
 
 SHELL := bash
 .SHELLFLAGS := -o pipefail -c
@@ -56,7 +56,11 @@ page/page_program.wasm: $(wildcard page/wasm/*) crates.txt $(shell find crates -
 	@crates/page_program/out/page_program <crates/page_program/stdin | cmp - crates/page_program/stdout
 	@page/wasm/compile.sh crates/page_program/out/page_program.bc $@
 
-# Makes an archive and a Debian package of the proved program, the page, the clients and the documents.
+# Packs the page, with the client that guesses ahead where it was made, into the few files of out/page that are served.
+packed:
+	@page/build.py >/dev/null
+
+# Makes an archive and a Debian package of the proved program, the packed page, the clients and the documents.
 dist: program page
 	@deploy/dist.py
 
@@ -71,14 +75,15 @@ BOTS ?= tic-tac-toe
 SEATS ?= 2
 PACE ?= 3
 PLAY_LINKS ?= 32
-SERVES := --ws --page page --links $(PLAY_LINKS) --bots $(BOTS) --seats $(SEATS) --pace $(PACE)
+SERVES := --ws --page out/page --links $(PLAY_LINKS) --bots $(BOTS) --seats $(SEATS) --pace $(PACE)
 play: program page
+	@page/build.py >/dev/null
 	@echo "Play at http://$(LISTEN)/"
 	@echo "$(SEATS) bots wait in match 0-1, $(BOTS): ask one of them for its seat, and play against the other."
 	@$(SERVER) serve --listen $(LISTEN) $(SERVES)
 
 # The same in a minute or two, and later at once, by a program that is built without a proof; without page_program.wasm the page guesses nothing ahead.
-try:
+try: packed
 	@checks/try_server.py $(LISTEN) $(SERVES)
 
 # Serves an evening with friends: the page and 64 matches, kept in ROOMS, at all addresses of this machine, which it prints.
@@ -86,6 +91,7 @@ try:
 PORT ?= 7000
 ROOMS ?= rooms
 host: $(if $(filter no,$(PROVED)),,program page)
+	@page/build.py >/dev/null
 	@SARPUNTXE_ROOMS="$(abspath $(ROOMS))" SARPUNTXE_BOTS="$(if $(filter file,$(origin BOTS)),,$(BOTS) $(SEATS))" \
 	  SARPUNTXE_UNPROVED="$(filter no,$(PROVED))" deploy/host.sh $(PORT)
 

@@ -5,8 +5,9 @@
 
 The round trips are of 0, 50, 100 and 200 ms if none are named. Each time is the least of N visits, 5 if that isn't said, since whatever else
 the machine does can only add to it.
-It starts the server with the page, and headless Chromium (CHROMIUM names another). A first visit is one of a browser that keeps nothing yet.
-A page is there once it shows the games of the lobby, or the board of a match; the time counts from the navigation on.
+It packs the page, and starts a server with the packed one, another with the plain files of page/, and headless Chromium (CHROMIUM names another).
+A first visit is one of a browser that keeps nothing yet. A page is there once it shows the games of the lobby, or the board of a match;
+a lobby is whole once it shows the matches, too. Times count from the navigation on. Connections and bytes, each way, are those of a whole lobby.
 """
 import asyncio
 import json
@@ -21,20 +22,22 @@ import threading
 import time
 
 HERE = os.path.dirname(os.path.abspath(__file__))
-sys.path.insert(0, os.path.join(HERE, "../clients/python"))
+sys.path[:0] = [os.path.join(HERE, "../clients/python"), os.path.join(HERE, "../page")]
+import build  # noqa: E402
 import sarpuntxe  # noqa: E402
 
-PAGE = os.path.join(HERE, "../page")
 TRIPS = [0, 50, 100, 200]
 PATIENCE = 60.0
-# Notes when the first element of a selector is there.
+# Notes when the first element of each selector is there.
 WATCH = """(() => {
-  const look = () => {
-    if (window.shownAfter === undefined && document.querySelector(%s)) window.shownAfter = performance.now();
-  };
+  const wanted = %s;
+  window.shownAfter = wanted.map(() => null);
+  const look = () => wanted.forEach((one, at) => {
+    if (window.shownAfter[at] === null && document.querySelector(one)) window.shownAfter[at] = performance.now();
+  });
   new MutationObserver(look).observe(document, { subtree: true, childList: true, attributes: true });
 })()"""
-LOBBY, MATCH = ".game", ".match:not([hidden]) .board > *"
+LOBBY, MATCH = [".game", ".matches li"], [".match:not([hidden]) .board > *"]
 
 
 class Relay:
@@ -121,17 +124,19 @@ class Browser:
             sys.exit(f"loading.py: {method}: {said['error']['message']}")
         return said["result"]
 
-    def visits(self, url, selector, count):
-        """Opens a page so many times in a browser that kept nothing before, and returns how many milliseconds each took until it was there."""
+    def visits(self, url, selectors, count, seen=lambda: None):
+        """Opens a page so many times in a browser that kept nothing before, and returns how many milliseconds each took until each selector was
+        there. It calls `seen` after each."""
         context = self.call("Target.createBrowserContext")["browserContextId"]
         target = self.call("Target.createTarget", url="about:blank", browserContextId=context)["targetId"]
         session = self.call("Target.attachToTarget", targetId=target, flatten=True)["sessionId"]
         self.call("Page.enable", session)
-        self.call("Page.addScriptToEvaluateOnNewDocument", session, source=WATCH % json.dumps(selector))
+        self.call("Page.addScriptToEvaluateOnNewDocument", session, source=WATCH % json.dumps(selectors))
         took = []
         for _ in range(count):
             self.call("Page.navigate", session, url=url)
             took.append(self.shown_after(session, url))
+            seen()
             self.call("Page.navigate", session, url="about:blank")
         self.call("Target.disposeBrowserContext", browserContextId=context)
         return took
@@ -140,7 +145,7 @@ class Browser:
         end = time.monotonic() + PATIENCE
         while time.monotonic() < end:
             found = self.call("Runtime.evaluate", session, expression="window.shownAfter ?? null", returnByValue=True)["result"].get("value")
-            if found is not None:
+            if found and None not in found:
                 return found
             time.sleep(0.02)
         sys.exit(f"loading.py: {url} was not there after {PATIENCE:.0f} seconds")
@@ -151,9 +156,9 @@ class Browser:
         shutil.rmtree(self.profile, ignore_errors=True)
 
 
-def start(program):
-    """The server with the page, and its port."""
-    words = ["serve", "--listen", "127.0.0.1:0", "--ws", "--page", PAGE, "--links", "128"]
+def start(program, folder):
+    """The server with the page of a folder, and its port."""
+    words = ["serve", "--listen", "127.0.0.1:0", "--ws", "--page", folder, "--links", "128"]
     process = subprocess.Popen([program, *words], stderr=subprocess.PIPE, text=True)
     for line in process.stderr:
         if line.startswith("listening on "):
@@ -162,19 +167,39 @@ def start(program):
 
 
 def row(browser, port, match, trip, times):
-    """A row of the table: what visits through a relay of this round trip take."""
+    """A row of the table: what visits through a relay of this round trip take, and how many connections and bytes the first two take."""
     relay = Relay(port, trip / 1_000)
-    page, firsts, seconds, matches, connections, sent = f"http://127.0.0.1:{relay.port}/", [], [], [], [], []
+    page, lobbies, matches, counts = f"http://127.0.0.1:{relay.port}/", [], [], []
+
+    def seen():
+        time.sleep(0.3 + 3 * trip / 1_000)
+        counts[-1].append((relay.connections, relay.bytes))
+
     for _ in range(times):
-        before = relay.connections, relay.bytes
-        firsts += browser.visits(page, LOBBY, 1)
-        connections.append(relay.connections - before[0])
-        sent.append(relay.bytes - before[1])
-        seconds.append(browser.visits(page, LOBBY, 2)[1])
+        counts.append([(relay.connections, relay.bytes)])
+        lobbies.append(browser.visits(page, LOBBY, 2, seen))
         matches += browser.visits(f"{page}?match={match}", MATCH, 1)
-    least = [f"{min(took) / 1_000:.2f} s" for took in (firsts, seconds, matches)]
-    counts = [f"{min(connections)}", f"{min(sent) / 1_024:.0f} KB"]
-    return " | ".join([f"{trip} ms", *least, *counts])
+    took = [min(one[visit][at] for one in lobbies) for visit in (0, 1) for at in (0, 1)] + [min(one[0] for one in matches)]
+    least = [[min(one[visit + 1][at] - one[visit][at] for one in counts) for visit in (0, 1)] for at in (0, 1)]
+    return " | ".join([
+        f"{trip} ms", *[f"{one / 1_000:.2f} s" for one in took],
+        f"{least[0][0]}, then {least[0][1]}", f"{least[1][0] / 1_024:.0f} KB, then {least[1][1] / 1_024:.0f} KB",
+    ])
+
+
+def measured(browser, program, folder, trips, times):
+    """A line of the table for each round trip, of a server with the page of a folder."""
+    process, port = start(program, folder)
+    try:
+        with sarpuntxe.connect(f"ws://127.0.0.1:{port}/") as server:
+            match = server.create("tic-tac-toe", 2)
+        # The first page of a browser that has just begun takes longer than any other.
+        browser.visits(f"http://127.0.0.1:{port}/", LOBBY, 1)
+        for trip in trips:
+            yield row(browser, port, match, trip, times)
+    finally:
+        process.kill()
+        process.wait()
 
 
 def main(program, *words):
@@ -188,21 +213,17 @@ def main(program, *words):
             trips.append(int(word))
     # Whoever stops it stops the server and the browser, too.
     signal.signal(signal.SIGTERM, lambda *_: sys.exit(143))
-    process, port = start(program)
+    build.main()
     browser = Browser()
     try:
-        with sarpuntxe.connect(f"ws://127.0.0.1:{port}/") as server:
-            match = server.create("tic-tac-toe", 2)
-        # The first page of a browser that has just begun takes longer than any other.
-        browser.visits(f"http://127.0.0.1:{port}/", LOBBY, 1)
-        print("| round trip | the lobby, first visit | the lobby, once more | a match by its link | connections | bytes |")
-        print("|---|---|---|---|---|---|")
-        for trip in trips or TRIPS:
-            print(f"| {row(browser, port, match, trip, times)} |", flush=True)
+        print("| files | round trip | the lobby, first visit | with its matches | the lobby, once more | with its matches | a match by its link "
+              "| connections | bytes |")
+        print("|---|---|---|---|---|---|---|---|---|")
+        for what, folder in (("packed", build.OUT), ("plain", build.PAGE)):
+            for line in measured(browser, program, folder, trips or TRIPS, times):
+                print(f"| {what} | {line} |", flush=True)
     finally:
         browser.close()
-        process.kill()
-        process.wait()
 
 
 if __name__ == "__main__":

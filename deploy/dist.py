@@ -5,7 +5,7 @@
     deploy/dist.py --unproved FILE    of another program, to try this script; the names and BUILD then say so
 
 Two runs over one commit and one program make the same bytes: files are sorted, all times are the commit's, all owners are root.
-It takes the committed files alone. It needs git, rt and dpkg-deb.
+It takes the committed files alone, and packs the page. It needs git, rt and dpkg-deb.
 """
 import gzip
 import hashlib
@@ -18,13 +18,16 @@ import tarfile
 import tempfile
 
 TOP = os.path.dirname(os.path.dirname(os.path.abspath(__file__)))
+sys.path.insert(0, f"{TOP}/page")
+import build  # noqa: E402
+
 OUT = f"{TOP}/out/dist"
 PROGRAM = f"{TOP}/crates/board_server/out/board_server"
-WASM = "page/page_program.wasm"
+WASM = "page_program.wasm"
 # What of the committed files is in a release.
 FOLDERS = ("clients/", "deploy/", "docs/", "examples/", "page/")
 FILES = ("README.md", "CHANGELOG.md", "SECURITY.md", "LICENSE", "VERSION")
-LEFT_OUT = ("page/test/", "page/wasm/", "deploy/dist.py", "deploy/try_dist.py", "clients/check_lines.py")
+LEFT_OUT = ("page/test/", "page/wasm/", "page/build.py", "deploy/dist.py", "deploy/try_dist.py", "clients/check_lines.py")
 
 
 def said(*words):
@@ -43,6 +46,15 @@ def committed():
     if changed:
         sys.exit(f"dist.py: these files are changed and not committed:\n{changed}")
     return {name: content(f"{TOP}/{name}") for name in names if not name.startswith(LEFT_OUT)}
+
+
+def packed(files):
+    """The same files, the page packed, with the client that guesses ahead where it was made."""
+    page = {name.removeprefix("page/"): held for name, held in files.items() if name.startswith("page/")}
+    if os.path.isfile(f"{TOP}/page/{WASM}"):
+        page[WASM] = content(f"{TOP}/page/{WASM}")
+    others = {name: held for name, held in files.items() if not name.startswith("page/")}
+    return others | {f"page/{name}": held for name, held in build.pack(page).items()}
 
 
 def licences():
@@ -87,9 +99,13 @@ def built(program, files, proved):
         lines.append(f"proved crates: {' '.join(crates_below('board_server'))}")
     else:
         lines.append("NOT PROVED: this program was built without its proofs. It is no release.")
-    lines.append(f"the page's client that guesses ahead: {'in page/, proved' if WASM in files else 'not in this archive'}")
+    lines.append(f"the page's client that guesses ahead: {'in page/, proved' if guesses(files) else 'not in this archive'}")
     lines += ["", "To make the same bytes again, with that toolchain, at that commit:", "", "    make program page", "    make dist", ""]
     return "\n".join(lines).encode()
+
+
+def guesses(files):
+    return any(name.startswith("page/page_program.") for name in files)
 
 
 def newest_symbol(program):
@@ -171,11 +187,9 @@ def main(*words):
         sys.exit(f"dist.py: there is no {os.path.relpath(program, TOP)}: a release is of the proved program, which `make program` makes")
     with open(f"{TOP}/VERSION", encoding="utf-8") as file:
         version = file.read().strip()
-    files, time = committed(), int(said("git", "log", "-1", "--format=%ct"))
+    files, time = packed(committed()), int(said("git", "log", "-1", "--format=%ct"))
     files["board_server"] = content(program)
     files["host.sh"] = files["deploy/host.sh"]
-    if os.path.isfile(f"{TOP}/{WASM}"):
-        files[WASM] = content(f"{TOP}/{WASM}")
     files |= licences()
     files["BUILD"] = built(program, files, proved)
     files["SHA256SUMS"] = sums(files)

@@ -16,7 +16,7 @@ esac
 first() {
   for one in "$@"; do [ -e "$one" ] && { echo "$one"; return; }; done
 }
-page=$(first "$here/page" "$here/../page" /usr/share/sarpuntxe/page)
+page=$(first "$here/page" "$here/../out/page" "$here/../page" /usr/share/sarpuntxe/page)
 if [ -n "$SARPUNTXE_UNPROVED" ]; then
   serve="$here/../checks/try_server.py"
   set -- "0.0.0.0:$port"

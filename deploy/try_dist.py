@@ -71,9 +71,10 @@ def tries(root, program, page, sarpuntxe):
     server = Running(root, program, "--ws", "--page", page, "--keep", rooms, "--links", "64")
     names = NAMED.findall(fetch(server.port, "").decode())
     for name in names:
-        with open(f"{root}{page}/{name}", "rb") as file:
+        packed = f"{root}{page}/{name}.gz"
+        with open(packed if os.path.exists(packed) else packed.removesuffix(".gz"), "rb") as file:
             assert fetch(server.port, name) == file.read(), f"{name} is another one"
-    assert len(names) > 20, f"the page names {len(names)} files"
+    assert len(names) == 3, f"the page names {len(names)} files"
     address = f"ws://127.0.0.1:{server.port}/"
     with sarpuntxe.connect(address) as lobby:
         match = lobby.create("tic-tac-toe", 2)

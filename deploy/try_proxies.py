@@ -3,7 +3,7 @@
 
     deploy/try_proxies.py PROGRAM [caddy | nginx | haproxy] ..
 
-It changes nothing in them but ports, paths and names. Through each proxy it fetches the page and its files, plays a match of Pig over TLS,
+It changes nothing in them but ports, paths and names. Through each proxy it fetches the packed page and its files, plays a match of Pig over TLS,
 restarts the server, which keeps its rooms, and plays on. It needs openssl, and the proxies that it is to try.
 """
 import os
@@ -20,9 +20,10 @@ import urllib.request
 
 HERE = os.path.dirname(os.path.abspath(__file__))
 sys.path.insert(0, os.path.join(HERE, "../clients/python"))
+sys.path.insert(0, os.path.join(HERE, "../page"))
+import build  # noqa: E402
 import sarpuntxe  # noqa: E402
 
-PAGE = os.path.join(HERE, "../page")
 LINK = re.compile(r'(?:src|href)="([^"?#:]+\.(?:js|css|svg))"')
 
 
@@ -46,7 +47,7 @@ def started(words, port, **more):
 
 def serve(program, port, rooms):
     os.makedirs(rooms, exist_ok=True)
-    words = [program, "serve", "--listen", f"127.0.0.1:{port}", "--ws", "--page", PAGE, "--keep", rooms, "--rooms", "64", "--links", "64"]
+    words = [program, "serve", "--listen", f"127.0.0.1:{port}", "--ws", "--page", build.OUT, "--keep", rooms, "--rooms", "64", "--links", "64"]
     return started(words, port, stderr=subprocess.DEVNULL)
 
 
@@ -95,7 +96,7 @@ def write(path, text):
 
 def fetch(url):
     with urllib.request.urlopen(url, timeout=10) as answer:
-        return answer.read().decode(), answer.geturl()
+        return answer.read(), answer.geturl()
 
 
 def play(address, places, most):
@@ -111,7 +112,7 @@ def play(address, places, most):
     return players
 
 
-def tried(name, program, room):
+def tried(name, program, room, made):
     inner, outer = free_port(), free_port()
     words, path = globals()[name](room, inner, outer)
     server = serve(program, inner, f"{room}/rooms")
@@ -120,11 +121,11 @@ def tried(name, program, room):
     os.environ["SSL_CERT_FILE"] = f"{room}/cert.pem"
     base = f"https://localhost:{outer}{path}"
     try:
-        page, at = fetch(base)
+        page = fetch(base)[0].decode()
         files = LINK.findall(page)
-        assert "Sarpuntxe" in page and len(files) > 2, "no page"
+        assert "Sarpuntxe" in page and len(files) == 3, "no page"
         for file in files:
-            fetch(base + file)
+            assert fetch(base + file)[0] == made.get(file, made.get(f"{file}.gz")), f"{file} is another one"
         if path != "/":
             assert fetch(base.rstrip("/"))[1] == base, "no slash is added"
         try:
@@ -156,6 +157,7 @@ def tried(name, program, room):
 
 
 def main(program, *names):
+    made = build.main()
     for name in names or ("caddy", "nginx", "haproxy"):
         if not shutil.which(name):
             print(f"left out {name}: it is not installed")
@@ -169,7 +171,7 @@ def main(program, *names):
                     with open(f"{room}/{part}.pem", "rb") as file:
                         both.write(file.read())
             os.chmod(room, 0o755)
-            tried(name, os.path.abspath(program), room)
+            tried(name, os.path.abspath(program), room, made)
 
 
 if __name__ == "__main__":

@@ -62,7 +62,7 @@ export class Bell {
     this.#play();
     if (!document.hidden || notices()?.permission !== "granted") return;
     try {
-      this.#notice = new (notices())("Your turn", { body: title, icon: "icon.svg", tag: location.href });
+      this.#notice = new (notices())("Your turn", { body: title, icon: document.querySelector("link[rel=icon]").href, tag: location.href });
       this.#notice.onclick = () => { focus(); this.#notice.close(); };
     } catch {
       // Some phones have notifications for installed pages alone.

@@ -1,4 +1,5 @@
-// What the browser keeps: the key of the seat in each match of each server, the name that was last used, and whether one wants to be told of one's turn.
+// What the browser keeps: the key of the seat in each match of each server, the games of each, the name that was last used, and whether one wants to be
+// told of one's turn.
 // If the browser keeps nothing, as in some private windows, a seat lasts as long as the page.
 
 const memory = new Map();
@@ -22,6 +23,10 @@ export function forgetSeat(address, match) {
   memory.delete(place(address, match));
   try { localStorage.removeItem(place(address, match)); } catch { /* nothing is kept */ }
 }
+
+/** The games that a server had when it was last asked, or null. */
+export const keptGames = (address) => read(`games of ${address}`);
+export const keepGames = (address, names) => write(`games of ${address}`, names);
 
 export const lastName = () => read("name") ?? "";
 export const keepName = (name) => write("name", name);

@@ -1,8 +1,8 @@
 // The lobby: the games, their matches, and making one.
 import { linkTo } from "./address.js";
 import { button, element, keepingFocus, nameField, section, setText, unseen } from "./elements.js";
-import { gameNamed } from "./boards/index.js";
-import { forgetSeat, seatIn } from "./keys.js";
+import { gameNamed, knownGames } from "./boards/index.js";
+import { forgetSeat, keepGames, keptGames, seatIn } from "./keys.js";
 import * as lines from "./lines.js";
 import { beginMatch, isBot } from "./seats.js";
 import { listed, plain } from "./words.js";
@@ -10,7 +10,8 @@ import { listed, plain } from "./words.js";
 const REFRESH = 4_000;
 
 export class Lobby {
-  #place; #connection = null; #games = new Map(); #list; #alert; #timer; #onVisible; #asking = false; #name = nameField("player-name");
+  #place; #connection = null; #games = new Map(); #list; #alert; #timer; #onVisible; #asking = null; #name = nameField("player-name");
+  #isOpen = false; #later = null;
 
   constructor(place) {
     this.#place = place;
@@ -20,6 +21,7 @@ export class Lobby {
       "Write your name, make a match and send its link to your friends. Or take a free seat in one that is there.");
     place.main.replaceChildren(element("h1", { tabIndex: -1 }, "Matches"), intro, this.#name.element, this.#alert, this.#list);
     document.title = "Sarpuntxe";
+    this.#showGames(keptGames(place.address) ?? knownGames);
     // A connection takes one of the server's few places, so a lobby that nobody sees gives its place back.
     this.#onVisible = () => document.hidden ? this.#rest() : this.connect();
     document.addEventListener("visibilitychange", this.#onVisible);
@@ -30,7 +32,11 @@ export class Lobby {
   connect() {
     this.#rest();
     if (document.hidden) return;
-    this.#connection = this.#place.connect({ opened: () => this.#begin(), heard: () => {}, told: this.#place.told });
+    const told = (state, pause) => {
+      this.#isOpen = state === "open";
+      this.#place.told(state, pause);
+    };
+    this.#connection = this.#place.connect({ opened: () => this.#begin(), heard: () => {}, told });
   }
 
   close() {
@@ -41,7 +47,7 @@ export class Lobby {
 
   #rest() {
     this.#connection?.close();
-    this.#connection = null;
+    [this.#connection, this.#isOpen, this.#later] = [null, false, null];
     this.#place.told("rests");
   }
 
@@ -57,25 +63,34 @@ export class Lobby {
     }
   }
 
+  /** Asks at once for the matches of the games that are shown, and for the games. If those are others, it asks for the matches of these. */
   async #begin() {
-    const answer = await this.#ask(lines.games());
+    const later = this.#later;
+    this.#later = null;
+    const asked = this.#ask(lines.games()), refreshed = this.#refresh();
+    later?.();
+    const answer = await asked;
     if (!answer) return;
-    if ([...this.#games.keys()].join() !== answer.games.join()) {
-      this.#games = new Map(answer.games.map((name) => [name, this.#section(name)]));
-      this.#list.replaceChildren(...[...this.#games.values()].map((one) => one.section));
-    }
+    keepGames(this.#place.address, answer.games);
+    if ([...this.#games.keys()].join() === answer.games.join()) return;
+    await refreshed;
+    setText(this.#alert, "");
+    this.#showGames(answer.games);
     this.#refresh();
   }
 
+  #showGames(names) {
+    this.#games = new Map(names.map((name) => [name, this.#section(name)]));
+    this.#list.replaceChildren(...[...this.#games.values()].map((one) => one.section));
+  }
+
   /** Asks for the matches of each game, unless it still waits for those that it has asked for. */
-  async #refresh() {
-    if (this.#asking) return;
-    this.#asking = true;
-    await Promise.all([...this.#games].map(async ([name, parts]) => {
+  #refresh() {
+    this.#asking ??= Promise.all([...this.#games].map(async ([name, parts]) => {
       const answer = await this.#ask(lines.matches(name));
       if (answer) this.#showMatches(parts, answer.matches);
-    }));
-    this.#asking = false;
+    })).finally(() => { this.#asking = null; });
+    return this.#asking;
   }
 
   /** The part of a game: its rules, a form for a new match, its matches, and those that are over, folded. */
@@ -88,7 +103,7 @@ export class Lobby {
       element("button", { type: "submit", id: `new-${name}` }, "New match", unseen(` of ${game.title}`)));
     form.addEventListener("submit", (event) => { event.preventDefault(); this.#create(name, Number(seats.value)); });
     const matches = element("ul", { class: "matches", id: `matches-${name}` });
-    const none = element("p", { class: "quiet" }, "No match is on.");
+    const none = element("p", { class: "quiet" }, "Looking for matches …");
     const count = element("span");
     const summary = element("summary", {}, count, unseen(` of ${game.title}`));
     const finished = element("ul", { class: "matches", id: `finished-${name}` });
@@ -98,11 +113,15 @@ export class Lobby {
     return { section: whole, title: game.title, matches, none, finished, folded, count };
   }
 
-  /** Makes a match and sits down in it, once there is a name. */
+  /** Makes a match and sits down in it, once there is a name and the connection stands. Of what is asked for before that the last one is done. */
   async #create(game, seats) {
     setText(this.#alert, "");
     const name = this.#name.read();
     if (name === null) return;
+    if (!this.#isOpen) {
+      this.#later = () => this.#create(game, seats);
+      return;
+    }
     const answer = await beginMatch((line) => this.#ask(line), this.#place.address, game, seats, name);
     if (answer) this.#place.go(answer.match);
   }
@@ -110,6 +129,7 @@ export class Lobby {
   #showMatches({ section: whole, title, matches, none, finished, folded, count }, rows) {
     const over = rows.filter((row) => row.over), on = rows.filter((row) => !row.over);
     none.hidden = on.length > 0;
+    setText(none, "No match is on.");
     setText(count, `${over.length} finished`);
     keepingFocus(whole, () => {
       folded.hidden = over.length === 0;

@@ -34,6 +34,8 @@ const known = {
   "captions": captions,
 };
 
+/** The games that the page draws, in the order in which a server names them. */
+export const knownGames = Object.keys(known).sort();
 /** Whether the page draws a game, and so whether its program plays it. */
 export const isKnown = (name) => Object.hasOwn(known, name);
 export const gameNamed = (name) => ({ ahead: 1, ...(isKnown(name) ? known[name] : unknown(name)) });

@@ -163,7 +163,7 @@ export async function reasons(scene) {
   const lines = [...no.map((reason) => ({ type: "no", reason })), ...refused.map((reason) => ({ type: "refused", reason, field: null })),
     ...["left", "lagging"].map((why) => ({ type: "bye", why })), { type: "again", ticket: null }];
   const ann = await scene.browser.page("ann");
-  await ann.goto(scene.address);
+  await ann.goto(scene.files);
   const words = await ann.value(`import("./lines.js").then(({ inWords }) => ${JSON.stringify(lines)}.map(inWords))`);
   same(new Set(words).size, lines.length, "no two reasons have the same words");
   same(words.filter((one) => /server refused that|ended the session:|answered/.test(one)), [], "each reason is known");

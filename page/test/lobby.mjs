@@ -92,7 +92,7 @@ export async function gone(scene) {
 /** What the page's address says. */
 export async function addresses(scene) {
   const ann = await scene.browser.page("ann");
-  await ann.goto(scene.address);
+  await ann.goto(scene.files);
   const says = (expression) => ann.value(`import("./address.js").then(({ serverAddress, matchNamed, linkTo }) => ${expression})`);
   const at = (rest) => JSON.stringify({ search: "", protocol: "https:", host: "games.example:8443", pathname: "/r/07", ...rest });
   same(await says(`serverAddress(${at({})})`), "wss://games.example:8443/r/07", "the page's own host");

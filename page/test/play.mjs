@@ -1,8 +1,10 @@
 // node --experimental-websocket page/test/play.mjs [--pictures FOLDER] [NAME ..]
 //
 // Plays on the page in headless Chromium: every game by clicking, two players and a spectator each, and whatever can go wrong.
+// The server hands out the packed page, which is built anew in out/page first; pages from another host are the plain files of page/.
 // SARPUNTXE_PROGRAM names the program that serves, SARPUNTXE_SERVER a server that runs already, CHROMIUM the browser,
 // and PATIENCE how many milliseconds a page may take to show what is wanted.
+import { execFileSync } from "node:child_process";
 import { fileURLToPath } from "node:url";
 import { openBrowser } from "./browser.mjs";
 import { serveFiles } from "./files.mjs";
@@ -35,9 +37,12 @@ const here = (path) => fileURLToPath(new URL(path, import.meta.url));
 const words = process.argv.slice(2);
 const pictures = words[0] === "--pictures" ? words.splice(0, 2)[1] : null;
 const wanted = words.length ? words : Object.keys(PLAYS);
-const start = (...more) => startServer(here("../../crates/board_server/out/board_server"), here("../"), ...more);
+const packed = here("../../out/page"), plain = here("../");
+execFileSync("python3", [here("../build.py")], { stdio: ["ignore", "ignore", "inherit"] });
+const startWith = (folder, ...more) => startServer(here("../../crates/board_server/out/board_server"), folder, ...more);
+const start = (...more) => startWith(packed, ...more);
 const server = await start("--links", "64", "--rooms", "64");
-const files = await serveFiles(here("../"));
+const files = await serveFiles(plain);
 const browser = await openBrowser();
 const session = await Session.open(server.address);
 const scene = {
@@ -45,8 +50,8 @@ const scene = {
   // The page from the server itself; from another host, where a relay stands between, which the server's policy wouldn't let the page ask.
   address: server.page ? `${server.page}?guess=no` : pageAt(files.address, server.address),
   open: () => Session.open(server.address),
-  // Another server, of these words.
-  start,
+  // Another server, of these words, and one that hands out the files of a folder.
+  start, startWith, packed, plain,
 };
 let failed = 0;
 for (const name of wanted) {
