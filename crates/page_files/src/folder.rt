@@ -10,11 +10,11 @@ use std::io::{self, ErrorKind, Read};
 /// The page itself, which a folder of a page has.
 const INDEX: &str = "index.html";
 
-/// The folder of the games' boards, which a packed page does without.
-const BOARDS: &str = "boards/";
+/// Folders of a page, which a packed one does without: the games' boards, and the table on which they are drawn.
+const PARTS: [&str; 2] = ["boards/", "table/"];
 
-/// The files of the page in this folder, and in its `boards`. `/` is its `index.html`. Files of other kinds are left out, and so are names that begin
-/// with a dot. An Err is the system's, as where there is no `index.html`.
+/// The files of the page in this folder, and in its `boards` and `table`. `/` is its `index.html`. Files of other kinds are left out, and so are
+/// names that begin with a dot. An Err is the system's, as where there is no `index.html`.
 pub fn read_pages<R: Files + AllocGlobal + Clone + Drop>(
     rt: &R,
     folder: &str,
@@ -22,9 +22,11 @@ pub fn read_pages<R: Files + AllocGlobal + Clone + Drop>(
     let mut pages = Pages::new(rt.alloc());
     read_page(rt, &mut pages, folder, INDEX)?;
     read_folder(rt, &mut pages, folder, "")?;
-    match read_folder(rt, &mut pages, folder, BOARDS) {
-        Err(error) if error.kind() == ErrorKind::NotFound => {}
-        read => read?,
+    for part in PARTS {
+        match read_folder(rt, &mut pages, folder, part) {
+            Err(error) if error.kind() == ErrorKind::NotFound => {}
+            read => read?,
+        }
     }
     Ok(pages)
 }
@@ -89,7 +91,7 @@ fn kind_of(name: &str) -> Option<&'static str> {
     if name == INDEX {
         return Some("text/html; charset=utf-8");
     }
-    if name.starts_with(".") || name.starts_with("boards/.") {
+    if name.starts_with(".") || name.starts_with("boards/.") || name.starts_with("table/.") {
         return None;
     }
     let asked = asked_name(name.as_bytes());
