@@ -2,8 +2,9 @@
 """quick_test.py [programs | tests] [--all] [--keep FOLDER]: builds the programs and the tests without a proof, and runs them all.
 
 Two programs are built, side by side, each once. `quick_tests` is the tests of all crates of crates.txt that have some, and of checks/tests, each of them
-a module of one crate. `quick_programs` is board_server, and any other program where its first word is `as:NAME`. Then every test is run, every program
-on its own stdin, whose output must be its stdout, and each FILE of examples/ that has a FILE.out beside it, which must be what it prints.
+a module of one crate. `quick_programs` is board_server, and any other program, of crates.txt or checks/tests, where its first word is `as:NAME`.
+Then every test is run, every program on its own stdin, whose output must be its stdout, and each FILE of examples/ that has a FILE.out beside it, which
+must be what it prints.
 
 Tests that checks/tests/slow.txt names are left out, but for --all. --keep leaves what was built in a folder. What is built has its run-time checks in: an
 index out of bounds, an overflow or a failed prove! ends it. Nothing is proved here: a run that passes says nothing of a contract, which the gate does."""
@@ -21,6 +22,8 @@ from toolchain import KIT, ROOT, rtlib
 from unproved import build, libraries, run_words
 
 MOVED = f"{ROOT}/checks/tests"
+# What a program is run on and what it gives, beside its source in checks/tests.
+RUN_BY = ("args", "stdin", "stdout", "status")
 HEAD = "#![tactic(auto)]\n\n"
 # How board_server's main begins, before whose body the other programs are put.
 MAIN = "fn main(rt: HostRuntime) -> ExitCode {\n"
@@ -37,12 +40,11 @@ ARMS = """    if let Ok(given) = words(&rt) {{
 
 
 class Moved:
-    """A crate of tests in checks/tests: its name, its files, and what it stands on. The gate does not know it."""
-
-    is_program = False
+    """A crate in checks/tests, of tests or, with a main.rt.in, a program: its name, its files, and what it stands on. The gate does not know it."""
 
     def __init__(self, name, folder, of_kit, deps):
         self.name, self.folder, self.of_kit, self.deps = name, folder, ["std", *of_kit], deps
+        self.is_program = os.path.isfile(f"{folder}/main.rt.in")
 
     def below(self):
         found = []
@@ -59,7 +61,7 @@ def content(path, other=b""):
 
 
 def moved(crates):
-    """Returns the crates of tests in checks/tests, as checks/tests/tests.txt lists them."""
+    """Returns the crates in checks/tests, as checks/tests/tests.txt lists them."""
     by_name, found = {it.name: it for it in crates}, []
     for line in content(f"{MOVED}/tests.txt").decode().splitlines():
         head, colon, below = line.partition("#")[0].partition(":")
@@ -68,8 +70,8 @@ def moved(crates):
         name, below = head.split()[0], below.split()
         if name in by_name:
             sys.exit(f"quick_test.py: {name} stands in crates.txt and in checks/tests/tests.txt")
-        if not os.path.isfile(f"{MOVED}/{name}/lib.rt.in"):
-            sys.exit(f"quick_test.py: checks/tests/tests.txt lists {name}, and there is no checks/tests/{name}/lib.rt.in")
+        if not any(os.path.isfile(f"{MOVED}/{name}/{top}.rt.in") for top in ("lib", "main")):
+            sys.exit(f"quick_test.py: checks/tests/tests.txt lists {name}, and there is no lib.rt.in and no main.rt.in in checks/tests/{name}")
         for it in below:
             if it not in by_name and not os.path.isdir(f"{KIT}/rlibs/{it}.rlib"):
                 sys.exit(f"quick_test.py: checks/tests/tests.txt: {it} is no crate and no library of the toolchain")
@@ -81,12 +83,19 @@ def moved(crates):
     return found
 
 
+def main_of(crate):
+    """Returns the text of a program's main.rt."""
+    return content(f"{crate.folder}/main.rt.in" if isinstance(crate, Moved) else f"{crate.folder}/src/main.rt").decode()
+
+
 def as_module(crate, to):
     """Copies a crate as a module of another one: its root becomes a file NAME.rt, and the rest the folder NAME."""
     top = "main.rt" if crate.is_program else "lib.rt"
     source = crate.folder if isinstance(crate, Moved) else f"{crate.folder}/src"
     for at, _, names in os.walk(source):
         for name in names:
+            if at == source and crate.is_program and name in RUN_BY:
+                continue
             inside = os.path.relpath(f"{at}/{name}", source).removesuffix(".in")
             if not inside.endswith(".rt"):
                 sys.exit(f"quick_test.py: {at}/{name} is no file of Rattle")
@@ -115,7 +124,7 @@ def all_programs(server, others, to):
     arms = ""
     for crate in others:
         as_module(crate, to)
-        text = content(f"{crate.folder}/src/main.rt").decode()
+        text = main_of(crate)
         if "env::args" in text:
             sys.exit(f"quick_test.py: {crate.name} reads its words, of which the first is taken here")
         call = f"{crate.name}::main(rt)"
@@ -184,9 +193,10 @@ def main():
     asked = asked.parse_args()
     began = time.time()
     crates = rtlib.crates_below(f"{ROOT}/crates")
-    programs = sorted((it for it in crates if it.is_program), key=lambda it: it.name)
+    beside = moved(crates)
+    programs = sorted((it for it in [*crates, *beside] if it.is_program), key=lambda it: it.name)
     server = next(it for it in programs if it.name == "board_server")
-    tests = [*(it for it in crates if it.has_tests()), *moved(crates)]
+    tests = [*(it for it in crates if it.has_tests()), *(it for it in beside if not it.is_program)]
     failed, passed = [], 0
     with tempfile.TemporaryDirectory(prefix="sarpuntxe-") as room, concurrent.futures.ThreadPoolExecutor(2 + (os.cpu_count() or 2)) as pool:
 

@@ -198,7 +198,7 @@ def check_state(where, game, line):
 
 def check_value_cases():
     """The part `clients` of value_cases has a line on each line, and below it, indented, what it is read as."""
-    path = TOP / "crates/value_cases/stdout"
+    path = TOP / "checks/tests/value_cases/stdout"
     count, part, line = 0, "", None
     for text in path.read_text().split("\n"):
         if re.fullmatch(r"(== )?[a-z][a-z ]*", text):
