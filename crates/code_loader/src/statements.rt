@@ -4,12 +4,12 @@
 
 use crate::drafter::{Drafter, MOST_LEVELS};
 use crate::rounds::Within;
-use crate::scope::{Bound, Local, LocalSlot, Meaning, facts_of, facts_of_row};
+use crate::scope::{Bound, Local, LocalSlot, Meaning, facts_of_row};
 use crate::slots::{Wanted, Whole};
 use crate::text::CodeText;
 use crate::trouble::Trouble;
 use crate::work::WorkRow;
-use code_draft::{Bounds, Cost, Deed, Draft, Kind, ListDraft, PlaceDraft};
+use code_draft::{Bounds, Cost, Deed, Draft, Kind, ListDraft, PlaceDraft, Span as Rounds};
 use game_code::{ItemList, Wish};
 use game_frame::{ConstantKind, SlotType, TypeText};
 use game_sheet::{Arg, PhaseId, SpecId, StageId};
@@ -22,6 +22,35 @@ use slot_values::{Operator, Value};
 struct Rest {
     all: Many,
     from: usize,
+}
+
+/// `let NAME = e;` or `let NAME = die(e);`
+#[derive(Clone, Copy)]
+struct Binding {
+    name: Span,
+    /// The value, or the number of faces of the die.
+    value: Id,
+    is_die: bool,
+}
+
+/// A let whose name is in sight.
+#[derive(Drop)]
+struct Entered {
+    /// The value, or the number of faces of the die.
+    value: Draft,
+    is_die: bool,
+    /// How many names there were before it.
+    names: usize,
+}
+
+/// A loop whose name is in sight.
+#[derive(Drop)]
+struct Turns {
+    span: Rounds,
+    /// The item of each turn, where it goes over a list.
+    item: Option<Draft>,
+    /// Where its name stands.
+    at: usize,
 }
 
 impl Drafter<'_> {
@@ -52,65 +81,33 @@ impl Drafter<'_> {
                 break;
             }
             let id = code.child(rest.all, place).unwrap_or(0);
-            let after = Rest {
-                all: rest.all,
-                from: place.saturating_add(1),
-            };
-            match code.node(id).shape {
-                Shape::Let(name, value) => {
-                    let deed = self.let_then(code, (name, value), after, left - 1);
-                    self.maker.add(&mut row, deed);
-                    break;
-                }
-                Shape::LetDie(name, faces) => {
-                    let deed = self.roll_then(code, (name, faces), after, left - 1);
-                    self.maker.add(&mut row, deed);
-                    break;
-                }
-                _ => {
-                    let deed = self.statement(code, id, left - 1);
-                    self.maker.add(&mut row, deed);
-                }
+            if let Some(binding) = binding_at(code, id) {
+                let after = Rest {
+                    all: rest.all,
+                    from: place.saturating_add(1),
+                };
+                let deed = self.bound_then(code, binding, after, left - 1);
+                self.maker.add(&mut row, deed);
+                break;
             }
+            let deed = self.statement(code, id, left - 1);
+            self.maker.add(&mut row, deed);
         }
         self.maker.joined(row)
     }
 
-    /// `let NAME = e;` and what follows.
+    /// A let and what follows.
     #[cycle(deed)]
-    fn let_then(
+    fn bound_then(
         &mut self,
         code: &CodeText<'_>,
-        bound: (Span, Id),
+        binding: Binding,
         after: Rest,
         left: usize,
     ) -> Deed {
-        let names = self.names();
-        let value = self.bound(code, bound.0, bound.1, MOST_LEVELS);
+        let entered = self.enter_let(code, binding);
         let rest = self.block(code, after, left);
-        self.forget(names);
-        self.shallower();
-        self.maker.let_before(value, rest)
-    }
-
-    /// `let NAME = die(e);` and what follows.
-    #[cycle(deed)]
-    fn roll_then(
-        &mut self,
-        code: &CodeText<'_>,
-        bound: (Span, Id),
-        after: Rest,
-        left: usize,
-    ) -> Deed {
-        self.check_name(code, bound.0);
-        let faces = self.number(code, bound.1, MOST_LEVELS);
-        self.notes.draws = true;
-        let names = self.names();
-        self.enter(bound.0, Kind::Number, Bounds::UNKNOWN);
-        let rest = self.block(code, after, left);
-        self.forget(names);
-        self.shallower();
-        self.maker.roll_before(faces, rest)
+        self.leave_let(entered, rest)
     }
 
     /// A statement that nothing has inside but its own blocks.
@@ -128,27 +125,6 @@ impl Drafter<'_> {
         };
         self.check_limits(code, deed.cost.depth, node.at);
         deed
-    }
-
-    /// A statement without blocks.
-    fn plain(&mut self, code: &CodeText<'_>, node: Node) -> Deed {
-        match node.shape {
-            Shape::Var(name, value) => self.var(code, name, value),
-            Shape::VarSlot(name, slot) => self.var_slot(code, name, slot),
-            Shape::Put(place, value) => self.put(code, place, value),
-            Shape::PutDie(place, faces) => self.put_die(code, place, faces),
-            Shape::Add(place, value) => self.put_more(code, place, value, Operator::Plus),
-            Shape::Take(place, value) => self.put_more(code, place, value, Operator::Minus),
-            Shape::Change(change, arguments) => self.change(code, change, arguments, node.at),
-            Shape::Event(event, arguments) => self.event(code, event, arguments, node.at),
-            _ => {
-                self.fail(
-                    code,
-                    Trouble::hinted(FaultName::Syntax, node.at, Hint::Statement),
-                );
-                Deed::nothing()
-            }
-        }
     }
 
     /// `if e { .. } else ..`
@@ -179,6 +155,62 @@ impl Drafter<'_> {
             self.too_deep(code, code.at(binder));
             return Deed::nothing();
         }
+        match self.enter_loop(code, binder) {
+            Some(turns) => {
+                let body = self.block_at(code, block, left - 1);
+                self.leave_loop(code, turns, body)
+            }
+            None => Deed::nothing(),
+        }
+    }
+
+    /// The name of a let is in sight from now on.
+    fn enter_let(&mut self, code: &CodeText<'_>, binding: Binding) -> Entered {
+        if binding.is_die {
+            self.rolled(code, binding)
+        } else {
+            let names = self.names();
+            let value = self.bound(code, binding.name, binding.value, MOST_LEVELS);
+            Entered {
+                value,
+                is_die: false,
+                names,
+            }
+        }
+    }
+
+    /// The name of a die's face is in sight from now on.
+    fn rolled(&mut self, code: &CodeText<'_>, binding: Binding) -> Entered {
+        self.check_name(code, binding.name);
+        let faces = self.number(code, binding.value, MOST_LEVELS);
+        self.notes.draws = true;
+        let names = self.names();
+        self.enter(binding.name, Kind::Number, Bounds::UNKNOWN);
+        Entered {
+            value: faces,
+            is_die: true,
+            names,
+        }
+    }
+
+    /// A let with what follows, whose names are out of sight from now on.
+    fn leave_let(&mut self, entered: Entered, rest: Deed) -> Deed {
+        let Entered {
+            value,
+            is_die,
+            names,
+        } = entered;
+        self.forget(names);
+        self.shallower();
+        if is_die {
+            self.maker.roll_before(value, rest)
+        } else {
+            self.maker.let_before(value, rest)
+        }
+    }
+
+    /// The name of a loop is in sight from now on; none where there is no loop.
+    fn enter_loop(&mut self, code: &CodeText<'_>, binder: Id) -> Option<Turns> {
         match code.node(binder).shape {
             Shape::Within(name, from, to, last) => {
                 let within = Within {
@@ -187,38 +219,78 @@ impl Drafter<'_> {
                     to,
                     last,
                 };
-                self.for_span(code, within, block, left - 1)
+                Some(self.over_numbers(code, within))
             }
-            Shape::Among(name, list) => self.for_list(code, (name, list), block, left - 1),
-            _ => Deed::nothing(),
+            Shape::Among(name, list) => Some(self.over_items(code, name, list)),
+            _ => None,
         }
     }
 
-    #[cycle(deed)]
-    fn for_span(&mut self, code: &CodeText<'_>, within: Within, block: Id, left: usize) -> Deed {
+    /// `for x in a..b`
+    fn over_numbers(&mut self, code: &CodeText<'_>, within: Within) -> Turns {
         let span = self.span(code, within, MOST_LEVELS);
         self.enter(within.name, Kind::Number, span.bounds());
-        let body = self.block_at(code, block, left);
+        Turns {
+            span,
+            item: None,
+            at: within.name.from,
+        }
+    }
+
+    /// `for x in LIST`: the place is a value without a name, and the item one with it.
+    fn over_items(&mut self, code: &CodeText<'_>, name: Span, list: Id) -> Turns {
+        self.check_name(code, name);
+        let span = self.places(code, list, MOST_LEVELS);
+        self.deeper();
+        let item = self.item_of(code, list, MOST_LEVELS);
+        self.enter(name, item.facts.kind, item.facts.bounds);
+        Turns {
+            span,
+            item: Some(item),
+            at: name.from,
+        }
+    }
+
+    /// A loop over its body, whose name is out of sight from now on.
+    fn leave_loop(&mut self, code: &CodeText<'_>, turns: Turns, body: Deed) -> Deed {
+        let Turns { span, item, at } = turns;
         self.leave();
+        let body = self.with_item(item, body);
         let deed = self.maker.for_each(span, body);
-        self.note_loop(code, within.name.from, deed.cost.steps);
+        self.note_loop(code, at, deed.cost.steps);
         deed
     }
 
-    #[cycle(deed)]
-    fn for_list(&mut self, code: &CodeText<'_>, among: (Span, Id), block: Id, left: usize) -> Deed {
-        self.check_name(code, among.0);
-        let span = self.places(code, among.1, MOST_LEVELS);
-        self.deeper();
-        let item = self.item_of(code, among.1, MOST_LEVELS);
-        self.enter(among.0, item.facts.kind, item.facts.bounds);
-        let body = self.block_at(code, block, left);
-        self.leave();
-        self.shallower();
-        let body = self.maker.let_before(item, body);
-        let deed = self.maker.for_each(span, body);
-        self.note_loop(code, among.0.from, deed.cost.steps);
-        deed
+    /// The body of a loop with the item before it, where it goes over a list.
+    fn with_item(&mut self, item: Option<Draft>, body: Deed) -> Deed {
+        match item {
+            Some(item) => {
+                self.shallower();
+                self.maker.let_before(item, body)
+            }
+            None => body,
+        }
+    }
+
+    /// A statement without blocks.
+    fn plain(&mut self, code: &CodeText<'_>, node: Node) -> Deed {
+        match node.shape {
+            Shape::Var(name, value) => self.var(code, name, value),
+            Shape::VarSlot(name, slot) => self.var_slot(code, name, slot),
+            Shape::Put(place, value) => self.put(code, place, value),
+            Shape::PutDie(place, faces) => self.put_die(code, place, faces),
+            Shape::Add(place, value) => self.put_more(code, place, value, Operator::Plus),
+            Shape::Take(place, value) => self.put_more(code, place, value, Operator::Minus),
+            Shape::Change(change, arguments) => self.change(code, change, arguments, node.at),
+            Shape::Event(event, arguments) => self.event(code, event, arguments, node.at),
+            _ => {
+                self.fail(
+                    code,
+                    Trouble::hinted(FaultName::Syntax, node.at, Hint::Statement),
+                );
+                Deed::nothing()
+            }
+        }
     }
 
     /// `var NAME = e;`
@@ -530,6 +602,23 @@ impl Drafter<'_> {
             }
         }
         None
+    }
+}
+
+/// The let that a statement is, if it is one.
+fn binding_at(code: &CodeText<'_>, id: Id) -> Option<Binding> {
+    match code.node(id).shape {
+        Shape::Let(name, value) => Some(Binding {
+            name,
+            value,
+            is_die: false,
+        }),
+        Shape::LetDie(name, faces) => Some(Binding {
+            name,
+            value: faces,
+            is_die: true,
+        }),
+        _ => None,
     }
 }
 

@@ -30,18 +30,19 @@ impl WorkRow {
         }
     }
 
-    /// The row, with a value that it may hold as its start.
-    fn row(&self) -> SlotRow {
+    /// The row, with a start.
+    fn with(&self, start: Value) -> SlotRow {
         SlotRow {
             kind: self.kind,
             null: self.null,
-            start: self.start(),
+            start,
             begin: self.begin,
             most: self.most,
             lone: self.lone,
         }
     }
 
+    /// A value that it may hold.
     fn start(&self) -> Value {
         if self.null {
             return None;
@@ -68,7 +69,12 @@ fn nearest(least: i32, greatest: i32) -> i32 {
 pub(crate) fn rows_of(alloc: Global, work: &[WorkRow]) -> Result<List<SlotRow>, NoMemory> {
     let mut rows = List::new(alloc);
     for row in work {
-        rows.push(row.row())?;
+        add_row(&mut rows, row, row.start())?;
     }
     Ok(rows)
+}
+
+/// Adds the row of a slot of work with a start.
+fn add_row(rows: &mut List<SlotRow>, work: &WorkRow, start: Value) -> Result<(), NoMemory> {
+    rows.push(work.with(start))
 }
