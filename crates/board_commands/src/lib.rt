@@ -1,8 +1,9 @@
-//! What the program does with the words that it is called with: it runs a script, a world or a workload, keeps a room, serves matches, or plays one. What
-//! goes between it and its caller stands here too: its words, its pages, its status and the line on standard error.
+//! What the program does with the words that it is called with: it runs a script, a world or a workload, keeps a room, serves matches, plays one, or
+//! tries a description of a game. What goes between it and its caller stands here too: its words, its pages, its status and the line on standard error.
 #![tactic(auto)]
 
 mod command;
+mod describing;
 mod hosting;
 mod keeping;
 mod mode;
@@ -15,6 +16,7 @@ mod serving;
 mod workloads;
 
 pub use command::{Command, command_of};
+pub use describing::{ask, check};
 pub use hosting::serve_kept;
 pub use keeping::{kept, kept_path};
 pub use mode::{Mode, mode_of};

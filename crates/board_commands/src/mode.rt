@@ -16,6 +16,10 @@ pub enum Mode {
     Play,
     /// To run a script over a room whose changes are kept.
     Kept,
+    /// To say what a description of a game takes.
+    Check,
+    /// To ask a described game rows.
+    Ask,
     /// To run what is read.
     Run,
 }
@@ -55,6 +59,10 @@ fn mode_by(word: &[u8]) -> Mode
         Mode::Play
     } else if word == b"kept".as_slice() {
         Mode::Kept
+    } else if word == b"check".as_slice() {
+        Mode::Check
+    } else if word == b"ask".as_slice() {
+        Mode::Ask
     } else {
         Mode::Run
     }

@@ -22,6 +22,10 @@ board_server script
     plays the script on standard input, and prints its transcript
 board_server kept FILE
     plays the script on standard input over one room, keeps its changes in a journal, and prints its transcript
+board_server check FILE [--play COUNT]
+    says what a description of a game takes, and plays so many random matches of it; or says why it is refused, and where
+board_server ask FILE
+    asks the game of a description the rows on standard input, and prints what it gives
 board_server world
     plays the world on standard input, and prints its transcript
 board_server replay

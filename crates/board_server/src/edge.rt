@@ -210,7 +210,7 @@ fn address_in(rt: &HostRuntime, text: &str) -> io::Result<SocketAddr> {
 }
 
 /// Says on standard error what the system made of a word of the call. A line that can't be written is lost.
-fn say(rt: &HostRuntime, word: &str, error: &io::Error) {
+pub(crate) fn say(rt: &HostRuntime, word: &str, error: &io::Error) {
     let _said = eprintln!(rt; "{word}: {error}");
 }
 
@@ -476,7 +476,7 @@ fn seed(rt: &HostRuntime) -> io::Result<[u8; 32]> {
 }
 
 /// The end where words give nothing to do.
-fn refused(no: WordsNo) -> Exit {
+pub(crate) fn refused(no: WordsNo) -> Exit {
     match no {
         WordsNo::Usage => Exit::Usage,
         WordsNo::NoMemory => Exit::NoMemory,
@@ -484,7 +484,7 @@ fn refused(no: WordsNo) -> Exit {
 }
 
 /// The end where the system refuses: this one, unless there was no memory.
-fn fault(error: &io::Error, exit: Exit) -> Exit {
+pub(crate) fn fault(error: &io::Error, exit: Exit) -> Exit {
     match error.kind() {
         io::ErrorKind::OutOfMemory => Exit::NoMemory,
         _ => exit,

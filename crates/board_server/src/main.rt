@@ -1,10 +1,12 @@
 //! The match server. `board_server serve` serves matches over sockets, and `board_server play` plays one; `board_server script` plays the script on
 //! standard input, and prints its transcript, and `board_server world` does so with a world; `board_server kept` plays a script over a room whose
-//! changes it keeps in a journal, and `board_server replay` says what a journal holds; `board_server workload` plays by itself, by the words of a seed and for a number of steps, and tells what came of it.
+//! changes it keeps in a journal, and `board_server replay` says what a journal holds; `board_server check` says what a description of a game takes, and
+//! `board_server ask` asks its game rows; `board_server workload` plays by itself, by the words of a seed and for a number of steps, and tells what came of it.
 #![tactic(auto)]
 
 mod asker;
 mod counted;
+mod describing;
 mod edge;
 mod journal_file;
 mod journals;
@@ -12,6 +14,7 @@ mod outside;
 mod tally;
 
 use board_commands::{HELP, Mode, VERSION, after_name, mode_of};
+use describing::{ask_here, check_here};
 use edge::{keep_standard, kept_here, play_there, print_here, run_here, serve_there};
 use line_runner::Exit;
 use std::process::ExitCode;
@@ -56,6 +59,8 @@ fn perform<R: Threads + Wait + Sync>(leave: &R, rt: &HostRuntime, words: &[Strin
         Mode::Serve => serve_there(leave, rt, words),
         Mode::Play => play_there(leave, rt, words),
         Mode::Kept => kept_here(rt, words),
+        Mode::Check => check_here(rt, words),
+        Mode::Ask => ask_here(rt, words),
         Mode::Run => run_here(rt, words),
     }
 }

@@ -1,4 +1,5 @@
 pub mod Answers
+pub mod Describe
 pub mod Games
 pub mod Numbers
 pub mod Options

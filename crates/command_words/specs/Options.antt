@@ -14,3 +14,7 @@ flag_rule name = record (new_rule name) { long = Some name; action = Some SetTru
 -- one that has to be said
 abbrev pub needed_rule : List ℕ → Rule
 needed_rule name = record (option_rule name) { required = true }
+
+-- a value that has to be said, by its place
+abbrev pub value_rule : List ℕ → Rule
+value_rule name = record (new_rule name) { required = true; action = Some Set }

@@ -2,7 +2,7 @@
 
 ghost use Rattle.std.specs.Prelude.{◌≡◌, false};
 ghost use Rattle.clap.specs.Words.{rule_of};
-ghost use Rattle.command_words.specs.Options.{flag_rule, needed_rule, option_rule};
+ghost use Rattle.command_words.specs.Options.{flag_rule, needed_rule, option_rule, value_rule};
 
 use clap::{Arg, ArgAction};
 use std::alloc::Global;
@@ -29,4 +29,14 @@ pub(crate) fn needed<'a>(alloc: Global, name: &'a str) -> Arg<'a>
     ensures own { result.global ≡ false }
 {
     option(alloc, name).required(true)
+}
+
+/// A value that has to be said, by its place.
+pub(crate) fn value<'a>(alloc: Global, name: &'a str) -> Arg<'a>
+    ensures rule { rule_of result ≡ value_rule name.entry.now }
+    ensures own { result.global ≡ false }
+{
+    Arg::new(alloc, name)
+        .required(true)
+        .action(ArgAction::Set)
 }

@@ -1,27 +1,46 @@
 //! A fault with its line, and a mark below its place.
 
+use crate::costs::{put_number, put_text};
 use game_sheet::NoMemory;
 use game_syntax::{Fault, Place};
-use std::alloc::Global;
 
 /// Appends a fault as a line, and where its place and the text are known, that line of the text, and a mark below the place.
-pub fn put_fault(
-    alloc: Global,
-    out: &mut Vec<u8>,
-    fault: &Fault,
-    text: Option<&str>,
-) -> Result<(), NoMemory> {
-    put_told(alloc, out, fault)?;
+pub fn put_fault(out: &mut Vec<u8>, fault: &Fault, text: Option<&str>) -> Result<(), NoMemory> {
+    put_told(out, fault)?;
     match (fault.place, text) {
         (Some(place), Some(text)) => put_marked(out, place, line_in(text, place.line)),
         _ => Ok(()),
     }
 }
 
-/// Appends the line of a fault.
-fn put_told(alloc: Global, out: &mut Vec<u8>, fault: &Fault) -> Result<(), NoMemory> {
-    let told = format!(in alloc; "{fault}\n")?;
-    Ok(out.extend_from_slice(told.as_bytes())?)
+/// Appends the line of a fault: the path, the place, the name and words.
+fn put_told(out: &mut Vec<u8>, fault: &Fault) -> Result<(), NoMemory> {
+    put_text(out, fault.path.as_str())?;
+    put_place(out, fault.place)?;
+    put_text(out, ": ")?;
+    put_text(out, fault.name.word())?;
+    put_words(out, fault.words.as_str())?;
+    put_text(out, "\n")
+}
+
+fn put_place(out: &mut Vec<u8>, place: Option<Place>) -> Result<(), NoMemory> {
+    match place {
+        Some(Place { line, column }) => {
+            put_text(out, ":")?;
+            put_number(out, u64::from(line))?;
+            put_text(out, ":")?;
+            put_number(out, u64::from(column))
+        }
+        None => Ok(()),
+    }
+}
+
+fn put_words(out: &mut Vec<u8>, words: &str) -> Result<(), NoMemory> {
+    if words.is_empty() {
+        return Ok(());
+    }
+    put_text(out, ": ")?;
+    put_text(out, words)
 }
 
 /// The line of a text with this number, counted from 1; the empty line where there is none.
@@ -56,8 +75,4 @@ fn put_blanks(out: &mut Vec<u8>, line: &str, column: u32) -> Result<(), NoMemory
         at = at.saturating_add(1);
     }
     Ok(())
-}
-
-fn put_text(out: &mut Vec<u8>, text: &str) -> Result<(), NoMemory> {
-    Ok(out.extend_from_slice(text.as_bytes())?)
 }

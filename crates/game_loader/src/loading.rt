@@ -1,11 +1,13 @@
-//! A game from the bytes of its file.
+//! A game from its file.
 
 use crate::joining::{Codes, codes_of, parts_of};
-use code_loader::{GameCost, code_of, cost_of};
+use crate::parting::{FrameParts, parted};
+use crate::unloaded::{Unloaded, unread};
+use code_loader::{FileCode, GameCost, code_of, cost_of};
 use described_game::GameParts;
-use game_file::{GameFile, Unread, read_file};
-use game_frame::{Frame, FrameParts, SpecFrame, frame_of};
-use game_sheet::{List, NoMemory};
+use game_file::GameFile;
+use game_frame::{Frame, SpecFrame, frame_of};
+use game_sheet::{NoMemory, Text};
 use std::alloc::Global;
 
 /// A game from a file.
@@ -13,8 +15,6 @@ use std::alloc::Global;
 pub struct LoadedGame {
     /// What it is made of.
     pub parts: GameParts,
-    /// The specs of active players, with the slots of their seats.
-    pub specs: List<SpecFrame>,
     /// The common list by which seats are ranked.
     pub scores: Option<u8>,
     /// Whether clients are told the description without most of its code.
@@ -23,21 +23,21 @@ pub struct LoadedGame {
     pub cost: GameCost,
 }
 
-/// The game that the bytes of a file describe, or its first fault.
-pub fn load(alloc: Global, bytes: &[u8]) -> Result<LoadedGame, Unread> {
-    let file = read_file(alloc, bytes)?;
-    let loaded = load_file(alloc, &file);
-    drop(file);
-    loaded
+/// The game that a file describes, or why there is none: its first fault.
+pub fn load(alloc: Global, file: &GameFile) -> Result<LoadedGame, Unloaded> {
+    match frame_of(alloc, file) {
+        Ok(frame) => load_in(alloc, file, frame),
+        Err(why) => Err(unread(why)),
+    }
 }
 
-fn load_file(alloc: Global, file: &GameFile) -> Result<LoadedGame, Unread> {
-    let frame = frame_of(alloc, file)?;
-    match coded(alloc, file, &frame) {
-        Ok(Coded { codes, cost }) => joined(alloc, file, frame.into_parts(), codes, cost),
-        Err(unread) => {
+/// The game of a file whose frame is given.
+fn load_in(alloc: Global, file: &GameFile, frame: Frame) -> Result<LoadedGame, Unloaded> {
+    match code_in(alloc, file, &frame) {
+        Ok(coded) => joined(alloc, file, frame, coded),
+        Err(why) => {
             drop(frame);
-            Err(unread)
+            Err(why)
         }
     }
 }
@@ -49,46 +49,90 @@ struct Coded {
     cost: GameCost,
 }
 
-fn coded(alloc: Global, file: &GameFile, frame: &Frame) -> Result<Coded, Unread> {
-    let code = code_of(alloc, file, frame)?;
-    match cost_of(alloc, file, frame, &code) {
-        Ok(cost) => match codes_of(alloc, file, frame, code) {
-            Ok(codes) => Ok(Coded { codes, cost }),
-            Err(NoMemory) => Err(Unread::NoMemory),
-        },
-        Err(unread) => {
+fn code_in(alloc: Global, file: &GameFile, frame: &Frame) -> Result<Coded, Unloaded> {
+    match code_of(alloc, file, frame) {
+        Ok(code) => code_within(alloc, file, frame, code),
+        Err(why) => Err(unread(why)),
+    }
+}
+
+/// The code, if it is within the limits of the whole game, and games can have what it needs.
+fn code_within(
+    alloc: Global,
+    file: &GameFile,
+    frame: &Frame,
+    code: FileCode,
+) -> Result<Coded, Unloaded> {
+    match cost_within(alloc, file, frame, &code) {
+        Ok(cost) => {
+            let codes = codes_of(alloc, file, frame, code)?;
+            Ok(Coded { codes, cost })
+        }
+        Err(why) => {
             drop(code);
-            Err(unread)
+            Err(why)
         }
     }
+}
+
+fn cost_within(
+    alloc: Global,
+    file: &GameFile,
+    frame: &Frame,
+    code: &FileCode,
+) -> Result<GameCost, Unloaded> {
+    match cost_of(alloc, file, frame, code) {
+        Ok(cost) => match not_yet(frame.specs.as_slice()) {
+            Some(name) => Err(Unloaded::NotYet(spec_path(alloc, name)?)),
+            None => Ok(cost),
+        },
+        Err(why) => Err(unread(why)),
+    }
+}
+
+/// The name of the first spec whose seats a slot names, if there is one.
+fn not_yet<'a>(specs: &'a [SpecFrame]) -> Option<&'a str> {
+    for spec in specs {
+        if spec.seats.is_some() {
+            return Some(spec.name.as_str());
+        }
+    }
+    None
+}
+
+/// The path at which the seats of a spec stand.
+fn spec_path(alloc: Global, name: &str) -> Result<Text, NoMemory> {
+    let path = format!(in alloc; "activePlayers.{name}.value")?;
+    Text::from_str(alloc, path.as_str())
 }
 
 /// The game of what isn't code and of its code.
 fn joined(
     alloc: Global,
     file: &GameFile,
-    frame: FrameParts,
-    codes: Codes,
-    cost: GameCost,
-) -> Result<LoadedGame, Unread> {
-    let FrameParts {
-        sheet,
-        layout,
-        rows,
-        specs,
-        scores,
-    } = frame;
-    match parts_of(alloc, sheet, layout, rows, codes) {
-        Ok(parts) => Ok(LoadedGame {
-            parts,
-            specs,
-            scores,
-            hidden: file.head.hidden,
-            cost,
-        }),
+    frame: Frame,
+    coded: Coded,
+) -> Result<LoadedGame, Unloaded> {
+    let Coded { codes, cost } = coded;
+    match parted(alloc, frame) {
+        Ok(frame) => {
+            let FrameParts {
+                sheet,
+                layout,
+                rows,
+                scores,
+            } = frame;
+            let parts = parts_of(alloc, sheet, layout, rows, codes)?;
+            Ok(LoadedGame {
+                parts,
+                scores,
+                hidden: file.head.hidden,
+                cost,
+            })
+        }
         Err(NoMemory) => {
-            drop(specs);
-            Err(Unread::NoMemory)
+            drop(codes);
+            Err(Unloaded::NoMemory)
         }
     }
 }

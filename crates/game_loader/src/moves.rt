@@ -1,8 +1,9 @@
 //! The moves of a game.
 
+use crate::listed::{listed_row, when_listed};
 use code_loader::{CodedList, CodedMove};
-use described_game::{ArgumentGroup, ArgumentKind, ArgumentRow, ListedRow, MoveCode, NumberRange};
-use game_code::{Expression, ItemList, Word};
+use described_game::{ArgumentGroup, ArgumentKind, ArgumentRow, MoveCode, NumberRange};
+use game_code::Expression;
 use game_file::MoveMember;
 use game_frame::{ArgumentFrame, ArgumentKind as FrameKind, ListFrame, MoveFrame};
 use game_sheet::{List, NoMemory};
@@ -39,21 +40,52 @@ impl Around<'_> {
             is_open: _,
             cost: _,
         } = coded;
+        let allowed = self.allowed_at(place, lists.as_slice(), when);
         let arguments = self.groups_at(place, lists.as_slice());
         drop(lists);
-        match arguments {
-            Ok(arguments) => Ok(MoveCode {
+        match (allowed, arguments) {
+            (Ok(when), Ok(arguments)) => Ok(MoveCode {
                 arguments,
                 when,
                 code,
                 undoable,
             }),
-            Err(NoMemory) => {
-                drop(when);
+            (allowed, arguments) => {
+                drop(allowed);
+                drop(arguments);
                 drop(code);
                 Err(NoMemory)
             }
         }
+    }
+
+    /// Whether a move is allowed, with the tests that the numbers of arguments are items of their lists. The test of the first
+    /// list comes first.
+    fn allowed_at(
+        &self,
+        place: usize,
+        lists: &[CodedList],
+        when: Expression,
+    ) -> Result<Expression, NoMemory> {
+        match self.frames.get(place) {
+            Some(frame) => self.allowed(frame, lists, when),
+            None => Ok(when),
+        }
+    }
+
+    fn allowed(
+        &self,
+        frame: &MoveFrame,
+        lists: &[CodedList],
+        when: Expression,
+    ) -> Result<Expression, NoMemory> {
+        let mut when = when;
+        for (row, list) in frame.lists.as_slice().iter().zip(lists.iter()).rev() {
+            let ranges = self.ranges(frame, row)?;
+            when = when_listed(self.alloc, ranges.as_slice(), row.first, list, when)?;
+            drop(ranges);
+        }
+        Ok(when)
     }
 
     /// Whether a move may be undone: as is said, or where nothing that it leads to draws words or names what is hidden.
@@ -148,18 +180,19 @@ impl Around<'_> {
         row: &ListFrame,
         list: &CodedList,
     ) -> Result<ArgumentGroup, NoMemory> {
+        let ranges = self.ranges(frame, row)?;
+        Ok(ArgumentGroup::Listed(listed_row(self.alloc, ranges, list)?))
+    }
+
+    /// The ranges of the arguments of a list.
+    fn ranges(&self, frame: &MoveFrame, row: &ListFrame) -> Result<List<NumberRange>, NoMemory> {
         let mut ranges = List::new(self.alloc);
         for place in row.first..row.past {
             if let Some(argument) = frame.arguments.get(usize::from(place)) {
                 ranges.push(range_of(argument.kind, self.most_seats))?;
             }
         }
-        Ok(ArgumentGroup::Listed(ListedRow {
-            ranges,
-            list: list.list,
-            seat: seat_of(list.list),
-            most: list.most,
-        }))
+        Ok(ranges)
     }
 }
 
@@ -171,14 +204,6 @@ fn listed_at(frame: &MoveFrame, place: usize) -> Option<usize> {
         }
     }
     None
-}
-
-/// The seat of a list: the one that moves, where it is a slot of a seat.
-fn seat_of(list: ItemList) -> Expression {
-    match list {
-        ItemList::Player(_) => Expression::Word(Word::Seat),
-        _ => Expression::Literal(None),
-    }
 }
 
 fn kind_of(kind: FrameKind, most_seats: u8) -> ArgumentKind {
