@@ -37,13 +37,7 @@ pub fn ask_here(rt: &HostRuntime, words: &[String]) -> Exit {
         Ok(bytes) => {
             let mut source = ReaderSource::new(rt.reader());
             let mut sink = WriterSink::new(rt.stdout());
-            let exit = ask(
-                rt.alloc(),
-                words,
-                bytes.as_slice(),
-                &mut source,
-                &mut sink,
-            );
+            let exit = ask(rt.alloc(), words, bytes.as_slice(), &mut source, &mut sink);
             drop(bytes);
             exit
         }

@@ -36,7 +36,5 @@ pub(crate) fn value<'a>(alloc: Global, name: &'a str) -> Arg<'a>
     ensures rule { rule_of result ≡ value_rule name.entry.now }
     ensures own { result.global ≡ false }
 {
-    Arg::new(alloc, name)
-        .required(true)
-        .action(ArgAction::Set)
+    Arg::new(alloc, name).required(true).action(ArgAction::Set)
 }

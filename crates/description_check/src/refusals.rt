@@ -17,7 +17,12 @@ pub enum Refusal<'a> {
 /// Appends a refusal as a line, as that of a fault: the path, the name and words.
 pub fn put_refusal(out: &mut Vec<u8>, refusal: &Refusal<'_>) -> Result<(), NoMemory> {
     match refusal {
-        Refusal::FileTooLong => put_line(out, "", "file-too-long", "a description has at most 262144 bytes"),
+        Refusal::FileTooLong => put_line(
+            out,
+            "",
+            "file-too-long",
+            "a description has at most 262144 bytes",
+        ),
         Refusal::NotYet(path) => put_line(
             out,
             path,

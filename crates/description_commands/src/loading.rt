@@ -1,8 +1,7 @@
 //! A game from the bytes of a description, or the text that says why there is none.
 
 use described_game::{Described, PartFault};
-use description_check::{Refusal, put_fault, put_refusal, state_bytes, text_at};
-use description_check::Costs;
+use description_check::{Costs, Refusal, put_fault, put_refusal, state_bytes, text_at};
 use game_file::{GameFile, Unread, read_file};
 use game_loader::{LoadedGame, Unloaded, load};
 use game_sheet::NoMemory;
@@ -99,7 +98,8 @@ fn words_of(fault: PartFault) -> &'static str {
         PartFault::Text => "the text of a state may be too long",
         PartFault::Start => "a slot does not fit as it starts",
         PartFault::Setup => "the first state may queue events",
-        PartFault::Code => "code names what is not in the sheet, or may queue more than sixteen events",
+        PartFault::Code =>
+            "code names what is not in the sheet, or may queue more than sixteen events",
         PartFault::Sight => "what is allowed hangs on what the mover does not see",
         PartFault::Arguments => "a move has too many arguments, or too many rows of them",
     }
