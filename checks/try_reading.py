@@ -68,7 +68,7 @@ def main():
     parser.add_argument("--first", type=int, default=0)
     parser.add_argument("--games", default=str(DESCRIPTIONS))
     parser.add_argument("--alone", action="store_true")
-    words = parser.parse_args()
+    words = parser.parse_intermixed_args()
     if words.alone and words.program:
         words.names.insert(0, words.program)
     elif not words.alone and not words.program:

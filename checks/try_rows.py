@@ -67,9 +67,10 @@ def try_rows(program, game, rows, outcome):
     count = sum(1 for line in given.split(b"\n") if line.strip() and not line.startswith(b"#"))
     _status, said = run([program, "ask", str(game)], given, PATIENCE)
     lines = said.splitlines()
-    tally = TALLY.search(lines[-1]) if lines else None
+    # Where a row isn't as it says, a line of standard error follows.
+    tally = next(filter(None, map(TALLY.search, reversed(lines))), None)
     if not tally:
-        return outcome.fail(f"{rows.name}: no tally: {(lines or ['it said nothing'])[-1][:200]}")
+        return outcome.fail(f"{rows.name}: no tally: {(lines or ['it said nothing'])[0][:200]}")
     same, other, unasked, answers = map(int, tally.groups())
     outcome.same, outcome.other, outcome.unasked = outcome.same + same, outcome.other + other, outcome.unasked + unasked
     outcome.reasons.update(match[1] for match in map(UNASKED.match, lines) if match)
@@ -78,7 +79,7 @@ def try_rows(program, game, rows, outcome):
         return outcome.fail(f"{rows.name}: has {count} rows, each with `gives`")
     if other or unasked and not outcome.unasked_pass:
         outcome.fail(f"{rows.name}")
-        for line in [line for line in lines[:-1] if line != "ok"][:TOLD]:
+        for line in [line for line in lines if line.startswith("line ")][:TOLD]:
             print(f"  {line[:300]}")
     return None
 
@@ -108,7 +109,7 @@ def main():
     parser.add_argument("--rows")
     parser.add_argument("--refused")
     parser.add_argument("--unasked", action="store_true")
-    words = parser.parse_args()
+    words = parser.parse_intermixed_args()
     if not words.games:
         words.games, words.rows, words.refused = DESCRIPTIONS, words.rows or TOP / "checks/rows", words.refused or TOP / "checks/refused"
     program = os.path.abspath(words.program)

@@ -8,7 +8,7 @@ use std::alloc::Global;
 /// The greatest count of tries of a random match.
 const MOST_TRIES: u32 = 10_000;
 
-/// Appends what came of so many random matches of a game, which are those of the numbers from 1 on.
+/// Appends what came of so many random matches of a game, which are those of the numbers from 0 on.
 pub fn put_matches<X: Game + Drop>(
     alloc: Global,
     game: &X,
@@ -16,6 +16,6 @@ pub fn put_matches<X: Game + Drop>(
     out: &mut Vec<u8>,
 ) -> Result<(), NoMemory> {
     let mut report = Report::new();
-    play_matches(alloc, game, 1, matches, MOST_TRIES, &mut report)?;
+    play_matches(alloc, game, 0, matches, MOST_TRIES, &mut report)?;
     report.put(out, game.sheet())
 }
