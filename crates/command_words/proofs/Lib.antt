@@ -1,3 +1,4 @@
+pub mod Describing
 pub mod Playing
 pub mod Refusals
 pub mod Serving

@@ -1,6 +1,6 @@
 //! The words of `check` and `ask`: which description, and how many random matches of it.
 
-ghost use Rattle.std.specs.Prelude.{◌≡◌, ◌≤◌, IfOk, IfSome, codes, map, option_map, string_bytes};
+ghost use Rattle.std.specs.Prelude.{◌≡◌, IfOk, codes, map, option_map, string_bytes};
 ghost use Rattle.clap.specs.Words.{FailsBy, HasMatchesOf, fault_of, first_value, found_of};
 ghost use Rattle.command_words.specs.Answers.{Answers};
 ghost use Rattle.command_words.specs.Describe.{ask_app, ask_from, ask_of, check_app, check_from, check_of, path_from, plays_from};
