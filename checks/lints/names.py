@@ -121,11 +121,17 @@ def dead():
 def definitions_and_lemmas():
     """Each definition and lemma of specs/ and proofs/ is named outside itself by more than an import: by another, a clause, an edit or a
     `using(..)`. The goals of proofs/FILE/FUNCTION are the toolchain's names and are passed over. What only unnamed ones name is told too.
-    A crate on which no program stands yet has lemmas for those above it."""
+    A crate on which no program stands yet has lemmas for those above it, and checks/unreached.txt may excuse a file by `crate/File.antt`."""
+    reasons, excused = texts.entries("unreached.txt"), set()
     for definition in dead():
-        if waits(texts.crate_of(definition.path)):
-            continue
-        yield texts.shown(definition.path), definition.first + 1, f"nothing names {definition.name}"
+        crate = texts.crate_of(definition.path)
+        title = f"{crate}/{definition.path.name}"
+        excused.add(title)
+        if not waits(crate) and title not in reasons:
+            yield texts.shown(definition.path), definition.first + 1, f"nothing names {definition.name}"
+    for title, (_, place) in reasons.items():
+        if title.endswith(".antt") and title not in excused:
+            yield *place.split(":"), f"{title} has no name that nothing names: remove this line"
 
 
 def functions():
@@ -142,7 +148,7 @@ def functions():
         if counts[name] <= declared[name] and name != "main":
             line = texts.line_at(texts.read(path), place)
             function = by_name.get((path, line))
-            if waits(texts.crate_of(path)):
+            if waits(texts.crate_of(path)) or function and function.title in texts.entries("unreached.txt"):
                 continue
             if not function or not is_law(function) and "#[test]" not in function.marks:
                 yield texts.shown(path), line, f"nothing names {name}"
