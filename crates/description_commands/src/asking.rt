@@ -2,7 +2,7 @@
 
 ghost use Rattle.std.specs.Prelude.{◌≤◌};
 
-use crate::loading::ready;
+use crate::loading::load_game;
 use crate::printing::print;
 use board_links::{Sink, Source};
 use description_check::ask_rows;
@@ -24,7 +24,7 @@ pub fn ask_description<S: Source, K: Sink>(
     ensures sink_never_falls { K.faults sink.old ≤ K.faults sink.new }
 {
     let mut text = Vec::new(alloc);
-    match ready(alloc, bytes, &mut text) {
+    match load_game(alloc, bytes, &mut text) {
         Ok(ready) => {
             drop(text);
             let exit = ask_rows(alloc, &ready.game, source, sink);

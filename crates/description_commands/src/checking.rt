@@ -2,7 +2,7 @@
 
 ghost use Rattle.std.specs.Prelude.{◌≤◌};
 
-use crate::loading::{Ready, ready};
+use crate::loading::{Ready, load_game};
 use crate::printing::print;
 use board_links::Sink;
 use description_check::{put_costs, put_matches};
@@ -28,7 +28,7 @@ pub fn check_description<K: Sink>(
 
 /// The end of a check, whose text is added.
 fn checked(alloc: Global, bytes: &[u8], plays: Option<u32>, text: &mut Vec<u8>) -> Exit {
-    match ready(alloc, bytes, text) {
+    match load_game(alloc, bytes, text) {
         Ok(ready) => {
             let told = put_ready(alloc, &ready, plays, text);
             drop(ready);

@@ -20,7 +20,7 @@ pub(crate) struct Ready {
 }
 
 /// The game of a description, or the end where there is none: why is then added to a text, unless there was no memory.
-pub(crate) fn ready(alloc: Global, bytes: &[u8], text: &mut Vec<u8>) -> Result<Ready, Exit> {
+pub(crate) fn load_game(alloc: Global, bytes: &[u8], text: &mut Vec<u8>) -> Result<Ready, Exit> {
     if bytes.len() > MOST_BYTES {
         return Err(refused(put_refusal(text, &Refusal::FileTooLong), 1));
     }
