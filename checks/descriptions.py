@@ -12,11 +12,11 @@ REFUSED = "="
 
 
 def known_names():
-    """The names of the errors of a description."""
+    """The names of the errors of a description, and those of what the program can't take; `not-loaded` is none, since that is a fault of the program."""
     names = set(re.findall(r'=> "([a-z-]+)"', NAMES.read_text()))
     if "bad-toml" not in names:
         raise SystemExit(f"{NAMES} has no names of errors")
-    return names
+    return names | {"file-too-long", "not-yet"}
 
 
 def error_in(said, names):
