@@ -6,7 +6,7 @@
 //   least, most            how many seats it takes
 //   ahead                  how many actions of a player may be on their way at once, where they are guessed
 //   undoable               the moves that the game lets be undone, or null if the page doesn't know
-//   say(act)               a move in words, behind the player's name
+//   say(act, name)         a move in words, behind the player's name; `name(seat)` names a player
 //   hint(table)            what the player may do now, in words
 //   tell(entry, before, after, name)   a move or an event in words, where the two states tell more of it, or null; it may be left out, as the next two
 //   against(act, table)    what the rules have against a move that the server has refused by them, or null

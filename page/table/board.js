@@ -22,7 +22,7 @@ export function drawGrid(part, value, table) {
       const on = layers.filter((one) => own || !one.mine).map((layer) => ({ layer, value: table.read(layer)?.[layer.mine ? place : at] }));
       const mine = bySeat ? own !== (hint.where === "others") : !rowSeat || row === table.seat;
       const clicks = [...mine ? part.clicks : [], ...on.filter(() => own).flatMap(({ layer }) => layer.clicks)];
-      return { part, place, row, column, board, at, item: value?.[at], on, clicks, seat: rowSeat ? row : null };
+      return { part, place, row, column, at, item: value?.[at], on, clicks, seat: rowSeat ? row : null, whose: bySeat ? `${table.name(board)}: ` : "" };
     });
     return { board, own, part, rows, columns, bySeat, cells: cells.map((cell) => ({ ...cell, can: table.can(part, cell) })) };
   });
@@ -95,7 +95,7 @@ function drawCell(cell, kind, table) {
   const last = table.changed(part, cell.at) || cell.on.some(({ layer }) => table.changed(layer, layer.mine ? cell.place : cell.at));
   const aimed = table.aimed(part, cell), chosen = table.chosen(part, cell), marks = table.marks(part, cell.at);
   const stands = seen.kind === "none" ? hint.none ?? "empty" : seen.words, name = hint.names?.[cell.place];
-  const words = [name ? `${name}: ${stands}` : `row ${cell.row + 1}, column ${cell.column + 1}, ${stands}`,
+  const words = [name ? `${name}: ${stands}` : `${cell.whose}row ${cell.row + 1}, column ${cell.column + 1}, ${stands}`,
     ...layers.map(({ layer, seen: one }) => `${layer.label}: ${one.words}`), ...marks.words];
   const more = [chosen && "chosen", aimed && "a place to go to", last && "of the last move"].filter(Boolean);
   const classes = ["cell", cell.can && "can", last && "last", seen.kind === "none" && "empty", tints, chosen && "chosen", aimed && "aim", marks.classes,

@@ -7,22 +7,22 @@ import { Table } from "./table.js";
 
 /** A move in words, by its hint `say`, in which `{n}` is an argument, and `{n+1}` one that people count from 1. */
 function sayer(read) {
-  const told = (made, at, value) => {
+  const told = (made, at, value, name) => {
     const arg = made.args[at], part = read.parts.find(({ key }) => key === made.names?.[arg.name]);
-    if (arg.kind === "seat") return `seat ${value + 1}`;
+    if (arg.kind === "seat") return name(value);
     if (part?.hint.names) return part.hint.names[value];
     const how = part?.hint ?? read.args[`${made.name}.${arg.name}`];
     return how?.items ? look(how, value, part ? part.least : arg.least).words : plain(String(value));
   };
-  return ({ move: name, args }) => {
-    const made = read.moves[name];
-    if (!made) return plain([name, ...args ?? []].join(" "));
-    const bare = (made.label ?? spoken(name)).toLowerCase();
+  return ({ move: moved, args }, name) => {
+    const made = read.moves[moved];
+    if (!made) return plain([moved, ...args ?? []].join(" "));
+    const bare = (made.label ?? spoken(moved)).toLowerCase();
     if (args === null) return made.say && !made.say.includes("{") ? made.say : bare;
-    if (!made.say) return [bare, ...args.map((value, at) => told(made, at, value))].join(" ");
+    if (!made.say) return [bare, ...args.map((value, at) => told(made, at, value, name))].join(" ");
     return made.say.replace(/\{(\w+)(\+1)?\}/g, (_, key, more) => {
       const at = made.args.findIndex((arg) => arg.name === key);
-      return at < 0 ? "" : more ? String(args[at] + 1) : told(made, at, args[at]);
+      return at < 0 ? "" : more ? String(args[at] + 1) : told(made, at, args[at], name);
     });
   };
 }

@@ -23,6 +23,9 @@ const SIGNS = {
   "⛀": "man white", "⛂": "man black", "⛁": "king white", "⛃": "king black",
   "·": "miss", "✸": "hit", "🟥": "tile red", "🟦": "tile blue", "🟩": "tile green", "🟨": "tile yellow", "⬜": "tile sand", "⬛": "tile black",
 };
+// Chessmen: both sides have the full figures, in their colour, and the words of what they are.
+const MEN = { "♟": "pawn", "♞": "knight", "♝": "bishop", "♜": "rook", "♛": "queen", "♚": "king" };
+const WHITE_MEN = { "♙": "♟", "♘": "♞", "♗": "♝", "♖": "♜", "♕": "♛", "♔": "♚" };
 const SUIT_SIGNS = { "♣": "clubs", "♦": "diamonds", "♥": "hearts", "♠": "spades" };
 const NONE = { node: null, words: "empty", kind: "none", tint: "" };
 const isRed = (suit) => suit === "hearts" || suit === "diamonds";
@@ -55,10 +58,17 @@ const suitLook = (name) => ({ node: suitSign(name), words: name, kind: "suit", t
 function named(text, how, value) {
   if (text === "") return NONE;
   if (text in SUIT_SIGNS) return suitLook(SUIT_SIGNS[text]);
+  if (text in MEN || text in WHITE_MEN) return chessman(WHITE_MEN[text] ?? text, text in MEN ? "black" : "white");
   const [shape, colour = ""] = (SIGNS[text] ?? text).split(" ");
   if (SHAPES.includes(shape)) return { node: piece(shape, colour), words: [colour, shape].filter(Boolean).join(" "), kind: "piece", tint: colour };
   if (how.face === "card") return namedCard(text, value);
   return { node: make("span", { class: "words" }, text), words: text, kind: "text", tint: "" };
+}
+
+function chessman(sign, colour) {
+  const figure = svg("text", { "x": 50, "y": 80, "text-anchor": "middle", "font-size": 86 });
+  figure.append(`${sign}\ufe0e`);
+  return { node: make("span", { class: ["man-of", colour] }, drawn(figure)), words: `${colour} ${MEN[sign]}`, kind: "piece", tint: colour };
 }
 
 /** A drawn piece, as a red disc. */

@@ -279,7 +279,7 @@ export class Table {
     if (part.hint.sort) items.sort((a, b) => a.item - b.item);
     const toggles = part.toggle && this.may && this.asking.fits(part.toggle, {}).length > 1;
     const had = this.#now.before && part.mine ? [...this.read(part, this.#now.before) ?? []] : null;
-    const drawn = items.map((cell, at) => this.#item(part, cell, { at, toggles, fresh: had ? !take(had, cell.item) : this.changed(part, cell.at) }));
+    const drawn = items.map((cell, at) => this.#item(part, cell, { at, toggles, fresh: had ? !take(had, cell.item) : this.changed(part, cell.at) && cell.item !== 0 }));
     // More than seven lie in two rows.
     const per = items.length > 7 ? Math.ceil(items.length / 2) : Math.max(4, items.length);
     return make("section", {
@@ -291,7 +291,8 @@ export class Table {
     const seen = look(part.hint, cell.item, part.least), can = this.can(part, cell), kept = this.kept.has(cell.place);
     const [meant] = [...this.#meant(part, cell), ...this.#clicks(part, cell)];
     // A card's name says what pressing it does.
-    const words = seen.kind === "card" && part.hint.face !== "card" && meant ? `${this.label(meant.move)} the ${seen.words}` : seen.words;
+    const says = seen.kind === "card" && part.hint.face !== "card" && meant ? `${this.label(meant.move)} the ${seen.words}` : seen.words;
+    const words = seen.kind === "die" ? `die ${cell.place + 1}: ${seen.words}` : says;
     const about = part.hint.face === "card" ? this.described.moves[part.clicks.find(({ only }) => only === cell.item)?.move]?.about : null;
     const classes = ["item", `k-${seen.kind}`, can && "can", kept && "kept", fresh && "last", this.chosen(part, cell) && "chosen"];
     const inside = [seen.node, kept ? make("span", { class: "keeps" }, part.hint.kept ?? "kept") : null, about ? make("small", {}, about) : null];
