@@ -150,9 +150,9 @@ const WAYS = [
   ["reversi", 0, [".cell.can"], (offers) => offers[0]],
   ["checkers", 0, [".cell.can", ".cell.aim"], null],
   ["nim", 0, [".row .item.can", ".values button:nth-of-type(2)"], ["take", [0, 2]]],
-  ["liars-dice", 0, ["[aria-label='How many: 26']", "[aria-label='of: 3']", "[type=submit]"], ["bid", [26, 3]]],
+  ["liars-dice", 0, ["[aria-label='How many: 26']", "[aria-label='of: 3']", ".asks [type=submit]"], ["bid", [26, 3]]],
   ["five-dice", 1, [".hand [aria-pressed]", ".asks .first"], ["roll", [1, 0, 0, 0, 0]]],
-  ["agents", 0, ["#asked-word=sea", ".values button:nth-of-type(3)", "[type=submit]"], ["clue", ["sea", 3]]],
+  ["agents", 0, ["#asked-word=sea", ".values button:nth-of-type(3)", ".asks [type=submit]"], ["clue", ["sea", 3]]],
   ["crazy-eights", 0, [".hand .item.can"], ["play", [4, 0]]],
   ["rock-paper-scissors", 0, [".values button:nth-of-type(3)"], ["choose", [2]]],
 ];
