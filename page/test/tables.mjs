@@ -20,7 +20,7 @@ function playing(relay, game) {
   const view = ({ number, ctx, g }) => ({ ctx, number, g: { ...g, players: g.players.map((part, at) => at === told.seat ? part : null) } });
   const row = () => ({ game: game.name, match: MATCH, over: false,
     players: game.states[told.at].state.g.players.map((_, seat) => ({ name: NAMES[seat], seat })) });
-  relay.onTold = () => "";
+  relay.onTold = () => null;
   relay.onAsked = (line, { answer }) => {
     const { type, seat, ticket } = JSON.parse(line), { before, state, log } = game.states[told.at];
     if (type === "games") return answer(JSON.stringify({ games: [game.name], type }));
