@@ -14,9 +14,11 @@ function sizes({ hint, type }, seats) {
 export function drawGrid(part, value, table) {
   const { hint } = part, { rows, columns, bySeat, rowSeat } = sizes(part, table.seats);
   const layers = table.parts.filter((one) => one.hint.on === part.key);
+  // A layout has a place for each item, and no more.
+  const laid = hint.layout !== undefined;
   const boards = Array.from({ length: bySeat ? table.seats : 1 }, (_, board) => {
     const own = !bySeat || board === table.seat;
-    const cells = Array.from({ length: rows * columns }, (_, place) => {
+    const cells = Array.from({ length: laid ? part.type.count : rows * columns }, (_, place) => {
       const row = Math.floor(place / columns), column = place % columns, at = board * rows * columns + place;
       // A layer of the viewer's own lies on the viewer's board.
       const on = layers.filter((one) => own || !one.mine).map((layer) => ({ layer, value: table.read(layer)?.[layer.mine ? place : at] }));

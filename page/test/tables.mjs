@@ -54,13 +54,16 @@ async function open(page, game, { told, at, seat }) {
   })()`);
   const entries = `document.querySelector(".match")?.hidden === false && document.querySelector(".log").children.length`;
   await page.until(entries, Math.min(4, state.number), "the match");
+  // Colours are measured once they are what they become.
+  await page.value("Promise.all(document.getAnimations().map((one) => one.finished.catch(() => null))).then(() => null)");
 }
 
 /** What can be measured of a table: what is too wide, too low, too faint, or has no name. */
 const MEASURE = String.raw`(() => {
   const shown = (one) => one.getClientRects().length > 0;
   const box = (one) => one.getBoundingClientRect();
-  const within = document.querySelector(".drawn");
+  // The width that the screen has: on a phone innerWidth grows with what is too wide.
+  const within = document.querySelector(".drawn"), width = document.documentElement.clientWidth;
   const light = ([r, g, b]) => [r, g, b].map((v) => v / 255).map((v) => v <= .04045 ? v / 12.92 : ((v + .055) / 1.055) ** 2.4)
     .reduce((sum, v, at) => sum + v * [.2126, .7152, .0722][at], 0);
   const colour = (text) => { const [r, g, b, a = 1] = text.match(/[\d.]+/g).map(Number); return [r, g, b, a]; };
@@ -87,8 +90,8 @@ const MEASURE = String.raw`(() => {
   const small = [...document.querySelectorAll(".asks button, .asks input, .hand button, .entry.can, .head.can")].filter(shown)
     .filter((one) => box(one).width < 40 || box(one).height < 32).map((one) => one.getAttribute("aria-label") ?? one.textContent);
   return {
-    wide: document.documentElement.scrollWidth > innerWidth,
-    beyond: [...within.querySelectorAll("*")].filter((one) => shown(one) && box(one).right > innerWidth + 1).length,
+    wide: document.documentElement.scrollWidth > width,
+    beyond: [...within.querySelectorAll("*")].filter((one) => shown(one) && box(one).right > width + 1).length,
     low: shown(main) && (last.top < 0 || last.bottom > innerHeight + 1),
     hidden: !main.classList.contains("ended") && within.querySelector(".felt") !== null && box(within.querySelector(".felt")).top > innerHeight / 2,
     faint: [...faint], small,
