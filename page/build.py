@@ -175,7 +175,7 @@ def pack(files):
 def sources():
     """The files of page/ that make it up, by their names."""
     found = {}
-    for part in ("", "boards/"):
+    for part in ("", "boards/", "table/"):
         for name in sorted(os.listdir(f"{PAGE}/{part}")):
             if name.endswith((".js", ".html", ".css", ".svg", ".wasm")):
                 with open(f"{PAGE}/{part}{name}", "rb") as file:

@@ -22,7 +22,7 @@ export class Log {
     const struck = new Set(undone);
     const known = entries.map((entry, at) => this.#know(entry, at));
     known.forEach((one, at) => { if (at < log.length && sits(entries[at].seat)) one.player ??= name(entries[at].seat); });
-    const say = (at) => known[at].words ?? (entries[at].act.kind === "move" ? game.say(entries[at].act) : eventWords(entries[at].act, name));
+    const say = (at) => known[at].words ?? (entries[at].act.kind === "move" ? game.say(entries[at].act, name) : eventWords(entries[at].act, name));
     this.#none.hidden = entries.length > 0;
     while (this.#items.length > entries.length) this.#items.pop().remove();
     entries.forEach((entry, at) => {

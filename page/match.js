@@ -368,7 +368,7 @@ export class Match {
     p.actions.hidden = over || this.#seat === null;
     p.watching.hidden = this.#seat !== null || over;
     p.bar.classList.toggle("ended", over && !this.#lost);
-    this.#seats.show({ players, active, seat: this.#seat, over, off });
+    this.#seats.show({ players, active, seat: this.#seat, over, off, beside: (seat) => this.#board.beside?.(seat) ?? [] });
     this.#drawLead(end, over, off, name);
     const pending = waiting.map((act) => ({ act, seat: this.#seat }));
     this.#log.show(log, pending, this.#game, name, (seat) => players[seat]?.name !== null);

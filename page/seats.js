@@ -65,11 +65,18 @@ export class Seats {
     if (name !== null) run(name);
   }
 
-  /** `seat` is one's own or null, `over` tells whether the match is, and `off` whether the server cannot be asked now. */
-  show({ players, active, seat, over, off }) {
+  /**
+   * `seat` is one's own or null, `over` tells whether the match is, and `off` whether the server cannot be asked now.
+   * `beside(seat)` answers the elements that stand at a seat beside its name.
+   */
+  show({ players, active, seat, over, off, beside }) {
     this.#off = off;
     while (this.#items.length > players.length) this.#items.pop().remove();
-    players.forEach((player, at) => this.#showSeat(this.#items[at] ?? this.#add(at), player, active, seat));
+    players.forEach((player, at) => {
+      const item = this.#items[at] ?? this.#add(at);
+      this.#showSeat(item, player, active, seat);
+      item.querySelector(".counts").replaceChildren(...beside(at));
+    });
     const free = players.filter(({ name }) => name === null).map((player) => player.seat);
     const bots = players.filter(({ name }) => isBot(name)).map((player) => player.seat);
     this.join.hidden = seat !== null || over || free.length + bots.length === 0;
@@ -109,7 +116,7 @@ export class Seats {
   }
 
   #add(at) {
-    const item = element("li", {}, dot(at), element("bdi"), element("span", { class: "notes" }));
+    const item = element("li", {}, dot(at), element("bdi"), element("span", { class: "notes" }), element("span", { class: "counts" }));
     this.#items.push(item);
     this.element.append(item);
     return item;

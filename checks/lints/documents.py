@@ -218,8 +218,8 @@ def versions():
 
 
 def files_of_the_page():
-    """page/index.html names each file of page/ and page/boards, and no other; a server hands out no further folder, but for tests and what makes
-    WebAssembly there is none."""
+    """page/index.html names each file of page/, page/boards and page/table, and no other; a server hands out no further folder, but for tests, hints and
+    what makes WebAssembly there is none."""
     name = "page/index.html"
     text = texts.read(texts.TOP / name)
     page = texts.TOP / "page"
@@ -230,8 +230,8 @@ def files_of_the_page():
     for file in sorted(named - there):
         yield name, texts.line_at(text, text.index(f'"{file}"')), f"there is no page/{file}"
     for file in sorted(there):
-        if "/" in file.removeprefix("boards/"):
-            yield f"page/{file}", 1, "a server hands out the files of page/ and page/boards alone"
+        if "/" in file.removeprefix("boards/").removeprefix("table/"):
+            yield f"page/{file}", 1, "a server hands out the files of page/, page/boards and page/table alone"
 
 
 def same_client():

@@ -1,10 +1,9 @@
 // Pig: a die, a pot and the totals.
 import { move } from "../lines.js";
 import { button, dot, element, offer, setText } from "../elements.js";
+import { die as drawn } from "../table/pieces.js";
 
 const GOAL = 20;
-// Which of the nine places of a face have a pip.
-const PIPS = { 1: [4], 2: [0, 8], 3: [0, 4, 8], 4: [0, 2, 6, 8], 5: [0, 2, 4, 6, 8], 6: [0, 2, 3, 5, 6, 8] };
 
 /** What the last action rolled, if it was a roll and the state before it was seen: no line tells it by itself. */
 function rolled({ log, g, before }) {
@@ -26,8 +25,7 @@ export default {
   hint: ({ g }) => g.pot ? `Roll once more, or hold the ${g.pot}.` : "Roll the die.",
 
   make(act) {
-    const pips = Array.from({ length: 9 }, () => element("span", { class: "pip" }));
-    const die = element("div", { class: "die", role: "img" }, ...pips);
+    const die = element("div", { class: "die", role: "img" });
     const fell = element("p", { class: "quiet" });
     const pot = element("p", { class: "big" });
     const totals = element("ul", { class: "scores" });
@@ -41,7 +39,7 @@ export default {
         const face = rolled(table);
         die.classList.toggle("blank", face === null);
         die.setAttribute("aria-label", face ? `The die shows ${face}` : "The die");
-        pips.forEach((pip, at) => pip.classList.toggle("on", Boolean(face && PIPS[face]?.includes(at))));
+        die.replaceChildren(drawn(face ?? 0));
         setText(fell, face === null ? "" : face === 1 ? "A 1: the pot is lost." : `A ${face}.`);
         setText(pot, `Pot ${g.pot}`);
         offer(roll, may);

@@ -6,7 +6,7 @@ const BOTS = ["--links", "32", "--bots", "tic-tac-toe", "--seats", "2", "--pace"
 const match = "0-1";
 const own = `document.querySelector(".turn").classList.contains("own")`;
 const free = `[...document.querySelectorAll(".cell")].map((one) => one.getAttribute("aria-label")).filter((label) => label.endsWith(": free"))`;
-const marks = `document.querySelectorAll(".cell.mark1").length`;
+const marks = `document.querySelectorAll(".cell .ring").length`;
 
 export async function bots(scene) {
   if (!scene.page) return "a server that runs already has no bots";

@@ -1,9 +1,8 @@
 // A slow network: a guess is shown at once, and settled when the server's lines come; one that is refused is taken back.
 import { existsSync } from "node:fs";
-import { done, guessingAt, log, makeMatch, same, says, sit } from "./people.mjs";
+import { cells, done, guessingAt, log, makeMatch, same, says, sit } from "./people.mjs";
 import { startRelay } from "./relay.mjs";
 
-const cells = (page) => page.texts(".cell").then((marks) => marks.map((mark) => mark || ".").join(""));
 const SLOW = 1_500;
 
 export async function guesses(scene) {
@@ -22,12 +21,13 @@ export async function guesses(scene) {
   // What is chosen is shown at once, as guessed, to the one who chose it.
   await ann.click("middle: free");
   await shows([ann], "....✕....");
-  same(await ann.texts(".cell.guess"), ["✕"], "the guess is shown as one");
+  const guessed = (page) => page.value(`[...document.querySelectorAll(".cell.guess")].map((one) => one.getAttribute("aria-label"))`);
+  same(await guessed(ann), ["middle: cross, guessed"], "the guess is shown as one");
   same(await ann.text(".turn"), "Your move is shown already, and on its way to the server.", "the turn while a guess is on its way");
   same(await cells(bob), ".........", "nobody else sees the guess");
   if (pictures) await ann.picture(`${pictures}/page-guess.png`, { width: 1000, height: 640 });
   await shows([bob, eve], "....✕....");
-  await ann.until((page) => page.texts(".cell.guess"), [], "the guess is settled");
+  await ann.until(guessed, [], "the guess is settled");
 
   // The answer that the relay makes up refuses the next one: it is taken back, and the reason is said.
   relay.onAsked = (line, { pass, answer }) => {

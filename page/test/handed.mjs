@@ -44,14 +44,15 @@ async function isHanded(page, folder, name) {
   return name === asked || !asked ? body : gunzipSync(body);
 }
 
-/** Every file of a folder, but for tests and what makes others. */
-const filesOf = (folder) => readdirSync(folder, { recursive: true }).filter((name) => /\.\w+$/.test(name) && !/^(test|wasm|__pycache__)\b|\.py$/.test(name));
+/** Every file of a folder, but for tests, what makes others, and the hints beside descriptions, which no page asks for. */
+const NOT_HANDED = /^(test|wasm|__pycache__|table\/hints)\b|\.py$/;
+const filesOf = (folder) => readdirSync(folder, { recursive: true }).filter((name) => /\.\w+$/.test(name) && !NOT_HANDED.test(name));
 
 const statuses = async (page, ...asked) => {
   for (const [path, wanted, method] of asked) same([path, (await ask(page, path, method)).status], [path, wanted], path);
 };
 const REFUSED = [["/?match=0-1", 200], ["/index.html", 404], ["/test/play.mjs", 404], ["/wasm/compile.sh", 404], ["/../README.md", 404], ["/boards", 404],
-  ["/favicon.ico", 404], ["/build.py", 404], ["/", 405, "DELETE"]];
+  ["/favicon.ico", 404], ["/build.py", 404], ["/table/hints/go.json", 404], ["/", 405, "DELETE"]];
 
 export async function handed(scene) {
   const { browser, page, packed, plain } = scene;

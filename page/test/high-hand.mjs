@@ -7,9 +7,9 @@ const SUITS = "clubs diamonds hearts spades".split(" ");
 const named = (card) => `${RANKS[Math.floor(card / 4)]} of ${SUITS[card % 4]}`;
 
 const labels = (selector) => (page) => page.value(`[...document.querySelectorAll("${selector}")].map((one) => one.getAttribute("aria-label"))`);
-const table = labels(".places .card");
-const hand = labels(".hand .card");
-const scores = (page) => page.texts(".places .quiet");
+const table = (page) => labels(".row.by-seat .item")(page).then((all) => all.map((label) => label.replace(/^(ann|bob): /, "")));
+const hand = labels(".hand .item");
+const scores = (page) => page.texts(".seats .counts");
 
 export async function highHand(scene) {
   const { ann, bob, eve, all, match, link } = await seated(scene, "high-hand");
@@ -22,10 +22,10 @@ export async function highHand(scene) {
     const common = told.table.some((card) => card !== null) || !seen?.table.every((card) => card !== null) ? told : { ...told, table: seen.table };
     seen = common;
     for (const page of all) {
-      await page.until(table, common.table.map((card) => card === null ? null : named(card)), "the table");
-      const words = common.scores.map((score, at) => `${score} ${score === 1 ? "point" : "points"}, ${common.hands[at]} in hand`);
+      await page.until(table, common.table.map((card) => card === null ? "free" : named(card)), "the table");
+      const words = common.scores.map((score, at) => `${score} ${score === 1 ? "point" : "points"} ${common.hands[at]}`);
       await page.until(scores, words, "scores and hands");
-      await page.until((one) => one.texts(".board > div > .quiet"), [`${common.left} cards in the deck`], "the deck");
+      await page.until(labels(".spot"), [`Deck: ${common.left}`], "the deck");
     }
   };
   await shows(0);

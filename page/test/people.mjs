@@ -72,6 +72,10 @@ export async function done(...pages) {
   }
 }
 
+/** The nine cells of tic-tac-toe as marks, by the names of the places. */
+export const cells = (page) => page.value(`[...document.querySelectorAll(".cell")].map((one) => one.getAttribute("aria-label"))
+  .map((label) => label.includes(": cross") ? "✕" : label.includes(": circle") ? "◯" : ".").join("")`);
+
 export const alert = (page) => page.text(".match .alert");
 export const says = (page, words) => page.sees(".match .alert", words);
 export const notes = (page, words) => page.sees(".match .note", words);

@@ -2,7 +2,8 @@
 import { done, makeMatch, same, turn } from "./people.mjs";
 
 const PHONE = { width: 360, height: 740, phone: true };
-const fits = (page) => page.value("document.documentElement.scrollWidth <= innerWidth");
+// The width of the screen: innerWidth grows with what is too wide.
+const fits = (page) => page.value("document.documentElement.scrollWidth <= document.documentElement.clientWidth");
 const small = (page) => page.value(`[...document.querySelectorAll("button, select, input, a")].filter((one) => {
   const { width, height } = one.getBoundingClientRect();
   return width && (height < 44 || width < 40);

@@ -27,7 +27,7 @@ export async function pig(scene) {
       await page.until((one) => one.text(".big"), `Pot ${g.pot}`, "the pot");
       await page.until(totals, g.totals, "the totals");
       await page.until(`document.querySelector(".die").getAttribute("aria-label")`, face ? `The die shows ${face}` : "The die");
-      same(await page.value(`document.querySelectorAll(".pip.on").length`), face ?? 0, "pips");
+      same(await page.value(`document.querySelectorAll(".pip").length`), face ?? 0, "pips");
       await page.until(async (one) => (await log(one))[0], `${["ann", "bob"][ctx.currentPlayer]} ${story(holds ? before.pot : null, face)}`, "the log");
       same(await page.text(".rolls .quiet"), face === null ? "" : face === 1 ? "A 1: the pot is lost." : `A ${face}.`, "what was rolled");
     }

@@ -27,10 +27,12 @@ import { called } from "./called.mjs";
 import { wayIn, wayOut } from "./evening.mjs";
 import { access } from "./access.mjs";
 import { qr } from "./qr.mjs";
+import { hints } from "./hints.mjs";
+import { tableKeys, tables } from "./tables.mjs";
 
 const PLAYS = {
   handed, addresses, qr, lobby, gone, wayIn, wayOut, called, access, reasons, ticTacToe, countdown, pig, highHand, blindBid, captions, cuts, unknownGame,
-  program, recorded, guesses, takeover, bots, phone,
+  program, recorded, guesses, takeover, bots, phone, hints, tables, tableKeys,
 };
 const here = (path) => fileURLToPath(new URL(path, import.meta.url));
 

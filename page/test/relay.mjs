@@ -34,7 +34,7 @@ export async function startRelay(server) {
   const relay = {
     /** What becomes of a line from the page: `pass(line)` sends it on, `answer(line)` answers it. */
     onAsked: (line, { pass }) => pass(line),
-    /** What becomes of a line from the server. */
+    /** What becomes of a line from the server; null keeps it from the page. */
     onTold: (line) => line,
     /** Whether connections are taken at all, and whether those that are taken hear anything. */
     open: true,
@@ -61,7 +61,10 @@ export async function startRelay(server) {
     const slowly = (run) => relay.delay ? setTimeout(run, relay.delay) : run();
     const pass = (line) => upstream.readyState === WebSocket.OPEN ? upstream.send(line) : early.push(line);
     upstream.onopen = () => early.splice(0).forEach((line) => upstream.send(line));
-    upstream.onmessage = ({ data }) => slowly(() => { if (!socket.destroyed) socket.write(frame(relay.onTold(data))); });
+    upstream.onmessage = ({ data }) => slowly(() => {
+      const told = relay.onTold(data);
+      if (told !== null && !socket.destroyed) socket.write(frame(told));
+    });
     upstream.onclose = () => socket.end(frame(Buffer.from([3, 232]), 8));
     let rest = Buffer.alloc(0);
     socket.write(`HTTP/1.1 101 Switching Protocols\r\nUpgrade: websocket\r\nConnection: Upgrade\r\nSec-WebSocket-Accept: ${accept}\r\n\r\n`);

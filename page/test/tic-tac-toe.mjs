@@ -1,13 +1,12 @@
 // A whole match of tic-tac-toe, with names that look like HTML, acts that are refused, and a reload in the middle.
-import { alert, done, log, same, says, seated, turns } from "./people.mjs";
-
-const cells = (page) => page.texts(".cell").then((marks) => marks.map((mark) => mark || ".").join(""));
+import { alert, cells, done, log, same, says, seated, turns } from "./people.mjs";
 
 export async function ticTacToe(scene) {
   const { ann, bob, eve, all, match } = await seated(scene, "tic-tac-toe", ["<b>ann</b>", "bob & \"co\""]);
   const shows = async (wanted) => { for (const page of all) await page.until(cells, wanted, "cells"); };
   same(await ann.value(`document.querySelectorAll("main b").length`), 0, "a name is never read as HTML");
-  same(await eve.text(".legend"), "✕ <b>ann</b>, ◯ bob & \"co\"", "the legend");
+  const badges = `[...document.querySelectorAll(".seats li")].map((seat) => [seat.querySelector("bdi").textContent, seat.querySelector(".badge").ariaLabel])`;
+  same(await eve.value(badges), [["<b>ann</b>", "cross"], ["bob & \"co\"", "circle"]], "who has which mark");
   await shows(".........");
   await turns(all, ["Your turn. Choose a free cell.", "<b>ann</b> is thinking.", "<b>ann</b> is thinking."]);
   same(await eve.texts(".watching"), ["You are watching."], "the spectator is told so");
